@@ -78,7 +78,8 @@ fn node(alloc: Global) -> Result<StoredSeat, Fail>
     ensures may { IfOk result (λ s. MayReceive s 2) }
 {
     let counts = Counts::new(Vec::new(alloc));
-    Ok(StoredSeat::new(alloc, 1, 4, Desks::new(Vec::new(alloc)), counts)?)
+    let desks = Desks::new(Vec::new(alloc));
+    Ok(StoredSeat::new(alloc, 1, 4, 0, 0, desks, counts)?)
 }
 
 /// How many accesses a receive of the server makes until it is over, and what it answers. The map of
@@ -93,7 +94,10 @@ fn receive(
         return Ok(None);
     }
     let mut seat = node(alloc)?;
-    let mut receiving = Receiving::new(alloc);
+    let Some(ways) = map.most_ways() else {
+        return Ok(None);
+    };
+    let mut receiving = Receiving::new(alloc, ways)?;
     let mut lists = Lists::new(alloc, &map)?;
     begin_request_receive(
         &map,
@@ -103,7 +107,7 @@ fn receive(
         fire_and_forget,
         2,
         &mut lists.sources,
-    )?;
+    );
     Ok(received(&mut receiving, &mut seat, words))
 }
 

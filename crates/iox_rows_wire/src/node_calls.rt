@@ -15,8 +15,12 @@ fn first_load(alloc: Global) -> Result<Option<usize>, Fail> {
         return Ok(None);
     }
     let counts = Counts::new(Vec::new(alloc));
-    let seat = StoredSeat::new(alloc, 1, 4, Desks::new(Vec::new(alloc)), counts)?;
-    let mut node = StoredNode::new(alloc, seat);
+    let Some(ways) = map.most_ways() else {
+        return Ok(None);
+    };
+    let desks = Desks::new(Vec::new(alloc));
+    let seat = StoredSeat::new(alloc, 1, 4, ways, 10, desks, counts)?;
+    let mut node = StoredNode::new(alloc, seat, ways, 10)?;
     let mut lists = Lists::new(alloc, &map)?;
     if node
         .begin_receive_at_port(&map, 1, 1, 1, true, 2, &mut lists.sources)

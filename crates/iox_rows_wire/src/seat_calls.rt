@@ -32,12 +32,15 @@ fn handle(kind: Kind) -> Entry
     }
 }
 
-/// A node that made no access.
+/// A node that made no access. It has room for two ways and two words.
 fn node(alloc: Global) -> Result<StoredSeat, Fail>
-    ensures { IfOk result (λ s. s.seat.accesses ≡ 0) }
+    ensures accesses { IfOk result (λ s. s.seat.accesses ≡ 0) }
+    ensures rooms { IfOk result (λ s. s.ways_room ≡ 2) }
+    ensures words { IfOk result (λ s. s.words_room ≡ 2) }
 {
     let counts = Counts::new(Vec::new(alloc));
-    Ok(StoredSeat::new(alloc, 3, 4, Desks::new(Vec::new(alloc)), counts)?)
+    let desks = Desks::new(Vec::new(alloc));
+    Ok(StoredSeat::new(alloc, 3, 4, 2, 2, desks, counts)?)
 }
 
 /// Whether a call is over with that answer.
@@ -56,7 +59,7 @@ fn two_words_are_read_in_two_accesses(rt: HostRuntime) -> Result<(), Fail> {
         user_count: 1,
         payload: 24,
     };
-    seat.read(handle(Kind::Response), places, 2)?;
+    seat.read(handle(Kind::Response), places, 2);
     assert!(rt; matches!(seat.asks(), Access::Load(20)));
     assert!(rt; seat.go_on(70).is_none());
     assert!(rt; matches!(seat.asks(), Access::Load(24)));
@@ -69,7 +72,7 @@ fn two_words_are_read_in_two_accesses(rt: HostRuntime) -> Result<(), Fail> {
 #[test]
 fn two_words_are_written_in_two_accesses(rt: HostRuntime) -> Result<(), Fail> {
     let mut seat = node(rt.alloc())?;
-    seat.write(handle(Kind::ResponseMut), 30, Some(2), &[80, 81])?;
+    seat.write(handle(Kind::ResponseMut), 30, Some(2), &[80, 81]);
     assert!(rt; matches!(seat.asks(), Access::Store(30, 80)));
     assert!(rt; seat.go_on(0).is_none());
     assert!(rt; matches!(seat.asks(), Access::Store(31, 81)));
@@ -80,7 +83,7 @@ fn two_words_are_written_in_two_accesses(rt: HostRuntime) -> Result<(), Fail> {
 #[test]
 fn payload_of_another_length_is_refused(rt: HostRuntime) -> Result<(), Fail> {
     let mut seat = node(rt.alloc())?;
-    seat.write(handle(Kind::ResponseMut), 30, Some(1), &[80])?;
+    seat.write(handle(Kind::ResponseMut), 30, Some(1), &[80]);
     assert!(rt; matches!(seat.asks(), Access::Local));
     assert!(rt; matches!(seat.go_on(0), Some(SeatReply::Refused(_))));
     Ok(())
@@ -99,7 +102,7 @@ fn request_is_found_at_the_second_server(rt: HostRuntime) -> Result<(), Fail> {
             place: 50,
         },
     ];
-    seat.check(handle(Kind::PendingResponse), false, &stops)?;
+    seat.check(handle(Kind::PendingResponse), false, &stops);
     assert!(rt; matches!(seat.asks(), Access::Load(40)));
     assert!(rt; seat.go_on(0).is_none());
     assert!(rt; matches!(seat.asks(), Access::Load(50)));
@@ -114,7 +117,7 @@ fn hint_takes_two_accesses(rt: HostRuntime) -> Result<(), Fail> {
         way: WAY,
         place: 40,
     };
-    seat.hint(handle(Kind::PendingResponse), &[stop])?;
+    seat.hint(handle(Kind::PendingResponse), &[stop]);
     assert!(rt; seat.go_on(6).is_none());
     assert!(rt;
         matches!(
@@ -138,7 +141,7 @@ fn look_at_an_empty_queue_takes_two_accesses(rt: HostRuntime) -> Result<(), Fail
         way: WAY,
         place: 10,
     };
-    seat.seek(queue, &[stop])?;
+    seat.seek(queue, &[stop]);
     assert!(rt; matches!(seat.asks(), Access::Load(11)));
     assert!(rt; seat.go_on(3).is_none());
     assert!(rt; matches!(seat.asks(), Access::Load(10)));

@@ -94,7 +94,7 @@ fn node(alloc: Global) -> Result<StoredSeat, Fail>
     desk.count_loan();
     let counts = Counts::new(Vec::new(alloc));
     let desks = Desks::new(vec![in alloc; desk]?);
-    Ok(StoredSeat::new(alloc, 3, 4, desks, counts)?)
+    Ok(StoredSeat::new(alloc, 3, 4, 0, 0, desks, counts)?)
 }
 
 #[test]

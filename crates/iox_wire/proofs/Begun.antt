@@ -1,65 +1,55 @@
 -- What the begin of a call leads to, and what is left where it is refused.
 use Rattle.std.specs.Prelude.{◌*◌, ◌%◌, ◌/◌, ◌^◌, if◌then◌else◌, option_map, position}
 use Rattle.std.specs.Option.{option_map_or}
-use Rattle.std.proofs.Common.{◌≡◌, ℕ, ◌+◌, ◌-◌, ◌<◌, ◌≤◌, ◌==◌, Bool, true, false, length, get_or, Option, None, Some, refl, ap, ap₂, sym, subst, ◌∙◌, arith, slice_set, eqb-true, inl, inr}
+use Rattle.std.proofs.Common.{◌≡◌, ℕ, ◌+◌, ◌-◌, ◌<◌, ◌≤◌, ◌==◌, Bool, true, false, length, get_or, Option, None, Some, refl, ap, ap₂, sym, subst, ◌∙◌, arith, slice_set, eqb-true}
 use Rattle.std.proofs.Math.Nat.{div-mul-le_self, mod-eq-sub-div-mul}
-use Rattle.std.proofs.lemmas.Bool.{cases_Bool}
 use Rattle.iox_model.specs.declared.call.WireCall.TheVariants.{Port}
 use Rattle.iox_model.specs.Commands.{WireCall}
 use Rattle.iox_model.specs.Loans.{Choice}
 use Rattle.iox_model.specs.declared.reply.Refusal.TheVariants as refusals
 use Rattle.iox_model.specs.Maps.{or_else, refused_if}
-use Rattle.iox_model.specs.Schedules.{UnderWay}
 use Rattle.iox_model.specs.WireCalls.{in_wire_words}
 use Rattle.iox_model.specs.Settings.{shape_of}
 use Rattle.iox_model.specs.Weaves.{Begins, begin_refusal}
 use Rattle.iox_laws.proofs.WeaveLedger.Truths.{none-some}
-use Rattle.iox_wire_weaves.specs.Aims.{IsAimed, MayAdd}
+use Rattle.iox_wire_weaves.specs.Aims.{MayAdd}
 use Rattle.iox_wire_weaves.specs.Asking.{BeginsCall, IsBeginRefusal}
 use Rattle.iox_wire_weaves.specs.Begins.{is_busy, misnamed_call, refusal_at}
 use Rattle.iox_wire_weaves.specs.CallAt.{CallAt}
 use Rattle.iox_wire_weaves.specs.CallAt.TheVariants as at
 use Rattle.iox_wire_weaves.specs.Calls.{IsKeptAt, call_in, call_in_words, may_add_handle}
-use Rattle.iox_wire_weaves.specs.Copying.{CopyGoesOn}
-use Rattle.iox_wire_weaves.specs.Counts.{IsTidy}
 use Rattle.iox_wire_weaves.specs.HandleCall.TheVariants as handle_calls
-use Rattle.iox_wire_weaves.specs.Laws.{LivesAs, Replaces}
+use Rattle.iox_wire_weaves.specs.Laws.{LivesAs}
 use Rattle.iox_wire_weaves.specs.Lendings.{next_handle}
 use Rattle.iox_wire_weaves.specs.Lends.{MayLend}
-use Rattle.iox_wire_weaves.specs.Local.{Local}
 use Rattle.iox_wire_weaves.specs.MessageBegins.{WordsAreWhole}
 use Rattle.iox_wire_weaves.specs.NodeCall.{NodeCall}
 use Rattle.iox_wire_weaves.specs.NodeCall.TheVariants.{Handle, HasRequests, Loan, Receive, Send, SendCopy, Write}
-use Rattle.iox_wire_weaves.specs.NodeError.{NodeError}
 use Rattle.iox_wire_weaves.specs.Nodes.{Node, seat_at, seat_in}
-use Rattle.iox_wire_weaves.specs.NodesBegins.{AddsHandle, IsLeftBy, IsUnchanged, IsUnderWay, MayBegin, node_refusal}
-use Rattle.iox_wire_weaves.specs.Openings.{opened_seat}
-use Rattle.iox_wire_weaves.specs.Replies.{call_within, most_words}
+use Rattle.iox_wire_weaves.specs.NodesBegins.{AddsHandle, IsUnderWay, MayBegin}
+use Rattle.iox_wire_weaves.specs.Replies.{call_within}
 use Rattle.iox_wire_weaves.specs.Runs.{GoesOnBy, Run}
 use Rattle.iox_wire_weaves.specs.Seat.{Seat}
-use Rattle.iox_wire_weaves.specs.Seats.{Placed}
-use Rattle.iox_wire_weaves.specs.Stands.{Player}
 use Rattle.iox_wire_weaves.specs.Steps.{most_accesses}
 use Rattle.iox_wire_weaves.specs.Tables.{Setting}
 use Rattle.iox_wire_weaves.specs.Terms.{IsSettingWith}
-use Rattle.iox_wire_weaves.specs.Uses.{HaveFewWays}
 use Rattle.iox_wire_weaves.specs.WholeElements.{elements_in, elements_of_nothing}
 use Rattle.iox_wire_weaves.specs.WirePlan.{WirePlan}
-use Rattle.iox_wire_weaves.specs.WireStands.{WireStands}
 use Rattle.iox_wire_weaves.specs.WireTerms.{WireTerms}
 use Rattle.iox_wire_weaves.specs.declared.refusal.WireRefusal.{WireRefusal}
-use Rattle.iox_wire_weaves.specs.PortCounts.{TellsCounts}
-use Rattle.iox_wire_weaves.specs.Wires.{KeepsItsCall, Shows, WireData, WireNode, living_refusal, machine_refusal, node_at, players_of, refusal_in, seat_of}
+use Rattle.iox_wire_weaves.specs.Wires.{Shows, WireData, WireNode, living_refusal, node_at, refusal_in, seat_of}
 use Rattle.iox_wire_weaves.proofs.BeginsShown.{begins_show, refusals_are_shown}
-use Rattle.iox_wire_weaves.proofs.CallLemmas.{left_as_it_was}
 use Rattle.iox_wire_weaves.proofs.HandlesStanding.{handles_stand}
-use Rattle.iox_wire_weaves.proofs.Lookups.{first_none, fun_ext, not_refused, same_living, seat_there}
-use Rattle.iox_wire.specs.Begun.{HasBegun, IsLeft, IsLeftAlone, IsRefusedBy, StaysPut, seen_of}
-use Rattle.iox_wire.specs.Kept.{IsAtItsCall, IsKept, IsShown}
+use Rattle.iox_wire_weaves.proofs.Lookups.{first_none, not_refused, seat_there}
+use Rattle.iox_wire.specs.Begun.{FindsNoRoom, HasBegun, IsRefusedBy, LacksRoom}
+use Rattle.iox_laws.proofs.WeaveLaws.WholeLemmas.{some-is}
+use Rattle.iox_wire.specs.Kept.{IsAtItsCall, IsShown}
 use Rattle.iox_wire.specs.Replies.{words_call}
 use Rattle.iox_wire.proofs.Accesses.{tells_of_pools}
 use Rattle.iox_wire.proofs.Keeping.{each_still, kept_begun, kept_still}
-use Rattle.iox_wire.proofs.OwnCalls.{own_begun, own_left}
+use Rattle.iox_wire.proofs.OwnCalls.{own_begun}
+use Rattle.iox_wire.proofs.Roomy.{roomy_still}
+use Rattle.iox_wire_weaves.specs.Rooms.{KeepsRooms}
 use Rattle.iox_wire.proofs.MayLend.{may_lend}
 use Rattle.iox_wire.proofs.Places.{read_there, replaced, unchanged_there}
 
@@ -123,31 +113,6 @@ made_alike x at.SendsResponse = refl
 made_alike x at.CopiesRequest = refl
 made_alike x at.CopiesResponse = refl
 
--- what is left of a node is unchanged
-same_unchanged : (old new : Node) → new ≡ old → IsUnchanged old new
-same_unchanged old new same = subst (IsUnchanged old) (sym same) (record { seat = refl; place = refl; going = λ busy. refl; aimed = λ p aimed. aimed })
-
-left_unchanged : (call : NodeCall) (old new : Node) → IsLeftBy call old new → IsUnchanged old new
-left_unchanged (SendCopy n y) old new left = left
-left_unchanged (Loan n k) old new same = same_unchanged old new same
-left_unchanged (Write n y) old new same = same_unchanged old new same
-left_unchanged (Send n) old new same = same_unchanged old new same
-left_unchanged (Receive n) old new same = same_unchanged old new same
-left_unchanged (HasRequests n) old new same = same_unchanged old new same
-left_unchanged (Handle n h) old new same = same_unchanged old new same
-
--- and keeps to what it kept to
-kept_left : (old new : Node) → IsUnchanged old new → IsKept old → IsKept new
-kept_left old new left kept = record {
-  few = subst (λ (s : Seat). s.accesses ≤ most_accesses) (sym left.place) kept.few;
-  tidy = subst IsTidy (sym left.place) kept.tidy;
-  ways = subst (λ (s : Seat). HaveFewWays s.desks) (sym left.place) kept.ways;
-  copies = subst (λ (s : Seat). CopyGoesOn s.local) (sym left.place) kept.copies;
-  ready = λ busy.
-      let was : is_busy (seat_in old).local ≡ true = subst (λ (s : Seat). is_busy s.local ≡ true) left.place busy in
-      subst (λ (n : Node). MayAdd n.at n) (sym (left.going was)) (kept.ready was);
-}
-
 -- a node that begins a call rests
 rests_if : (p : Setting) (x : Seat) (call : WireCall) → refusal_at p x call ≡ None → is_busy x.local ≡ false
 rests_if p x call allowed =
@@ -160,9 +125,9 @@ pub has_begun : (plan : WirePlan) (terms : WireTerms) (old : WireNode) (call : N
     → (AddsHandle mid.node.at → may_add_handle call ≡ true) → IsKeptAt (call_in_words call) mid.node.at → (may_add_handle call ≡ true → 0 < old.node.seat.room)
     → (is_busy (seat_in old.node).local ≡ false → 0 < old.node.seat.room → (p : Setting) → IsSettingWith plan terms p → (port : ℕ)
     → MayLend old.node.seat (next_handle p old.node.seat.seat) port)
-    → mid.number ≡ old.number → LivesAs old mid
+    → KeepsRooms old.node mid.node → mid.number ≡ old.number → LivesAs old mid
     → new ≡ record mid { call = Some (record { call = call_within mid.longest (words_call call); begun = events }) } → HasBegun plan terms old call events new
-has_begun plan terms old call events mid new set begun adds there room lends number lives keeps =
+has_begun plan terms old call events mid new set begun adds there room lends rooms number lives keeps =
     let way : IsUnderWay set.0 old.node (Port (call_in set.0 call)) mid.node = begun set.0 set.1 in
     let rests : is_busy (seat_in old.node).local ≡ false = rests_if set.0 (seat_in old.node) (Port (call_in set.0 call)) way.allowed in
     let same : mid.node ≡ new.node = sym (ap (λ (x : WireNode). x.node) keeps) in
@@ -170,6 +135,7 @@ has_begun plan terms old call events mid new set begun adds there room lends num
       begun = λ p setting. subst (λ (x : Node). IsUnderWay p old.node (Port (call_in p call)) x) same (begun p setting);
       ready = subst (λ (x : Node). MayAdd x.at x) same (way.ready.may (λ more. lends rests (room (adds more)) set.0 set.1));
       at = subst (λ (x : Node). IsKeptAt (call_in_words call) x.at) same there;
+      rooms = subst (λ (x : Node). KeepsRooms old.node x) same rooms;
       number = ap (λ (x : WireNode). x.number) keeps ∙ number;
       lives = record {
         alive = ap (λ (x : WireNode). x.alive) keeps ∙ lives.alive;
@@ -259,115 +225,23 @@ module _ (w : WireData) (n i : ℕ) (d : WireNode) (at : position (λ x. x.numbe
             (kept_begun p d.node y.node (Port (call_in p call)) (shown.kept n d there) (has.begun p shown.shows.2.setting).begun has.ready);
         own = each_still IsAtItsCall w.nodes n d y (slice_set w.nodes i y) (replaced n w.nodes i d y at read has.number) shown.own
             (own_begun d y call events has.kept has.at);
+        rooms = roomy_still w.plan w.nodes n d y (slice_set w.nodes i y) (replaced n w.nodes i d y at read has.number) shown.rooms has.rooms;
       }
 
   -- ---- a refusal
 
-  pub refused : (call : NodeCall) (error : NodeError) (refusal : WireRefusal) → living_refusal w.nodes n ≡ None → IsRefusedBy w.plan w.terms d call error
-      → machine_refusal refusal ≡ node_refusal error → IsBeginRefusal w n call refusal
-  refused call error refusal alive by same p r shows = own_refusal p r shows call alive ∙ by p shows.setting ∙ sym same
+  pub refused : (call : NodeCall) (refusal : WireRefusal) → living_refusal w.nodes n ≡ None → IsRefusedBy w.plan w.terms d call refusal → IsBeginRefusal w n call refusal
+  refused call refusal alive by p r shows = own_refusal p r shows call alive ∙ by p shows.setting
 
-  -- ---- what is left
+  -- ---- a node that stays
 
-  module _ (y : WireNode) (number : y.number ≡ d.number) (lives : LivesAs d y) (kept : y.call ≡ d.call) (left : IsUnchanged d.node y.node) where
-    puts : Replaces w.nodes n d y (slice_set w.nodes i y)
-    puts = replaced n w.nodes i d y at read number
-
-    seats_same : (p : Setting) (m : ℕ) (b : Bool) → (m == n) ≡ b → seat_of p (slice_set w.nodes i y) m ≡ seat_of p w.nodes m
-    seats_same p m true same =
-        ap (seat_of p (slice_set w.nodes i y)) (eqb-true m n same) ∙ seat_there p (slice_set w.nodes i y) n y puts.here ∙ left.place
-        ∙ sym (seat_there p w.nodes n d there) ∙ sym (ap (seat_of p w.nodes) (eqb-true m n same))
-    seats_same p m false other = ap (λ o. option_map_or (λ (z : WireNode). seat_in z.node) o (opened_seat p m)) (puts.others m other)
-
-    players_same : (p : Setting) (r : Run) (m : ℕ) → players_of p w.nodes r m ≡ players_of p (slice_set w.nodes i y) r m
-    players_same p r m = ap (λ (s : Seat). record { seat = s; said = (players_of p w.nodes r m).said }) (sym (seats_same p m (m == n) refl))
-
-    shows_left : (p : Setting) (r : Run) → Shows p w r → Shows p (Now y) r
-    shows_left p r shows = record {
-      setting = shows.setting;
-      stands = subst (λ (f : ℕ → Player). WireStands p w.words f r) (fun_ext (players_same p r)) shows.stands;
-      living = λ m. shows.living m ∙ ap (option_map refusal_in) (sym (same_living w.nodes n d y (slice_set w.nodes i y) puts lives.alive m));
-      aimed = λ m z has. elim (cases_Bool (m == n)) [
-        | inl same ↦ (
-            let e : Some y ≡ Some z = sym puts.here ∙ sym (ap (λ k. node_at k (slice_set w.nodes i y)) (eqb-true m n same)) ∙ has in
-            subst (λ (v : WireNode). IsAimed p v.node) (ap (λ o. option_map_or (λ v. v) o z) e) (left.aimed p (shows.aimed n d there))
-            )
-        | inr other ↦ shows.aimed m z (sym (puts.others m other) ∙ has)
-      ];
-      ports = shows.ports;
-      counts = λ port has. subst (TellsCounts r.last port) (sym (seats_same p (p.layout.owner port) (p.layout.owner port == n) refl)) (shows.counts port has);
-      calls = λ m z has. elim (cases_Bool (m == n)) [
-        | inl same ↦ (
-            let k : m ≡ n = eqb-true m n same in
-            let e : Some y ≡ Some z = sym puts.here ∙ sym (ap (λ k. node_at k (slice_set w.nodes i y)) k) ∙ has in
-            let own : KeepsItsCall (most_words w.plan) r.beats n d = shows.calls n d there in
-            subst (λ (v : WireNode). KeepsItsCall (most_words w.plan) r.beats m v) (ap (λ o. option_map_or (λ v. v) o z) e)
-            (subst (λ k. KeepsItsCall (most_words w.plan) r.beats k y) (sym k)
-            (record { room = lives.longest ∙ own.room; call = kept ∙ own.call; died = lives.died ∙ own.died }))
-            )
-        | inr other ↦ shows.calls m z (sym (puts.others m other) ∙ has)
-      ];
-      replies = shows.replies;
-      events = shows.events;
-    }
-
-    pub shown_left : IsShown w → IsShown (Now y)
-    shown_left shown = record {
-      shows = (shown.shows.0, shown.shows.1, shows_left shown.shows.0 shown.shows.1 shown.shows.2);
-      whole = shown.whole;
-      numbers = shown.numbers;
-      kept = kept_still w.nodes n d y (slice_set w.nodes i y) puts shown.kept (kept_left d.node y.node left (shown.kept n d there));
-      own = each_still IsAtItsCall w.nodes n d y (slice_set w.nodes i y) puts shown.own (own_left d y kept left (shown.own n d there));
-    }
-
-    seen_same : (m : ℕ) (b : Bool) → (m == n) ≡ b → option_map seen_of (node_at m (slice_set w.nodes i y)) ≡ option_map seen_of (node_at m w.nodes)
-    seen_same m true same =
-        ap (λ k. option_map seen_of (node_at k (slice_set w.nodes i y))) (eqb-true m n same) ∙ ap (option_map seen_of) puts.here ∙ ap Some seen
-        ∙ sym (ap (option_map seen_of) there) ∙ sym (ap (λ k. option_map seen_of (node_at k w.nodes)) (eqb-true m n same))
-      where
-        seen : seen_of y ≡ seen_of d
-        seen = three (λ (a : Bool) (s : Placed) (l : Local). (a, s, l)) lives.alive left.seat (ap (λ (s : Seat). s.local) left.place)
-    seen_same m false other = ap (option_map seen_of) (puts.others m other)
-
-    left_alone : IsLeftAlone w (Now y)
-    left_alone = record { words = refl; replies = refl; events = refl; room = refl; nodes = λ m. seen_same m (m == n) refl; shows = shows_left }
-
-  pub shown_refused : (call : NodeCall) (y : WireNode) → StaysPut d call y → IsShown w → IsShown (Now y)
-  shown_refused call y stays shown = shown_left y stays.number stays.lives stays.kept (left_unchanged call d.node y.node stays.node) shown
-
-  same_node : (y : WireNode) (call : NodeCall) → StaysPut d call y → y.node ≡ d.node → y ≡ d
-  same_node y call stays node =
-      all (λ (a : ℕ) (b : Bool) (o : Option ℕ) (c : Node) (u : Option UnderWay) (k : ℕ).
-      record { number = a; alive = b; died = o; node = c; call = u; longest = k })
-      stays.number stays.lives.alive stays.lives.died node stays.kept stays.lives.longest
-    where
-      all : {A B C D E F G : Type 0} (f : A → B → C → D → E → F → G) {a a' : A} {b b' : B} {c c' : C} {e e' : D} {g g' : E} {h h' : F}
-          → a ≡ a' → b ≡ b' → c ≡ c' → e ≡ e' → g ≡ g' → h ≡ h' → f a b c e g h ≡ f a' b' c' e' g' h'
-      all f p q r s t u = λ i. f (p i) (q i) (r i) (s i) (t i) (u i)
-
-  as_it_was : (y : WireNode) → y ≡ d → Now y ≡ w
+  pub as_it_was : (y : WireNode) → y ≡ d → Now y ≡ w
   as_it_was y same = ap (λ xs. record w { nodes = xs }) (unchanged_there w.nodes i d y read same)
 
-  -- the wire is as it was, but for a copy
-  pub left : (call : NodeCall) (y : WireNode) → StaysPut d call y → IsLeft call w (Now y)
-  left (SendCopy k z) y stays = left_alone y stays.number stays.lives stays.kept stays.node
-  left (Loan k e) y stays = as_it_was y (same_node y (Loan k e) stays stays.node)
-  left (Write k z) y stays = as_it_was y (same_node y (Write k z) stays stays.node)
-  left (Send k) y stays = as_it_was y (same_node y (Send k) stays stays.node)
-  left (Receive k) y stays = as_it_was y (same_node y (Receive k) stays stays.node)
-  left (HasRequests k) y stays = as_it_was y (same_node y (HasRequests k) stays stays.node)
-  left (Handle k h) y stays = as_it_was y (same_node y (Handle k h) stays stays.node)
-
--- ---- what is left of a node that stays
-
-pub stays_put : (call : NodeCall) (old new : WireNode) → new ≡ old → StaysPut old call new
-stays_put call old new same = record {
-  node = left_as_it_was call old.node new.node (ap (λ (x : WireNode). x.node) same);
-  number = ap (λ (x : WireNode). x.number) same;
-  lives = record {
-    alive = ap (λ (x : WireNode). x.alive) same;
-    died = ap (λ (x : WireNode). x.died) same;
-    longest = ap (λ (x : WireNode). x.longest) same;
-  };
-  kept = ap (λ (x : WireNode). x.call) same;
-}
+  -- it has no room for the handle of a call
+  pub lacks_room : (call : NodeCall) (now : WireData) → w ≡ now → FindsNoRoom d call → LacksRoom now n call
+  lacks_room call now same none =
+      subst (λ (v : WireData). LacksRoom v n call) same (
+        none.0,
+        λ x found. subst (λ (o : WireNode). o.node.seat.room ≡ 0) (some-is d x (sym there ∙ found)) none.1,
+      )

@@ -9,6 +9,7 @@ use Rattle.iox_wire_weaves.specs.Copying.{CopyGoesOn}
 use Rattle.iox_wire_weaves.specs.Counts.{IsTidy}
 use Rattle.iox_wire_weaves.specs.PlanPort.{PlanPort}
 use Rattle.iox_wire_weaves.specs.Seat.{Seat}
+use Rattle.iox_wire_weaves.specs.Rooms.{HasRoomToBegin}
 use Rattle.iox_wire_weaves.specs.Steps.{most_accesses}
 use Rattle.iox_wire_weaves.specs.Uses.{HaveFewWays}
 use Rattle.iox_model.specs.States.{State}
@@ -102,4 +103,5 @@ module _ (plan : WirePlan) (terms : WireTerms) (ns : List ℕ) (wire : WireData)
         kept = λ n x at. kept_first plan is.numbers low handles n x (opened_node plan handles ns wire.nodes n x nodes at);
         own = λ n x at busy.
             absurd (true≢false (sym busy ∙ ap (λ (s : Seat). is_busy s.local) (opened_node plan handles ns wire.nodes n x nodes at).seat));
+        rooms = λ n x at. subst (λ q. HasRoomToBegin q x.node) (sym plan_is) (opened_node plan handles ns wire.nodes n x nodes at).rooms;
       }

@@ -39,12 +39,12 @@ use Rattle.iox_wire_weaves.specs.Seat.{Seat}
 use Rattle.iox_wire_weaves.specs.Seats.{Placed}
 use Rattle.iox_wire_copies.specs.Aims as responses
 use Rattle.iox_wire_weaves.specs.Tables.{Setting}
-use Rattle.iox_wire_weaves.specs.Uses.{FindsInUse, GetsBackInUse}
+use Rattle.iox_wire_weaves.specs.Uses.{FindsInUse}
 
 -- What the laws tell of a node at its place, whose access finds this.
 pub record IsTold (p : Setting) (x : Seat) (seen : ℕ) : Type 0 where
   pub finds : FindsInUse p x x.local seen
-  pub back : GetsBackInUse x x.local
+  pub back : loans.GetsBackUsed x x.local
   -- the slot of what it sends is in use
   pub used : (e : Entry) (copied : Bool) → message_at x.local ≡ Sent e copied → IsUsed e.port e.slot x.desks
   -- a request that it sends may be given up, and so may a loan that it makes
@@ -56,7 +56,7 @@ never is = absurd (true≢false (sym is))
 
 -- ---- a loan
 
-gets_back : (x : Seat) (place local : Local) → GetsBackInUse (placed x place) local → loans.GetsBackUsed x local
+gets_back : (x : Seat) (place local : Local) → loans.GetsBackUsed (placed x place) local → loans.GetsBackUsed x local
 gets_back x place (LendEmpties o w (popping.Pops (pop.Takes read slot)) left) used = used
 gets_back x place local used = tt
 

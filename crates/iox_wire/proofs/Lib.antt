@@ -10,6 +10,7 @@ pub mod GoingOn
 pub mod Told
 pub mod Keeping
 pub mod OwnCalls
+pub mod Roomy
 pub mod MayLend
 pub mod WireSteps
 pub mod Stepping

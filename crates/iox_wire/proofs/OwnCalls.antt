@@ -1,6 +1,6 @@
--- A node is where its call is kept: after a step, a death, a begin, and a begin that is refused.
+-- A node is where its call is kept: after a step, a death, and a begin.
 use Rattle.std.specs.Prelude.{IfSome, take}
-use Rattle.std.proofs.Common.{◌≡◌, ℕ, true, List, Option, None, Some, length, sym, subst}
+use Rattle.std.proofs.Common.{◌≡◌, ℕ, true, List, Option, None, Some, sym, subst}
 use Rattle.iox_model.specs.declared.call.Call as the_call
 use Rattle.iox_model.specs.declared.call.Call.TheVariants as calls
 use Rattle.iox_model.specs.Schedules.{UnderWay}
@@ -10,10 +10,8 @@ use Rattle.iox_wire_weaves.specs.CallAt.{CallAt}
 use Rattle.iox_wire_weaves.specs.Calls.{IsKeptAt, call_in_words}
 use Rattle.iox_wire_weaves.specs.NodeCall.{NodeCall}
 use Rattle.iox_wire_weaves.specs.NodeReply.{NodeReply}
-use Rattle.iox_wire_weaves.specs.Nodes.{Node, answered_at, seat_in}
-use Rattle.iox_wire_weaves.specs.NodesBegins.{IsUnchanged}
+use Rattle.iox_wire_weaves.specs.Nodes.{answered_at, seat_in}
 use Rattle.iox_wire_weaves.specs.Replies.{call_within}
-use Rattle.iox_wire_weaves.specs.Seat.{Seat}
 use Rattle.iox_wire_weaves.specs.Steps.{IsWireCallAt, call_after}
 use Rattle.iox_wire_weaves.specs.Wires.{WireNode}
 use Rattle.iox_wire.specs.Kept.{IsAtItsCall}
@@ -48,12 +46,6 @@ pub own_begun : (d y : WireNode) (call : NodeCall) (events : ℕ) → y.call ≡
     → IsKeptAt (call_in_words call) y.node.at → IsAtItsCall y
 own_begun d y call events kept at busy =
     subst (λ (o : Option UnderWay). IfSome o (λ u. IsWireCallAt u.call y.node.at)) (sym kept) (within_kept d.longest (call_in_words call) y.node.at at)
-
-pub own_left : (d y : WireNode) → y.call ≡ d.call → IsUnchanged d.node y.node → IsAtItsCall d → IsAtItsCall y
-own_left d y kept left own busy =
-    let was : is_busy (seat_in d.node).local ≡ true = subst (λ (s : Seat). is_busy s.local ≡ true) left.place busy in
-    subst (λ (o : Option UnderWay). IfSome o (λ u. IsWireCallAt u.call y.node.at)) (sym kept)
-    (subst (λ (k : Node). IfSome d.call (λ u. IsWireCallAt u.call k.at)) (sym (left.going was)) (own was))
 
 -- what it answers is an answer to that call
 pub own_answer : (d : WireNode) (reply : Option NodeReply) → IsAtItsCall d → is_busy (seat_in d.node).local ≡ true

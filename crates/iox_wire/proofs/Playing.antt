@@ -7,7 +7,7 @@ use Rattle.iox_model.specs.Joins.{not_living}
 use Rattle.iox_model.specs.Loans.{Choice}
 use Rattle.iox_model.specs.Maps.{or_else, refused_if}
 use Rattle.iox_model.specs.Schedules.{IsBeginOf, IsDeathOf, nothing}
-use Rattle.iox_model.specs.Weaves.{Beat, Begins, Dies, IsWeave, World, begin_refusal}
+use Rattle.iox_model.specs.Weaves.{Beat, Begins, Dies, IsWeave, begin_refusal}
 use Rattle.iox_model.specs.declared.call.WireCall.TheVariants.{Port}
 use Rattle.iox_sets.specs.Refusals.{IsRefusal}
 use Rattle.iox_steps.specs.declared.access.Progress.{Progress}
@@ -15,7 +15,6 @@ use Rattle.iox_wire_weaves.specs.Asking.{BeginIsWoven, BeginsCall, BeginsItsCall
 use Rattle.iox_wire_weaves.specs.Begins.{is_busy}
 use Rattle.iox_wire_weaves.specs.Calls.{call_in}
 use Rattle.iox_wire_weaves.specs.NodeCall.{NodeCall}
-use Rattle.iox_wire_weaves.specs.NodeCall.TheVariants.{Handle, HasRequests, Loan, Receive, Send, SendCopy, Write}
 use Rattle.iox_wire_weaves.specs.NodeReply.{NodeReply}
 use Rattle.iox_wire_weaves.specs.Nodes.{seat_in}
 use Rattle.iox_wire_weaves.specs.Runs.{GoesOnBy, Run}
@@ -24,9 +23,9 @@ use Rattle.iox_wire_weaves.specs.Tables.{Setting}
 use Rattle.iox_wire_weaves.specs.Wires.{Shows, WireData, WireNode, living_refusal, machine_refusal, node_at, refusal_in}
 use Rattle.iox_wire_weaves.specs.declared.refusal.WireRefusal.{WireRefusal}
 use Rattle.iox_wire_weaves.specs.declared.refusal.WireRefusal.TheVariants.{AccessesSpent, AtRest, NodeIsDead, UnknownNode, WantOfMemory}
-use Rattle.iox_wire.specs.Begun.{IsLeft}
+use Rattle.iox_wire.specs.Begun.{LacksRoom}
 use Rattle.iox_wire.specs.Kept.{Loses}
-use Rattle.iox_wire.specs.Schedules.{AreEntered, IsAsked, IsDeclaredDead, IsEntered, IsPlayed, IsStepped, IsWeaveBy, IsWovenBy, LeadsTo, WantsMemory}
+use Rattle.iox_wire.specs.Schedules.{AreEntered, IsAsked, IsDeclaredDead, IsEntered, IsPlayed, IsStepped, IsWovenBy, LeadsTo, WantsMemory}
 use Rattle.iox_wire.specs.declared.entry.WireEntry.{WireEntry}
 use Rattle.iox_wire.specs.declared.entry.WireEntry.TheVariants.{Begin, Die, Step}
 
@@ -120,13 +119,13 @@ begin_asked : (a b : WireData) (n : ℕ) (call : NodeCall) → BeginsItsCall a n
 begin_asked a b n call begun woven p r shows =
     let w = woven p r shows in so_where _ _ (begin_refusal r.last n (Port (call_in p call))) w.2.beat.0 (begun p r shows, w)
 
-begin_passed : (a b : WireData) (n : ℕ) (call : NodeCall) (refusal : WireRefusal) → IsBeginRefusal a n call refusal → IsNamed refusal → IsLeft call a b
+begin_passed : (a b : WireData) (n : ℕ) (call : NodeCall) (refusal : WireRefusal) → IsBeginRefusal a n call refusal → IsNamed refusal → b ≡ a
     → IsAsked a n call b
 begin_passed a b n call refusal refused named left p r shows =
     refused_where _ _ (begin_refusal r.last n (Port (call_in p call))) (refusal_in refusal) (refused p r shows ∙ named) left
 
 pub begin_told : (a b : WireData) (n : ℕ) (call : NodeCall) (told want : Result (Unit {0}) WireRefusal) → OnOk told (BeginsItsCall a n call b)
-    → OnOk told (BeginIsWoven a n call b) → IfErr told (IsBeginRefusal a n call) → OnErr told (IsLeft call a b)
+    → OnOk told (BeginIsWoven a n call b) → IfErr told (IsBeginRefusal a n call) → OnErr told (b ≡ a)
     → OnOk want (IfErr told (λ refusal. machine_refusal refusal ≡ Some (refusal_in refusal))) → OnOk want (IsAsked a n call b)
 begin_told a b n call (Ok done) (Ok none) begun woven refused left named = begin_asked a b n call begun woven
 begin_told a b n call (Err refusal) (Ok none) begun woven refused left named = begin_passed a b n call refusal refused named left
@@ -140,6 +139,14 @@ pub begin_allowed : (a : WireData) (n : ℕ) (call : NodeCall) (told want : Resu
 begin_allowed a n call told (Ok none) refused wants left = tt
 begin_allowed a n call (Ok done) (Err want) refused wants left = absurd wants
 begin_allowed a n call (Err refusal) (Err want) refused wants left = may_begin a n call refusal refused left
+
+-- where none does, its node has no room for a handle
+pub begin_full : (a : WireData) (n : ℕ) (call : NodeCall) (told want : Result (Unit {0}) WireRefusal)
+    → IfErr told (λ refusal. refusal ≡ WantOfMemory → LacksRoom a n call) → OnErr want (IfOk told (λ done. ⊥))
+    → OnErr want (IfErr told (λ refusal. refusal ≡ WantOfMemory)) → OnErr want (LacksRoom a n call)
+begin_full a n call told (Ok none) full wants memory = tt
+begin_full a n call (Ok done) (Err want) full wants memory = absurd wants
+begin_full a n call (Err refusal) (Err want) full wants memory = full memory
 
 -- ---- and of a death
 
@@ -156,19 +163,9 @@ GoesOnIn p r e b =
     (bs : List Beat) × (after : Run) × LeadsTo p r.last e bs × IsWeave r.last bs after.last
     × (after.first ≡ r.first) × (after.beats ≡ r.beats ++ bs) × Shows p b after
 
--- what is left of a wire shows the runs that it showed
-left_shows : (call : NodeCall) (a b : WireData) → IsLeft call a b → (p : Setting) (r : Run) → Shows p a r → Shows p b r
-left_shows (SendCopy n y) a b left p r shows = left.shows p r shows
-left_shows (Loan n k) a b left p r shows = subst (λ w. Shows p w r) (sym left) shows
-left_shows (Write n y) a b left p r shows = subst (λ w. Shows p w r) (sym left) shows
-left_shows (Send n) a b left p r shows = subst (λ w. Shows p w r) (sym left) shows
-left_shows (Receive n) a b left p r shows = subst (λ w. Shows p w r) (sym left) shows
-left_shows (HasRequests n) a b left p r shows = subst (λ w. Shows p w r) (sym left) shows
-left_shows (Handle n h) a b left p r shows = subst (λ w. Shows p w r) (sym left) shows
-
 begin_goes : (a b : WireData) (n : ℕ) (call : NodeCall) (p : Setting) (r : Run) → Shows p a r → let asked : WireCall = Port (call_in p call) in
     (o : Option Refusal) → begin_refusal r.last n asked ≡ o
-    → MatchOption o (BeginsCall p a n asked b × ((c : Choice) × (after : Run) × GoesOnBy r (Begins n asked c) after × Shows p b after)) (λ refusal. IsLeft call a b)
+    → MatchOption o (BeginsCall p a n asked b × ((c : Choice) × (after : Run) × GoesOnBy r (Begins n asked c) after × Shows p b after)) (λ refusal. b ≡ a)
     → GoesOnIn p r (Begin n call) b
 begin_goes a b n call p r shows None is so =
     let asked : WireCall = Port (call_in p call) in
@@ -188,7 +185,7 @@ begin_goes a b n call p r shows (Some refusal) is left = (
   refl,
   refl,
   sym (append-nil r.beats),
-  left_shows call a b left p r shows,
+  subst (λ w. Shows p w r) (sym left) shows,
 )
 
 step_goes : (a b : WireData) (n : ℕ) (p : Setting) (r : Run) → Shows p a r → (o : Option WireRefusal)
@@ -281,7 +278,7 @@ three_told (Err refusal) a d n played p r shows = tt
 
 -- what wants memory leaves a wire that shows the runs that it showed
 pub wants_shows : (e : WireEntry) (a b : WireData) → WantsMemory a e b → (p : Setting) (r : Run) → Shows p a r → Shows p b r
-wants_shows (Begin n call) a b wants p r shows = left_shows call a b wants.1 p r shows
+wants_shows (Begin n call) a b wants p r shows = subst (λ w. Shows p w r) (sym wants.2) shows
 wants_shows (Step n) a b wants p r shows = subst (λ w. Shows p w r) (sym wants.2) shows
 wants_shows (Die n) a b wants p r shows = absurd wants
 

@@ -10,12 +10,13 @@ use Rattle.iox_wire_weaves.specs.Aims.{IsAimed}
 use Rattle.iox_wire_weaves.specs.Laws.{LivesAs, progress_of}
 use Rattle.iox_wire_weaves.specs.NodeReply.{NodeReply}
 use Rattle.iox_wire_weaves.specs.Nodes.{Node, answered_at, seat_in}
+use Rattle.iox_wire_weaves.specs.Rooms.{KeepsRooms}
 use Rattle.iox_wire_weaves.specs.Runs.{Run}
 use Rattle.iox_wire_weaves.specs.SlotEvents.{slot_event}
-use Rattle.iox_wire_weaves.specs.Steps.{IsWireCallAt, MakesOneAccess, answer_of, call_after, finished_by, most_accesses, recorded, rest_refusal, step_refusal}
+use Rattle.iox_wire_weaves.specs.Steps.{IsWireCallAt, MakesOneAccess, answer_of, call_after, finished_by, most_accesses, recorded, step_refusal}
 use Rattle.iox_wire_weaves.specs.Tables.{Setting}
 use Rattle.iox_wire_weaves.specs.WholeSteps.{GoesOnWith}
-use Rattle.iox_wire_weaves.specs.Wires.{Shows, WireData, WireNode, answers_in, living_refusal, node_at}
+use Rattle.iox_wire_weaves.specs.Wires.{Shows, WireData, WireNode, answers_in, node_at}
 use Rattle.iox_wire_weaves.proofs.Lookups.{steps_on}
 use Rattle.iox_wire.specs.Kept.{FoundThere, HasGoneOn, IsShown, MayAccess, access_in}
 use Rattle.iox_wire.proofs.OwnCalls.{own_answer}
@@ -98,7 +99,7 @@ module _ (w : WireData) (n i : ℕ) (m d : WireNode) (first : position (λ x. x.
 
     module _ (reply : Option NodeReply) (z y : WireNode)
         (gone : (p : Setting) (ws : List ℕ) → MayAccess p d.node ws → seen ≡ seen_at (access_in p d.node) ws → HasGoneOn p d.node ws reply z.node)
-        (number : z.number ≡ d.number) (lives : LivesAs d z) (call : z.call ≡ d.call) (ends : EndsAs reply z y)
+        (number : z.number ≡ d.number) (lives : LivesAs d z) (call : z.call ≡ d.call) (rooms : KeepsRooms d.node z.node) (ends : EndsAs reply z y)
         (replies : List Finished) (events : List (ℕ × Event)) (room : ℕ) (noted : events ≡ w.events ++ recorded w.plan w.nodes n event)
         (replied : replies ≡ w.replies ++ finished_by z.number z z.node.seat.words (length events) reply) where
       abbrev Now : WireData
@@ -116,6 +117,7 @@ module _ (w : WireData) (n i : ℕ) (m d : WireNode) (first : position (λ x. x.
         number = ends.number ∙ number;
         lives = record { alive = ends.lives.alive ∙ lives.alive; died = ends.lives.died ∙ lives.died; longest = ends.lives.longest ∙ lives.longest };
         call = ends.call ∙ ap (λ o. call_after o reply) call;
+        rooms = subst (λ (k : Node). KeepsRooms d.node k) (sym ends.node) rooms;
       }
 
       own_number : z.number ≡ n

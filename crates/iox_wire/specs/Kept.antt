@@ -12,6 +12,7 @@ use Rattle.iox_wire_weaves.specs.Nodes.{Node, answered_at, seat_in}
 use Rattle.iox_wire_openings.specs.OpenedNodes.{planned_seat}
 use Rattle.iox_wire.specs.Replies.{FinishedCalls}
 use Rattle.iox_wire_weaves.specs.Replies.{most_words}
+use Rattle.iox_wire_weaves.specs.Rooms.{HasRoomToBegin}
 use Rattle.iox_wire_weaves.specs.Runs.{Run}
 use Rattle.iox_wire_weaves.specs.WirePlan.{WirePlan}
 use Rattle.iox_wire_weaves.specs.WirePlans.{IsWirePlan}
@@ -48,14 +49,19 @@ abbrev pub IsAtItsCall : WireNode → Type 0
 IsAtItsCall x =
     is_busy (seat_in x.node).local ≡ true → IfSome x.call (λ u. IsWireCallAt u.call x.node.at)
 
--- A wire shows a run of the machine, calls may begin with its plan and its terms, and its handles have
--- numbers.
+-- Each node has room for whatever a call keeps on the wire of that plan.
+abbrev pub AreRoomy : WirePlan → List WireNode → Type 0
+AreRoomy plan nodes = (n : ℕ) (x : WireNode) → node_at n nodes ≡ Some x → HasRoomToBegin plan x.node
+
+-- A wire shows a run of the machine, calls may begin with its plan and its terms, its handles have
+-- numbers, and its nodes have room for what calls keep.
 pub record IsShown (wire : WireData) : Type 0 where
   pub shows : (p : Setting) × (r : Run) × Shows p wire r
   pub whole : IsWirePlan wire.plan wire.terms
   pub numbers : wire.terms.first_number + most_accesses < 2 ^ 64
   pub kept : AreKept wire.nodes
   pub own : (n : ℕ) (x : WireNode) → node_at n wire.nodes ≡ Some x → IsAtItsCall x
+  pub rooms : AreRoomy wire.plan wire.nodes
 
 -- There is room for what so many more steps record: an event each, and a finished call, which brings and
 -- reads no more words than the longest message has.
@@ -78,7 +84,8 @@ pub record Loses (old : WireData) (n : ℕ) (new : WireData) : Type 0 where
 
 -- ---- an opening
 
--- a living node of that number that has what the plan tells, and room for so many handles
+-- a living node of that number that has what the plan tells, and room for so many handles and for what
+-- calls keep
 pub record IsOpenedNode (plan : WirePlan) (handles number : ℕ) (x : WireNode) : Type 0 where
   pub number_is : x.number ≡ number
   pub lives : x.alive ≡ true
@@ -88,6 +95,7 @@ pub record IsOpenedNode (plan : WirePlan) (handles number : ℕ) (x : WireNode) 
   pub rests : x.call ≡ None
   pub undead : x.died ≡ None
   pub longest : x.longest ≡ most_words plan
+  pub rooms : HasRoomToBegin plan x.node
 
 -- such are the nodes of these numbers
 abbrev pub AreOpened : WirePlan → (handles : ℕ) → List ℕ → List WireNode → Type 0

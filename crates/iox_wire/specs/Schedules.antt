@@ -14,7 +14,7 @@ use Rattle.iox_wire_weaves.specs.Runs.{GoesOnBy, Run}
 use Rattle.iox_wire_weaves.specs.Steps.{DeathIsWoven, MakesItsAccess, StepIsWoven, step_refusal}
 use Rattle.iox_wire_weaves.specs.Tables.{Setting}
 use Rattle.iox_wire_weaves.specs.Wires.{Shows, WireData, living_refusal}
-use Rattle.iox_wire.specs.Begun.{IsLeft}
+use Rattle.iox_wire.specs.Begun.{LacksRoom}
 use Rattle.iox_wire.specs.Kept.{Loses}
 use Rattle.iox_wire.specs.declared.entry.WireEntry.{WireEntry}
 use Rattle.iox_wire.specs.declared.entry.WireEntry.TheVariants.{Begin, Die, Step}
@@ -22,14 +22,14 @@ use Rattle.iox_wire.specs.declared.entry.WireEntry.TheVariants.{Begin, Die, Step
 -- ---- what an entry does to the wire
 
 -- In each run that the wire shows: the node begins the call, and the run goes on by that; where the
--- machine refuses the call, the wire is as a refused begin leaves it.
+-- machine refuses the call, nothing changes.
 abbrev pub IsAsked : WireData → ℕ → NodeCall → WireData → Type 0
 IsAsked old node call new =
     (p : Setting) (r : Run) → Shows p old r → let asked = Port (call_in p call) in
     MatchOption (begin_refusal r.last node asked)
     (BeginsCall p old node asked new
     × ((c : Choice) × (after : Run) × GoesOnBy r (Begins node asked c) after × Shows p new after))
-    (λ refusal. IsLeft call old new)
+    (λ refusal. new ≡ old)
 
 -- The node makes the one access of its place, and each run that the wire showed goes on by that
 -- step; where the step is refused, nothing changes.
@@ -92,10 +92,11 @@ pub record IsPlayed (old : WireData) (entries : List WireEntry) (new : WireData)
   pub each : AreEntered old entries new
   pub woven : IsWovenBy old entries new
 
--- Nothing refuses the entry, but there is no memory for it: a step finds no room left and changes
--- nothing, and a begin leaves what one leaves that is refused. A death takes no memory.
+-- Nothing refuses the entry, but there is no room for it, and nothing changes: a call that begins may
+-- add a handle for which its node has no room, and a step finds no room left. A death takes no room.
 abbrev pub WantsMemory : WireData → WireEntry → WireData → Type 0
-WantsMemory old (Begin node call) new = MayBegin old node call × IsLeft call old new
+WantsMemory old (Begin node call) new =
+    MayBegin old node call × LacksRoom old node call × (new ≡ old)
 WantsMemory old (Step node) new = (step_refusal old node ≡ None) × (old.room ≡ 0) × (new ≡ old)
 WantsMemory old (Die node) new = ⊥
 

@@ -2,42 +2,31 @@
 ghost use Rattle.std.specs.Prelude.{◌≡◌, IfErr, OnErr, OnOk};
 ghost use Rattle.iox_wire_weaves.specs.Asking.{BeginIsWoven, BeginsItsCall, IsBeginRefusal};
 ghost use Rattle.iox_wire_weaves.specs.NodeCall.TheVariants.{HasRequests};
-ghost use Rattle.iox_wire_weaves.specs.NodesBegins.{node_refusal};
-ghost use Rattle.iox_wire_weaves.specs.Wires.{machine_refusal};
-ghost use Rattle.iox_wire.specs.Begun.{IsLeft};
+ghost use Rattle.iox_wire_weaves.specs.declared.refusal.WireRefusal.TheVariants.{WantOfMemory};
+ghost use Rattle.iox_wire.specs.Begun.{LacksRoom};
 
 use crate::wire::Wire;
-use iox_wire_weaves::{BeginError, NodeCall, NodeError, WireRefusal};
-
-/// A wire's name of a refusal.
-fn refusal_of(error: NodeError) -> WireRefusal
-    ensures { machine_refusal result ≡ node_refusal error }
-{
-    match error {
-        NodeError::Begin(BeginError::Busy) => WireRefusal::Busy,
-        NodeError::Begin(BeginError::UnknownNumber) => WireRefusal::UnknownNumber,
-        NodeError::Begin(BeginError::ForeignNumber) => WireRefusal::ForeignNumber,
-        NodeError::Begin(BeginError::WrongKind) => WireRefusal::WrongKind,
-        NodeError::Begin(BeginError::WantOfMemory) => WireRefusal::WantOfMemory,
-    }
-}
+use iox_wire_weaves::{NodeCall, WireRefusal};
 
 impl Wire {
-    /// The node begins a call of the port or the handle of its number.
+    /// The node begins a call of the port or the handle of its number. That takes no memory: room
+    /// for what calls keep is made with the wire.
     pub fn begin(&mut self, node: u64, call: NodeCall<'_>) -> Result<(), WireRefusal>
         ensures begun { OnOk result (BeginsItsCall self.old node call.entry self.new) }
         ensures weave { OnOk result (BeginIsWoven self.old node call.entry self.new) }
         ensures room { self.new.room ≡ self.old.room }
         ensures refused { IfErr result (IsBeginRefusal self.old node call.entry) }
-        ensures unchanged { OnErr result (IsLeft call.entry self.old self.new) }
+        ensures full { IfErr result (λ error. error ≡ WantOfMemory
+            → LacksRoom self.old node call.entry) }
+        ensures unchanged { OnErr result (self.new ≡ self.old) }
     {
         let place = self.living(node)?;
         let begun = self.events().len();
         let member = &mut self.members[place];
         let lists = &mut self.lists;
         let told = member.begin(&self.places, &self.terms, call, begun, lists);
-        if let Err(error) = told {
-            return Err(refusal_of(error));
+        if let Err(refusal) = told {
+            return Err(refusal);
         }
         Ok(())
     }
@@ -48,6 +37,7 @@ impl Wire {
         ensures weave { OnOk result (BeginIsWoven self.old node (HasRequests number) self.new) }
         ensures room { self.new.room ≡ self.old.room }
         ensures refused { IfErr result (IsBeginRefusal self.old node (HasRequests number)) }
+        ensures always { IfErr result (λ error. error ≡ WantOfMemory → ⊥) }
         ensures unchanged { OnErr result (self.new ≡ self.old) }
     {
         self.begin(node, NodeCall::HasRequests { number })

@@ -62,9 +62,9 @@ impl Model for Member {
 
 impl Member {
     ghost use Rattle.std.specs.Prelude.{◌≡◌, ◌<◌, ℕ, IfOk, List, None, Some, false, nat_le, true};
-    ghost use Rattle.std.specs.Bool.{OnTrue};
+    ghost use Rattle.std.specs.Bool.{OnFalse, OnTrue};
     ghost use Rattle.iox_wire_weaves.specs.Begins.{is_busy};
-    ghost use Rattle.iox_wire_weaves.specs.Rooms.{HasItsRoom};
+    ghost use Rattle.iox_wire_weaves.specs.Rooms.{HasItsRoom, KeepsRooms};
     ghost use Rattle.iox_wire_weaves.specs.Tables.{Setting};
     ghost use Rattle.iox_wire_weaves.specs.Nodes.{seat_in};
     ghost use Rattle.iox_wire_weaves.specs.Steps.{most_accesses, rest_refusal};
@@ -138,7 +138,8 @@ impl Member {
 
     /// Whether it has room for a handle more.
     pub(crate) fn has_room(&self) -> bool
-        ensures { OnTrue result (0 < self.now.node.seat.room) }
+        ensures some { OnTrue result (0 < self.now.node.seat.room) }
+        ensures none { OnFalse result (self.now.node.seat.room ≡ 0) }
     {
         self.node.handles() < self.most
     }
@@ -205,6 +206,7 @@ impl Member {
         ensures number { self.new.number ≡ self.old.number }
         ensures lives { LivesAs self.old self.new }
         ensures call { self.new.call ≡ self.old.call }
+        ensures rooms { KeepsRooms self.old.node self.new.node }
     {
         self.node.place();
         self.node.go_on(seen)

@@ -3,7 +3,7 @@ ghost use Rattle.std.specs.Prelude.{◌≡◌, ◌↔◌, ◌*◌, ◌<◌, ℕ,
 ghost use Rattle.std.specs.Prelude.{slice_get};
 ghost use Rattle.iox_model.specs.Maps.{AreDistinct};
 ghost use Rattle.iox_model.specs.declared.kind.Role.{Role};
-ghost use Rattle.iox_wire_weaves.specs.Plans.{IsSlotAt, details_of, port_numbers};
+ghost use Rattle.iox_wire_weaves.specs.Plans.{IsSlotAt, details_of, most_ways, port_numbers};
 ghost use Rattle.iox_wire_weaves.specs.Replies.{most_words};
 ghost use Rattle.iox_wire_weaves.specs.Terms.{IsWholePort, messages_of};
 ghost use Rattle.iox_wire_weaves.specs.Wires.{AreWhole};
@@ -28,42 +28,44 @@ pub(crate) fn longest_message(plan: &WirePlan) -> usize
     most
 }
 
-/// A node as the wire opens, with room for so many handles, and for so many words of a call.
+/// A node as the wire opens, with room for so many handles, for so many ways that a call visits, and
+/// for so many words of a call.
 fn open_member(
     alloc: Global,
     plan: &WirePlan,
     number: u64,
     handles: usize,
+    ways: usize,
     longest: usize,
 ) -> Result<Member, AllocError>
     requires apart { AreDistinct (port_numbers plan.now) }
+    requires ways { ways ≡ most_ways plan.now }
     requires longest { longest ≡ most_words plan.now }
     ensures { IfOk result (IsOpenedNode plan.now handles number) }
 {
-    let seat = open_node(alloc, plan, number, handles)?;
-    Member::new(
-        alloc,
-        number,
-        StoredNode::new(alloc, seat),
-        handles,
-        longest,
-    )
+    let seat = open_node(alloc, plan, number, handles, ways, longest)?;
+    let node = StoredNode::new(alloc, seat, ways, longest)?;
+    let member = Member::new(alloc, number, node, handles, longest)?;
+    Ok(member)
 }
 
-/// The nodes of these numbers as the wire opens, each with room for so many handles.
+/// The nodes of these numbers as the wire opens, each with room for so many handles, and for so many
+/// ways that a call visits.
 pub(crate) fn open_members(
     alloc: Global,
     plan: &WirePlan,
     numbers: &[u64],
     handles: usize,
+    ways: usize,
 ) -> Result<Vec<Member>, AllocError>
-    requires { AreDistinct (port_numbers plan.now) }
+    requires apart { AreDistinct (port_numbers plan.now) }
+    requires ways { ways ≡ most_ways plan.now }
     ensures { IfOk result (λ members. AreOpened plan.now handles numbers.now members.items) }
 {
     let longest = longest_message(plan);
     let mut members = Vec::new(alloc);
     for number in numbers {
-        members.push(open_member(alloc, plan, *number, handles, longest)?)?;
+        members.push(open_member(alloc, plan, *number, handles, ways, longest)?)?;
     }
     Ok(members)
 }

@@ -6,7 +6,7 @@ ghost use Rattle.iox_wire_weaves.specs.Asking.{MayBegin};
 ghost use Rattle.iox_wire_weaves.specs.Steps.{step_refusal};
 ghost use Rattle.iox_wire_weaves.specs.Wires.{machine_refusal, refusal_in};
 ghost use Rattle.iox_wire_weaves.specs.declared.refusal.WireRefusal.TheVariants.{WantOfMemory};
-ghost use Rattle.iox_wire.specs.Begun.{IsLeft};
+ghost use Rattle.iox_wire.specs.Begun.{LacksRoom};
 ghost use Rattle.iox_wire.specs.Schedules.{IsAsked, IsDeclaredDead, IsEntered, IsStepped};
 ghost use Rattle.iox_wire.specs.Schedules.{IsPlayed, IsStopped, IsWovenBy, WantsMemory};
 
@@ -58,7 +58,8 @@ impl Wire {
     fn ask(&mut self, node: u64, call: NodeCall<'_>) -> Result<(), WireRefusal>
         ensures asked { OnOk result (IsAsked self.old node call.entry self.new) }
         ensures allowed { OnErr result (MayBegin self.old node call.entry) }
-        ensures unchanged { OnErr result (IsLeft call.entry self.old self.new) }
+        ensures full { OnErr result (LacksRoom self.old node call.entry) }
+        ensures unchanged { OnErr result (self.new ≡ self.old) }
         ensures refused { IfErr result (λ error. error ≡ WantOfMemory) }
         ensures room { self.new.room ≡ self.old.room }
     {

@@ -4,7 +4,6 @@ ghost use Rattle.std.specs.Prelude.{map, option_map, slice_get, true};
 ghost use Rattle.iox_wire_weaves.specs.Asking.{BeginIsWoven, BeginsItsCall, IsBeginRefusal};
 ghost use Rattle.iox_wire_weaves.specs.HandleCall.TheVariants.{Release};
 ghost use Rattle.iox_wire_weaves.specs.NodeCall.TheVariants as calls;
-ghost use Rattle.iox_wire.specs.Begun.{IsLeftAlone};
 ghost use Rattle.iox_wire.specs.Schedules.{IsPlayed, IsStepped};
 ghost use Rattle.iox_wire.specs.declared.entry.WireEntry.TheVariants.{Begin, Step};
 ghost use Rattle.std.specs.Bool.{OnTrue};
@@ -160,7 +159,7 @@ pub fn refused_begin(wire: &mut Wire, node: u64, number: u64) -> Result<(), Wire
     wire.begin_has_requests(node, number)
 }
 
-/// A client begins to copy a request. What it leaves otherwise shows the runs that it showed.
+/// A client begins to copy a request, or nothing changes.
 pub fn client_asks(
     wire: &mut Wire,
     node: u64,
@@ -169,7 +168,7 @@ pub fn client_asks(
 ) -> Result<(), WireRefusal>
     ensures woven { OnOk result
         (BeginIsWoven wire.old node (calls.SendCopy number payload.entry) wire.new) }
-    ensures left { OnErr result (IsLeftAlone wire.old wire.new) }
+    ensures left { OnErr result (wire.new ≡ wire.old) }
 {
     wire.begin(node, NodeCall::SendCopy { number, payload })
 }

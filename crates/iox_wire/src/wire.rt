@@ -109,7 +109,10 @@ impl Wire {
             return Err(WordMapNewError::WantOfMemory);
         }
         let words = zeros(alloc, total)?;
-        let members = open_members(alloc, places.plan(), nodes, handles)?;
+        let Some(ways) = places.most_ways() else {
+            return Err(WordMapNewError::WantOfMemory);
+        };
+        let members = open_members(alloc, places.plan(), nodes, handles, ways)?;
         let lists = Lists::new(alloc, &places)?;
         let longest = longest_message(places.plan());
         Ok(Wire {
@@ -162,6 +165,7 @@ impl Wire {
         ensures within { IfOk result (λ place. place < length self.now.nodes) }
         ensures alive { OnOk result (living_refusal self.now.nodes node ≡ None) }
         ensures refused { IfErr result (λ error. living_refusal self.now.nodes node ≡ Some error) }
+        ensures memory { IfErr result (λ error. error ≡ WantOfMemory → ⊥) }
     {
         let Some(place) = self.place(node) else {
             return Err(WireRefusal::UnknownNode);

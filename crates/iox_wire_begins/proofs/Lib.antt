@@ -1,4 +1,5 @@
 pub mod TermLemmas
+mod RoomLemmas
 -- what the crates above cite of those below
 pub use Rattle.iox_wire_handle_calls.proofs.Aside
 pub use Rattle.iox_wire_handle_calls.proofs.BeginCounts

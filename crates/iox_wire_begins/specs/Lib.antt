@@ -8,6 +8,7 @@ pub mod WirePlans
 pub use Rattle.iox_wire_handle_calls.specs.Aims as RequestSendsAims
 pub use Rattle.iox_wire_handle_calls.specs.Begins
 pub use Rattle.iox_wire_handle_calls.specs.Copiers
+pub use Rattle.iox_wire_handle_calls.specs.CopyAims
 pub use Rattle.iox_wire_handle_calls.specs.CopyCalls
 pub use Rattle.iox_wire_handle_calls.specs.CopyReply
 pub use Rattle.iox_wire_handle_calls.specs.Courses

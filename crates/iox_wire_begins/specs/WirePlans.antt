@@ -16,7 +16,7 @@ use Rattle.iox_wire_handle_calls.specs.SeatsAims.{HasRoomForHint}
 use Rattle.iox_wire_lenders.specs.declared.terms.WireTerms.{WireTerms}
 use Rattle.iox_wire_lenders.specs.Terms.{FitsPlan}
 use Rattle.iox_wire_handle_calls.specs.OwnStates.{HasStates}
-use Rattle.iox_wire_handle_calls.specs.PlacedHandles.{IsReadable}
+use Rattle.iox_wire_handle_calls.specs.PlacedHandles.{IsReadable, IsWritableAs}
 use Rattle.iox_wire_handle_calls.specs.Released.{MayRelease}
 
 -- The terms fit the plan, headers have their words, each port has a slot, and a number counts the
@@ -42,6 +42,7 @@ pub record HandleStands (plan : WirePlan) (desks : List Desk) (e : Entry) : Type
   pub states : HasStates plan e
   pub hint : HasRoomForHint e
   pub readable : IsReadable plan e
+  pub writable : (role : Role) → IsWritableAs plan role e
   pub own : is_received e.kind ≡ false → e.sender ≡ e.port
   pub request : is_request_loan e.kind ≡ true → IsLaneOf plan e.port e.lane
   pub response : is_response_loan e.kind ≡ true → IsResponseWay (sizes_of plan) (state_in e)

@@ -1,9 +1,10 @@
 //! How copies begin: loan, write and send in one call.
-ghost use Rattle.std.specs.Prelude.{ℕ, ◌≡◌, ◌*◌, ◌≤◌, OnErr, OnOk, Some, false, length, vec_capacity};
+ghost use Rattle.std.specs.Prelude.{ℕ, ◌≡◌, ◌*◌, ◌≤◌, Some, false, length, vec_capacity};
 ghost use Rattle.iox_model.specs.declared.kind.Role.TheVariants.{Client};
 ghost use Rattle.iox_wire_handle_calls.specs.WayIndex.TheVariants.{Responses};
 ghost use Rattle.iox_wire_handle_calls.specs.Plans.{IsPortAt, IsWayAt, most_ways, number_at, way_at};
-ghost use Rattle.iox_wire_begins.specs.ListRooms.{HasRoomFor};
+ghost use Rattle.iox_wire_begins.specs.ListRooms.{HasRoomFor, HasRoomToCopy};
+ghost use Rattle.iox_wire_handle_calls.specs.CopyAims.{HasSameRooms};
 ghost use Rattle.iox_wire_begins.specs.WirePlans.{IsWirePlan};
 ghost use Rattle.iox_wire_handle_calls.specs.Copiers.{MayBeMade};
 ghost use Rattle.iox_wire_handle_calls.specs.CopyCalls as requests;
@@ -28,7 +29,6 @@ use iox_wire_handle_calls::{
     list_response_returns, list_targets, payload_places,
 };
 use iox_wire_lenders::{WireTerms, make_lender};
-use std::alloc::AllocError;
 
 /// Tells a copy of the servers to which the client at an index sends a request on its first free
 /// lane. Where it has none nothing is told. What it lists is of no use later.
@@ -39,28 +39,30 @@ fn tell_servers(
     copying: &mut CopyingClient,
     client: usize,
     targets: &mut Vec<Target>,
-) -> Result<(), AllocError>
+)
     requires rests { is_busy copying.old.local ≡ false }
     requires client { IsPortAt map.now Client client }
     requires plan { IsWirePlan map.now terms.now }
     requires list { most_ways map.now ≤ vec_capacity targets.old }
+    requires room { most_ways map.now ≤ copying.old.sends.room }
     ensures knows { (p : Setting) → IsSettingWith map.now terms.now p
-        → OnOk result (requests.KnowsServersOnLane p seat.now.seat (number_at map.now client)
+        → requests.KnowsServersOnLane p seat.now.seat (number_at map.now client)
         (first_lane (pool_of map.now (number_at map.now client))
-        (free_lanes seat.now.seat (number_at map.now client))) copying.new.sends) }
+        (free_lanes seat.now.seat (number_at map.now client))) copying.new.sends }
     ensures rests { is_busy copying.new.local ≡ false }
     ensures list { vec_capacity targets.new ≡ vec_capacity targets.old }
+    ensures lends { copying.new.lends ≡ copying.old.lends }
+    ensures room { copying.new.sends.room ≡ copying.old.sends.room }
 {
     let plan = map.plan();
     let at = plan.ports[client];
     let lane = seat.first_lane(at.number, at.pool as u64);
     if lane >= at.pool as u64 {
-        return Ok(());
+        return;
     }
     let own = request_terms(map, terms, client);
     let told = list_targets(map, seat, client, lane, own, targets);
-    copying.prepare(told, targets)?;
-    Ok(())
+    copying.prepare(told, targets);
 }
 
 /// Begins to copy a request of these words, of so many elements, by the client at an index, on its
@@ -76,7 +78,7 @@ pub fn begin_request_copy(
     words: &[u64],
     number: u64,
     lists: &mut Lists,
-) -> Result<(), AllocError>
+)
     requires rests { is_busy copying.old.local ≡ false }
     requires seat { is_busy seat.old.seat.local ≡ false }
     requires client { IsPortAt map.now Client client }
@@ -84,24 +86,26 @@ pub fn begin_request_copy(
     requires lists { HasRoomFor map.now lists.old }
     requires whole { (k : ℕ) → elements ≡ Some k
         → length words.now ≡ k * element_words map.now client }
+    requires rooms { HasRoomToCopy map.now copying.old.lends }
+    requires targets { most_ways map.now ≤ copying.old.sends.room }
     ensures begun { (p : Setting) → IsSettingWith map.now terms.now p
         → number ≡ next_handle p seat.old.seat
-        → OnOk result (placed seat.new.seat copying.new.local
-        ≡ copies_request p seat.old.seat (p.port (number_at map.now client)) elements words.now) }
+        → placed seat.new.seat copying.new.local
+        ≡ copies_request p seat.old.seat (p.port (number_at map.now client)) elements words.now }
     ensures aimed { (p : Setting) → IsSettingWith map.now terms.now p
         → number ≡ next_handle p seat.old.seat
         → requests.TellsOfSlotAndLane p copying.new.local
-        → OnOk result (requests.IsAimed p seat.new.seat copying.new) }
-    ensures may { (x : Placed) → MayLend x number (number_at map.now client) → OnOk result
-        (MayBeMade x copying.new.at copying.new.lends.lending.order copying.new.sends.loan) }
+        → requests.IsAimed p seat.new.seat copying.new }
+    ensures may { (x : Placed) → MayLend x number (number_at map.now client)
+        → MayBeMade x copying.new.at copying.new.lends.lending.order copying.new.sends.loan }
     ensures leaves { LeavesSeat seat.old seat.new }
-    ensures rests { OnErr result (is_busy copying.new.local ≡ false) }
-    ensures seat_unchanged { OnErr result (seat.new ≡ seat.old) }
     ensures lists { HasRoomFor map.now lists.new }
+    ensures rooms { HasSameRooms copying.old.lends copying.new.lends }
+    ensures targets { copying.new.sends.room ≡ copying.old.sends.room }
 {
     // only what this promises is wanted
     let _plan = map.plan();
-    tell_servers(map, terms, seat, copying, client, &mut lists.targets)?;
+    tell_servers(map, terms, seat, copying, client, &mut lists.targets);
     let room = list_request_returns(map, seat, client, &mut lists.stops);
     let lender = make_lender(map, terms, client, room);
     let places = payload_places(map, client);
@@ -123,7 +127,7 @@ pub fn begin_response_copy(
     words: &[u64],
     number: u64,
     stops: &mut Vec<Stop>,
-) -> Result<(), AllocError>
+)
     requires rests { is_busy copying.old.local ≡ false }
     requires seat { is_busy seat.old.seat.local ≡ false }
     requires way { IsWayAt map.now (Responses client server request.lane) }
@@ -132,20 +136,20 @@ pub fn begin_response_copy(
     requires list { most_ways map.now ≤ vec_capacity stops.old }
     requires whole { (k : ℕ) → elements ≡ Some k
         → length words.now ≡ k * element_words map.now server }
+    requires rooms { HasRoomToCopy map.now copying.old.lends }
     ensures begun { (p : Setting) → IsSettingWith map.now terms.now p
         → number ≡ next_handle p seat.old.seat
-        → OnOk result (placed seat.new.seat copying.new.local
-        ≡ copies_response p seat.old.seat request elements words.now) }
+        → placed seat.new.seat copying.new.local
+        ≡ copies_response p seat.old.seat request elements words.now }
     ensures aimed { (p : Setting) → IsSettingWith map.now terms.now p
         → number ≡ next_handle p seat.old.seat
         → TellsOfSlot p copying.new.local
-        → OnOk result (responses.IsAimed p seat.new.seat copying.new) }
-    ensures may { (x : Placed) → MayLend x number (number_at map.now server) → OnOk result
-        (MayBeMade x copying.new.at copying.new.lends.lending.order copying.new.sends.loan) }
+        → responses.IsAimed p seat.new.seat copying.new }
+    ensures may { (x : Placed) → MayLend x number (number_at map.now server)
+        → MayBeMade x copying.new.at copying.new.lends.lending.order copying.new.sends.loan }
     ensures leaves { LeavesSeat seat.old seat.new }
-    ensures unchanged { OnErr result (copying.new ≡ copying.old) }
-    ensures seat_unchanged { OnErr result (seat.new ≡ seat.old) }
     ensures list { vec_capacity stops.new ≡ vec_capacity stops.old }
+    ensures rooms { HasSameRooms copying.old.lends copying.new.lends }
 {
     // only what this promises is wanted
     let _plan = map.plan();

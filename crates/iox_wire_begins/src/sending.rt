@@ -1,5 +1,5 @@
 //! How sends of loans begin.
-ghost use Rattle.std.specs.Prelude.{ℕ, ◌≡◌, ◌≤◌, OnErr, OnOk, false, true, vec_capacity};
+ghost use Rattle.std.specs.Prelude.{ℕ, ◌≡◌, ◌≤◌, false, true, vec_capacity};
 ghost use Rattle.iox_model.specs.declared.call.Call.TheVariants.{Send};
 ghost use Rattle.iox_model.specs.Handles.{is_request_loan, is_response_loan};
 ghost use Rattle.iox_wire_handle_calls.specs.WayIndex.TheVariants.{Responses};
@@ -18,7 +18,6 @@ use iox_wire_handle_calls::{
     Entry, Requesting, Responding, StoredSeat, Target, WordMap, list_targets,
 };
 use iox_wire_lenders::WireTerms;
-use std::alloc::AllocError;
 
 /// Begins the send of a loaned request of the client at an index. No send may be under way. What it
 /// lists in `targets` is of no use later.
@@ -30,7 +29,7 @@ pub fn begin_request_send(
     loan: Entry,
     client: usize,
     targets: &mut Vec<Target>,
-) -> Result<(), AllocError>
+)
     requires rests { is_busy requesting.old.local ≡ false }
     requires kind { is_request_loan loan.kind ≡ true }
     requires request { HasRoomForHint loan }
@@ -38,15 +37,16 @@ pub fn begin_request_send(
     requires own { loan.port ≡ number_at map.now client }
     requires plan { IsWirePlan map.now terms.now }
     requires list { most_ways map.now ≤ vec_capacity targets.old }
+    requires room { most_ways map.now ≤ requesting.old.room }
     ensures begun { (p : Setting) → (n : ℕ) → IsSettingWith map.now terms.now p
-        → OnOk result (placed seat.now.seat requesting.new.local
-        ≡ begins_at_entry p seat.now.seat (Send n) loan) }
+        → placed seat.now.seat requesting.new.local
+        ≡ begins_at_entry p seat.now.seat (Send n) loan }
     ensures aimed { (p : Setting) → IsSettingWith map.now terms.now p
-        → OnOk result (requests.IsAimed p seat.now.seat requesting.new) }
-    ensures loan { OnOk result (requesting.new.loan ≡ loan) }
-    ensures own { OnOk result (requesting.new.copied ≡ false) }
-    ensures unchanged { OnErr result (requesting.new ≡ requesting.old) }
+        → requests.IsAimed p seat.now.seat requesting.new }
+    ensures loan { requesting.new.loan ≡ loan }
+    ensures own { requesting.new.copied ≡ false }
     ensures list { vec_capacity targets.new ≡ vec_capacity targets.old }
+    ensures room { requesting.new.room ≡ requesting.old.room }
 {
     // only what this promises is wanted
     let _plan = map.plan();

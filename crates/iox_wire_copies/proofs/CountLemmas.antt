@@ -336,7 +336,8 @@ lends_still x y number port alike keeps may = record {
   room = (
       let same : length y.seat.table ≡ length x.seat.table = ap length alike.table in
       let some : 0 < x.room = may.room in
-      omega (arith, keeps, same, some)
+      let room : y.room + length y.seat.table ≡ x.room + length x.seat.table = keeps.handles in
+      omega (arith, room, same, some)
       );
   newer = subst (AreBelow number) (sym alike.table) may.newer;
   handles = subst (λ (n : ℕ). n + 1 < 2 ^ 64) (sym alike.handles) may.handles;

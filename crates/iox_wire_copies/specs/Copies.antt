@@ -45,6 +45,7 @@ pub record CopyLoan : Type 0 where
   pub places : PayloadPlaces
   pub loan : Entry
   pub place : ℕ
+  pub payload_room : ℕ
 
 -- the place of a call that a name and what stands beside it stand for
 abbrev pub local_of : CopyAt → Loaned → (payload : List ℕ) → (slot next : ℕ) → Local

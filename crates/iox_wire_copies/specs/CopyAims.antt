@@ -73,12 +73,18 @@ abbrev pub IsMadeAt : Local → Option CopyLent → Type 0
 IsMadeAt local (Some lent.Made) = IsStoring local
 IsMadeAt local result = Unit {0}
 
+-- there is as much room for ways, and for the words of a message
+pub record HasSameRooms (r s : CopyLoan) : Type 0 where
+  pub lending : loans.HasSameRooms r.lending s.lending
+  pub payload : s.payload_room ≡ r.payload_room
+
 -- it is the loan of the same order, told of the same slots
 pub record IsSameCopy (r s : CopyLoan) : Type 0 where
   pub order : s.lending.order ≡ r.lending.order
   pub payload : s.payload ≡ r.payload
   pub slots : s.slots ≡ r.slots
   pub places : s.places ≡ r.places
+  pub rooms : HasSameRooms r s
 
 -- ---- what the seat beside it keeps
 

@@ -153,6 +153,7 @@ pub record IsSameCall (r s : CopyCall) : Type 0 where
   pub lends : IsSameCopy r.lends s.lends
   pub terms : s.sends.terms ≡ r.sends.terms
   pub targets : s.sends.targets ≡ r.sends.targets
+  pub room : s.sends.room ≡ r.sends.room
 
 -- So the loan that it sends, if it does.
 abbrev pub SendsItsLoan : CopyCall → Type 0

@@ -15,7 +15,7 @@ use iox_steps::Access;
 use iox_wire_locals::Entry;
 use iox_wire_request_sends::{Lending, SlotPlaces};
 use iox_wire_seats::StoredSeat;
-use std::alloc::Global;
+use std::alloc::{AllocError, Global};
 use std::marker::Model;
 
 const NO_LOAN: Entry = Entry {
@@ -44,13 +44,15 @@ const NO_SLOTS: SlotPlaces = SlotPlaces {
 const NO_PAYLOADS: PayloadPlaces = PayloadPlaces { step: 1, room: 0 };
 
 /// The loan of a copy by a node, beside what the node keeps: as a loan gets back and takes a slot,
-/// whose words it stores, and those of its payload behind them. Only its begin takes memory.
+/// whose words it stores, and those of its payload behind them. Only its making takes memory.
 #[derive(Drop)]
 pub struct CopyLending {
     at: CopyAt,
     /// the loan without its payload
     lending: Lending,
     payload: Vec<u64>,
+    /// for how many words of a payload there is room
+    longest: usize,
     /// where the slots of its port stand, and the payload there
     slots: SlotPlaces,
     places: PayloadPlaces,
@@ -61,7 +63,7 @@ pub struct CopyLending {
 }
 
 impl Model for CopyLending {
-    ghost use Rattle.std.specs.Prelude.{◌≡◌, ◌≤◌, length};
+    ghost use Rattle.std.specs.Prelude.{◌≡◌, ◌≤◌, length, vec_capacity};
     ghost use Rattle.iox_wire_locals.specs.Begins.{is_busy};
     ghost use Rattle.iox_wire_request_sends.specs.Lenders.{IsWithin};
     ghost use Rattle.iox_wire_copies.specs.Copies.{CopyLoan, HasMade, HasSlots, HasWordsLeft};
@@ -79,6 +81,7 @@ impl Model for CopyLending {
       places = l.places;
       loan = l.loan;
       place = l.place;
+      payload_room = l.longest;
     } };
 
     ghost invariant = { λ l.
@@ -87,11 +90,12 @@ impl Model for CopyLending {
         × (is_busy l.lending.local ≡ lends_at l.at)
         × HasSlots l.at l.slots l.lending
         × HasWordsLeft l.at l.place l.next (length l.payload.items)
-        × HasMade l.at l.lending.order l.loan };
+        × HasMade l.at l.lending.order l.loan
+        × (l.longest ≤ vec_capacity l.payload) };
 }
 
 impl CopyLending {
-    ghost use Rattle.std.specs.Prelude.{◌≡◌, ◌+◌, ◌<◌, ◌^◌, false, is_none, true};
+    ghost use Rattle.std.specs.Prelude.{◌≡◌, ◌+◌, ◌<◌, ◌^◌, IfOk, false, is_none, true};
     ghost use Rattle.iox_wire_words.specs.Programs.{program_access};
     ghost use Rattle.iox_wire_locals.specs.declared.local.Local.TheVariants.{Idle};
     ghost use Rattle.iox_wire_locals.specs.declared.seat.Seat.{Seat};
@@ -104,20 +108,24 @@ impl CopyLending {
     ghost use Rattle.iox_wire_copies.specs.CopyAims.{GoesOn, HoldsMade, IsAimed, IsMade, IsMadeAt};
     ghost use Rattle.iox_wire_copies.specs.CopyAims.{IsSameCopy, KeepsPeers, MayLendMade, StaysAimed};
 
-    /// No loan is under way.
-    pub fn new(alloc: Global) -> CopyLending
-        ensures { result.local ≡ Idle }
+    /// No loan is under way, and there is room for so many ways, and for so many words of a message.
+    pub fn new(alloc: Global, ways: usize, longest: usize) -> Result<CopyLending, AllocError>
+        ensures local { IfOk result (λ l. l.local ≡ Idle) }
+        ensures ways { IfOk result (λ l. l.lending.ways_room ≡ ways) }
+        ensures words { IfOk result (λ l. l.lending.words_room ≡ longest) }
+        ensures payload { IfOk result (λ l. l.payload_room ≡ longest) }
     {
-        CopyLending {
+        Ok(CopyLending {
             at: CopyAt::Rest,
-            lending: Lending::new(alloc),
-            payload: Vec::new(alloc),
+            lending: Lending::new(alloc, ways, longest)?,
+            payload: Vec::with_capacity(alloc, longest)?,
+            longest,
             slots: NO_SLOTS,
             places: NO_PAYLOADS,
             loan: NO_LOAN,
             place: 0,
             next: 0,
-        }
+        })
     }
 
     /// Whether a loan is under way.

@@ -12,11 +12,11 @@ use iox_steps::Access;
 use iox_wire_locals::CallRefusal;
 use iox_wire_request_sends::{LendReply, Requesting};
 use iox_wire_seats::StoredSeat;
-use std::alloc::Global;
+use std::alloc::{AllocError, Global};
 use std::marker::Model;
 
 /// A client's copy of a request, beside what its node keeps: it lends, stores the message with its
-/// payload, and sends it. Only what prepares it and its begin take memory.
+/// payload, and sends it. Only its making takes memory.
 #[derive(Drop)]
 pub struct CopyingClient {
     at: CopierAt,
@@ -46,7 +46,7 @@ impl Model for CopyingClient {
 }
 
 impl CopyingClient {
-    ghost use Rattle.std.specs.Prelude.{◌≡◌, ◌+◌, ◌<◌, ◌^◌, None, false, is_none, true};
+    ghost use Rattle.std.specs.Prelude.{◌≡◌, ◌+◌, ◌<◌, ◌^◌, IfOk, None, false, is_none, true};
     ghost use Rattle.iox_wire_words.specs.Programs.{program_access};
     ghost use Rattle.iox_wire_locals.specs.declared.local.Local.TheVariants.{Idle};
     ghost use Rattle.iox_wire_locals.specs.declared.seat.Seat.{Seat};
@@ -59,15 +59,20 @@ impl CopyingClient {
     ghost use Rattle.iox_wire_copies.specs.CopyCalls.{IsSameCall, MayEndCall, SendsItsLoan};
     ghost use Rattle.iox_wire_copies.specs.CopyCalls.{StaysAimed};
 
-    /// No copy is under way, and no servers are told.
-    pub fn new(alloc: Global) -> CopyingClient
-        ensures { result.local ≡ Idle }
+    /// No copy is under way, no servers are told, and there is room for so many ways, and for so
+    /// many words of a message.
+    pub fn new(alloc: Global, ways: usize, longest: usize) -> Result<CopyingClient, AllocError>
+        ensures local { IfOk result (λ c. c.local ≡ Idle) }
+        ensures ways { IfOk result (λ c. c.lends.lending.ways_room ≡ ways) }
+        ensures words { IfOk result (λ c. c.lends.lending.words_room ≡ longest) }
+        ensures payload { IfOk result (λ c. c.lends.payload_room ≡ longest) }
+        ensures room { IfOk result (λ c. c.sends.room ≡ ways) }
     {
-        CopyingClient {
+        Ok(CopyingClient {
             at: CopierAt::Rest,
-            lends: CopyLending::new(alloc),
-            sends: Requesting::new(alloc),
-        }
+            lends: CopyLending::new(alloc, ways, longest)?,
+            sends: Requesting::new(alloc, ways)?,
+        })
     }
 
     /// Whether a copy is under way.

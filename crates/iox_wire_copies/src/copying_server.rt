@@ -13,11 +13,11 @@ use iox_wire_locals::CallRefusal;
 use iox_wire_request_sends::LendReply;
 use iox_wire_seats::StoredSeat;
 use iox_wire_sends::Responding;
-use std::alloc::Global;
+use std::alloc::{AllocError, Global};
 use std::marker::Model;
 
 /// A server's copy of a response, beside what its node keeps: it lends, stores the message with its
-/// payload, and sends it. Only its begin takes memory.
+/// payload, and sends it. Only its making takes memory.
 #[derive(Drop)]
 pub struct CopyingServer {
     at: CopierAt,
@@ -47,7 +47,7 @@ impl Model for CopyingServer {
 }
 
 impl CopyingServer {
-    ghost use Rattle.std.specs.Prelude.{◌≡◌, ◌+◌, ◌<◌, ◌^◌, None, false, is_none, true};
+    ghost use Rattle.std.specs.Prelude.{◌≡◌, ◌+◌, ◌<◌, ◌^◌, IfOk, None, false, is_none, true};
     ghost use Rattle.iox_wire_words.specs.Programs.{program_access};
     ghost use Rattle.iox_wire_locals.specs.declared.local.Local.TheVariants.{Idle};
     ghost use Rattle.iox_wire_locals.specs.declared.seat.Seat.{Seat};
@@ -60,15 +60,18 @@ impl CopyingServer {
     ghost use Rattle.iox_wire_copies.specs.ResponseCopies.{IsSameCall, MayEndCall, SendsItsLoan};
     ghost use Rattle.iox_wire_copies.specs.ResponseCopies.{StaysAimed};
 
-    /// No copy is under way.
-    pub fn new(alloc: Global) -> CopyingServer
-        ensures { result.local ≡ Idle }
+    /// No copy is under way, and there is room for so many ways, and for so many words of a message.
+    pub fn new(alloc: Global, ways: usize, longest: usize) -> Result<CopyingServer, AllocError>
+        ensures local { IfOk result (λ c. c.local ≡ Idle) }
+        ensures ways { IfOk result (λ c. c.lends.lending.ways_room ≡ ways) }
+        ensures words { IfOk result (λ c. c.lends.lending.words_room ≡ longest) }
+        ensures payload { IfOk result (λ c. c.lends.payload_room ≡ longest) }
     {
-        CopyingServer {
+        Ok(CopyingServer {
             at: CopierAt::Rest,
-            lends: CopyLending::new(alloc),
+            lends: CopyLending::new(alloc, ways, longest)?,
             sends: Responding::new(),
-        }
+        })
     }
 
     /// Whether a copy is under way.

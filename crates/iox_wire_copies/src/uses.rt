@@ -1,5 +1,5 @@
 //! Callers, proved from the clauses alone.
-ghost use Rattle.std.specs.Prelude.{ℕ, ◌≡◌, ◌+◌, ◌<◌, ◌≤◌, ◌^◌, OnErr, OnOk, Some};
+ghost use Rattle.std.specs.Prelude.{ℕ, ◌≡◌, ◌+◌, ◌<◌, ◌≤◌, ◌^◌, Some};
 ghost use Rattle.std.specs.Prelude.{false, length, true};
 ghost use Rattle.iox_model.specs.declared.call.Call.TheVariants.{SendCopy};
 ghost use Rattle.iox_model.specs.Commands.{Payload};
@@ -34,9 +34,8 @@ use iox_wire_locals::Entry;
 use iox_wire_request_sends::{Lender, RequestTerms, Target};
 use iox_wire_seats::{Stop, StoredSeat};
 use iox_wire_sends::ResponseTerms;
-use std::alloc::AllocError;
 
-/// A client's copy begins as the definitions begin it, or takes no memory and changes nothing.
+/// A client's copy begins as the definitions begin it.
 pub fn copy_begins(
     copying: &mut CopyingClient,
     seat: &mut StoredSeat,
@@ -46,7 +45,7 @@ pub fn copy_begins(
     elements: Option<u64>,
     words: &[u64],
     stops: &[Stop],
-) -> Result<(), AllocError>
+)
     requires rests { is_busy copying.old.local ≡ false }
     requires seat { is_busy seat.old.seat.local ≡ false }
     requires whole { IsWhole lender.now }
@@ -54,15 +53,17 @@ pub fn copy_begins(
     requires room { HasRoom lender.now.places places }
     requires fits { (k : ℕ) → elements ≡ Some k → k ≤ lender.now.longest
         → length words.now ≤ places.room }
+    requires ways { length stops.now ≤ copying.old.lends.lending.ways_room }
+    requires words { lender.now.places.slot_words ≤ copying.old.lends.lending.words_room }
+    requires payload { lender.now.places.slot_words ≤ copying.old.lends.payload_room }
     ensures begun { (p : Setting) → (n : ℕ) → (y : Payload) → (q : Port)
         → q ≡ p.port lender.now.port → IsLender p lender.now → IsClient p lender.now
         → number ≡ next_handle p seat.old.seat
         → ways_of stops.now
         ≡ request_ways (known p seat.old.seat) (p.port lender.now.port).node lender.now.port
-        → OnOk result (placed seat.new.seat copying.new.local
+        → placed seat.new.seat copying.new.local
         ≡ begins_at_port p seat.old.seat
-        (SendCopy n (record y { elements = elements; words = words.now })) q) }
-    ensures unchanged { OnErr result (seat.new ≡ seat.old) }
+        (SendCopy n (record y { elements = elements; words = words.now })) q }
 {
     copying.begin(seat, lender, places, number, elements, words, stops)
 }
@@ -99,18 +100,19 @@ pub fn next_copy_is_prepared(
     copying: &mut CopyingClient,
     terms: RequestTerms,
     targets: &[Target],
-) -> Result<bool, AllocError>
+) -> bool
     requires within { AreWithin terms targets.now }
-    ensures { OnErr result (copying.new ≡ copying.old) }
+    requires fits { length targets.now ≤ copying.old.sends.room }
+    ensures { copying.new.lends ≡ copying.old.lends }
 {
     if copying.is_busy() {
-        return Ok(false);
+        return false;
     }
-    copying.prepare(terms, targets)?;
-    Ok(true)
+    copying.prepare(terms, targets);
+    true
 }
 
-/// A server's copy begins as the definitions begin it, or takes no memory and changes nothing.
+/// A server's copy begins as the definitions begin it.
 pub fn response_copy_begins(
     copying: &mut CopyingServer,
     seat: &mut StoredSeat,
@@ -122,7 +124,7 @@ pub fn response_copy_begins(
     elements: Option<u64>,
     words: &[u64],
     stops: &[Stop],
-) -> Result<(), AllocError>
+)
     requires rests { is_busy copying.old.local ≡ false }
     requires seat { is_busy seat.old.seat.local ≡ false }
     requires whole { IsWhole lender.now }
@@ -132,22 +134,24 @@ pub fn response_copy_begins(
         → length words.now ≤ places.room }
     requires messages { IsInMemory terms.messages }
     requires returning { IsInMemory terms.returning }
+    requires ways { length stops.now ≤ copying.old.lends.lending.ways_room }
+    requires words { lender.now.places.slot_words ≤ copying.old.lends.lending.words_room }
+    requires payload { lender.now.places.slot_words ≤ copying.old.lends.payload_room }
     ensures begun { (p : Setting) → (n : ℕ) → (y : Payload)
         → IsLender p lender.now → IsServer p lender.now
         → request.port ≡ lender.now.port → number ≡ next_handle p seat.old.seat
         → ways_of stops.now
         ≡ response_ways (known p seat.old.seat) (p.port lender.now.port).node lender.now.port
-        → OnOk result (placed seat.new.seat copying.new.local
+        → placed seat.new.seat copying.new.local
         ≡ begins_at_entry p seat.old.seat
-        (SendCopy n (record y { elements = elements; words = words.now })) request) }
+        (SendCopy n (record y { elements = elements; words = words.now })) request }
     ensures aimed { (p : Setting) → IsLender p lender.now → IsServer p lender.now
         → request.port ≡ lender.now.port → number ≡ next_handle p seat.old.seat
         → AreReturning p lender.now.room stops.now
         → ArePayloads p lender.now.port lender.now.places places
         → responses.KnowsWay p (state_in request) terms
         → TellsOfSlot p copying.new.local
-        → OnOk result (responses.IsAimed p seat.new.seat copying.new) }
-    ensures unchanged { OnErr result (seat.new ≡ seat.old) }
+        → responses.IsAimed p seat.new.seat copying.new }
 {
     copying.begin(
         seat, lender, places, request, terms, number, elements, words, stops,

@@ -53,13 +53,12 @@ write_of n role elements words =
 
 -- ---- how they begin
 
--- the machine's name of a refusal; want of memory is none
+-- the machine's name of a refusal
 abbrev pub refusal_in : BeginError → Option Refusal
 refusal_in errors.Busy = Some refusals.Busy
 refusal_in errors.UnknownNumber = Some refusals.UnknownNumber
 refusal_in errors.ForeignNumber = Some refusals.ForeignNumber
 refusal_in errors.WrongKind = Some refusals.WrongKind
-refusal_in errors.WantOfMemory = None
 
 -- The call is not refused: the node begins it, and knows the places of the words that it accesses.
 pub record IsBegun (p : Setting) (x : Placed) (call : WireCall) (y : Placed) : Type 0 where

@@ -9,6 +9,7 @@ pub use Rattle.iox_wire_stops.specs.RequestSources
 pub use Rattle.iox_wire_stops.specs.Aims as SeatsAims
 pub use Rattle.iox_wire_stops.specs.Begins
 pub use Rattle.iox_wire_stops.specs.Copies
+pub use Rattle.iox_wire_stops.specs.CopyAims
 pub use Rattle.iox_wire_stops.specs.Copiers
 pub use Rattle.iox_wire_stops.specs.CopyCalls
 pub use Rattle.iox_wire_stops.specs.CopyReply

@@ -6,6 +6,7 @@ ghost use Rattle.iox_wire_stops.specs.Plans.{most_ways, port_of};
 ghost use Rattle.iox_wire_stops.specs.PlansOf.{IsSettingOf};
 ghost use Rattle.iox_wire_stops.specs.Begins.{refusal_at};
 ghost use Rattle.iox_wire_stops.specs.Tables.{Setting, entry_at};
+ghost use Rattle.iox_wire_stops.specs.Aims.{HasSameRooms};
 ghost use Rattle.iox_wire_handle_calls.specs.HandleCalls.{IsBegun, refusal_in};
 ghost use Rattle.iox_wire_stops.specs.OwnStates.{HasStates};
 
@@ -25,12 +26,14 @@ pub fn begin_is_connected(
     requires no_port { port_of map.now number ≡ None }
     requires states { IfSome (entry_at number seat.old.seat.table) (HasStates map.now) }
     requires list { most_ways map.now ≤ vec_capacity stops.old }
+    requires rooms { most_ways map.now ≤ seat.old.ways_room }
     ensures begun { (p : Setting) → IsSettingOf map.now p
         → OnOk result (IsBegun p seat.old (Port (IsConnected number)) seat.new) }
     ensures allowed { (p : Setting) → IsSettingOf map.now p
         → OnOk result (refusal_at p seat.old.seat (Port (IsConnected number)) ≡ None) }
     ensures refused { (p : Setting) → IsSettingOf map.now p → IfErr result (λ error.
         refusal_at p seat.old.seat (Port (IsConnected number)) ≡ refusal_in error) }
+    ensures rooms { HasSameRooms seat.old seat.new }
     ensures unchanged { OnErr result (seat.new ≡ seat.old) }
     ensures accesses { seat.new.seat.accesses ≡ seat.old.seat.accesses }
     ensures room { seat.new.room ≡ seat.old.room }
@@ -38,7 +41,7 @@ pub fn begin_is_connected(
 {
     let entry = named(seat, map, Asked::IsConnected, number)?;
     list_states_of(map, seat, entry, stops);
-    seat.check(entry, false, stops)?;
+    seat.check(entry, false, stops);
     Ok(())
 }
 
@@ -53,12 +56,14 @@ pub fn begin_has_hint(
     requires no_port { port_of map.now number ≡ None }
     requires states { IfSome (entry_at number seat.old.seat.table) (HasStates map.now) }
     requires list { most_ways map.now ≤ vec_capacity stops.old }
+    requires rooms { most_ways map.now ≤ seat.old.ways_room }
     ensures begun { (p : Setting) → IsSettingOf map.now p
         → OnOk result (IsBegun p seat.old (Port (HasHint number)) seat.new) }
     ensures allowed { (p : Setting) → IsSettingOf map.now p
         → OnOk result (refusal_at p seat.old.seat (Port (HasHint number)) ≡ None) }
     ensures refused { (p : Setting) → IsSettingOf map.now p → IfErr result (λ error.
         refusal_at p seat.old.seat (Port (HasHint number)) ≡ refusal_in error) }
+    ensures rooms { HasSameRooms seat.old seat.new }
     ensures unchanged { OnErr result (seat.new ≡ seat.old) }
     ensures accesses { seat.new.seat.accesses ≡ seat.old.seat.accesses }
     ensures room { seat.new.room ≡ seat.old.room }
@@ -66,6 +71,6 @@ pub fn begin_has_hint(
 {
     let entry = named(seat, map, Asked::HasHint, number)?;
     list_states_of(map, seat, entry, stops);
-    seat.check(entry, true, stops)?;
+    seat.check(entry, true, stops);
     Ok(())
 }

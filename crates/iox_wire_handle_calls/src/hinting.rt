@@ -6,7 +6,7 @@ ghost use Rattle.iox_wire_stops.specs.Plans.{most_ways, port_of};
 ghost use Rattle.iox_wire_stops.specs.PlansOf.{IsSettingOf};
 ghost use Rattle.iox_wire_stops.specs.Begins.{refusal_at};
 ghost use Rattle.iox_wire_stops.specs.Tables.{Setting, entry_at};
-ghost use Rattle.iox_wire_stops.specs.Aims.{HasRoomForHint};
+ghost use Rattle.iox_wire_stops.specs.Aims.{HasRoomForHint, HasSameRooms};
 ghost use Rattle.iox_wire_handle_calls.specs.HandleCalls.{IsBegun, refusal_in};
 ghost use Rattle.iox_wire_stops.specs.OwnStates.{HasStates};
 
@@ -27,12 +27,14 @@ pub fn begin_set_hint(
     requires states { IfSome (entry_at number seat.old.seat.table) (HasStates map.now) }
     requires hint { IfSome (entry_at number seat.old.seat.table) HasRoomForHint }
     requires list { most_ways map.now ≤ vec_capacity stops.old }
+    requires rooms { most_ways map.now ≤ seat.old.ways_room }
     ensures begun { (p : Setting) → IsSettingOf map.now p
         → OnOk result (IsBegun p seat.old (Port (SetHint number)) seat.new) }
     ensures allowed { (p : Setting) → IsSettingOf map.now p
         → OnOk result (refusal_at p seat.old.seat (Port (SetHint number)) ≡ None) }
     ensures refused { (p : Setting) → IsSettingOf map.now p → IfErr result (λ error.
         refusal_at p seat.old.seat (Port (SetHint number)) ≡ refusal_in error) }
+    ensures rooms { HasSameRooms seat.old seat.new }
     ensures unchanged { OnErr result (seat.new ≡ seat.old) }
     ensures accesses { seat.new.seat.accesses ≡ seat.old.seat.accesses }
     ensures room { seat.new.room ≡ seat.old.room }
@@ -40,6 +42,6 @@ pub fn begin_set_hint(
 {
     let entry = named(seat, map, Asked::SetHint, number)?;
     list_states_of(map, seat, entry, stops);
-    seat.hint(entry, stops)?;
+    seat.hint(entry, stops);
     Ok(())
 }

@@ -7,7 +7,8 @@ ghost use Rattle.iox_wire_stops.specs.PlansOf.{IsSettingOf};
 ghost use Rattle.iox_wire_stops.specs.Begins.{refusal_at};
 ghost use Rattle.iox_wire_stops.specs.Tables.{Setting, entry_at};
 ghost use Rattle.iox_wire_handle_calls.specs.HandleCalls.{IsBegun, refusal_in};
-ghost use Rattle.iox_wire_handle_calls.specs.PlacedHandles.{IsReadable};
+ghost use Rattle.iox_wire_handle_calls.specs.PlacedHandles.{HasRoomForSlots, IsReadable};
+ghost use Rattle.iox_wire_stops.specs.Aims.{HasSameRooms};
 
 use crate::asked::Asked;
 use crate::error::BeginError;
@@ -20,10 +21,12 @@ use iox_wire_stops::{StoredSeat, WordMap};
 pub fn begin_read(seat: &mut StoredSeat, map: &WordMap, number: u64) -> Result<(), BeginError>
     requires no_port { port_of map.now number ≡ None }
     requires readable { IfSome (entry_at number seat.old.seat.table) (IsReadable map.now) }
+    requires words { HasRoomForSlots map.now seat.old.words_room }
     ensures begun { (p : Setting) → IsSettingOf map.now p
         → OnOk result (IsBegun p seat.old (Port (Read number)) seat.new) }
     ensures refused { (p : Setting) → IsSettingOf map.now p → IfErr result (λ error.
         refusal_at p seat.old.seat (Port (Read number)) ≡ refusal_in error) }
+    ensures rooms { HasSameRooms seat.old seat.new }
     ensures unchanged { OnErr result (seat.new ≡ seat.old) }
     ensures accesses { seat.new.seat.accesses ≡ seat.old.seat.accesses }
     ensures room { seat.new.room ≡ seat.old.room }
@@ -32,6 +35,6 @@ pub fn begin_read(seat: &mut StoredSeat, map: &WordMap, number: u64) -> Result<(
     let port = port_with_slot(map.plan(), entry.sender, entry.slot);
     let message = message_of(map, port, entry.slot as usize);
     let count = words_behind_header(map, port, entry.slot as usize, entry.elements);
-    seat.read(entry, message, count)?;
+    seat.read(entry, message, count);
     Ok(())
 }

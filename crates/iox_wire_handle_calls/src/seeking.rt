@@ -8,6 +8,7 @@ ghost use Rattle.iox_wire_stops.specs.PlansOf.{IsSettingOf};
 ghost use Rattle.iox_wire_stops.specs.Begins.{refusal_at};
 ghost use Rattle.iox_wire_stops.specs.Stored.{header_length};
 ghost use Rattle.iox_wire_stops.specs.Tables.{Setting, entry_at};
+ghost use Rattle.iox_wire_stops.specs.Aims.{HasSameRooms};
 ghost use Rattle.iox_wire_handle_calls.specs.HandleCalls.{IsBegun, refusal_in};
 ghost use Rattle.iox_wire_stops.specs.OwnStates.{HasStates};
 
@@ -30,12 +31,14 @@ pub fn begin_has_response(
     requires header { map.now.response.header.size ≡ 8 * header_length Server }
     requires sources { most_ways map.now ≤ vec_capacity sources.old }
     requires stops { most_ways map.now ≤ vec_capacity stops.old }
+    requires rooms { most_ways map.now ≤ seat.old.ways_room }
     ensures begun { (p : Setting) → IsSettingOf map.now p
         → OnOk result (IsBegun p seat.old (Port (HasResponse number)) seat.new) }
     ensures allowed { (p : Setting) → IsSettingOf map.now p
         → OnOk result (refusal_at p seat.old.seat (Port (HasResponse number)) ≡ None) }
     ensures refused { (p : Setting) → IsSettingOf map.now p → IfErr result (λ error.
         refusal_at p seat.old.seat (Port (HasResponse number)) ≡ refusal_in error) }
+    ensures rooms { HasSameRooms seat.old seat.new }
     ensures unchanged { OnErr result (seat.new ≡ seat.old) }
     ensures accesses { seat.new.seat.accesses ≡ seat.old.seat.accesses }
     ensures room { seat.new.room ≡ seat.old.room }
@@ -45,6 +48,6 @@ pub fn begin_has_response(
     let pending = named(seat, map, Asked::HasResponse, number)?;
     let client = client_place(map, pending.port, pending.lane);
     let queue = list_waiting_responses(map, client, pending.lane, sources, stops);
-    seat.seek(queue, stops)?;
+    seat.seek(queue, stops);
     Ok(())
 }

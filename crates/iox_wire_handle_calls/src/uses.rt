@@ -1,5 +1,5 @@
 //! Callers, proved from the clauses alone.
-ghost use Rattle.std.specs.Prelude.{◌≡◌, ◌+◌, ◌<◌, ◌^◌, ◌≤◌, Err, IfOk, IfSome, None, OnOk, Some, vec_capacity};
+ghost use Rattle.std.specs.Prelude.{ℕ, ◌≡◌, ◌+◌, ◌*◌, ◌<◌, ◌^◌, ◌≤◌, Err, IfOk, IfSome, None, OnOk, Some, length, vec_capacity};
 ghost use Rattle.iox_model.specs.declared.call.Call.TheVariants.{IsConnected, Read, SetHint};
 ghost use Rattle.iox_model.specs.declared.call.WireCall.TheVariants.{Port};
 ghost use Rattle.iox_model.specs.declared.kind.Role.TheVariants.{Client};
@@ -14,7 +14,8 @@ ghost use Rattle.iox_wire_stops.specs.Aims.{HasRoomForHint};
 ghost use Rattle.iox_wire_stops.specs.Programs.{program_access};
 ghost use Rattle.iox_wire_handle_calls.specs.declared.error.BeginError.TheVariants as errors;
 ghost use Rattle.iox_wire_handle_calls.specs.HandleCalls.{write_of};
-ghost use Rattle.iox_wire_handle_calls.specs.PlacedHandles.{HasLoanSlot, IsReadable};
+ghost use Rattle.iox_wire_handle_calls.specs.PlacedHandles.{HasLoanSlot, HasRoomForSlots, IsReadable};
+ghost use Rattle.iox_wire_handle_calls.specs.PlacedHandles.{IsWritableAs, words_each};
 ghost use Rattle.iox_wire_stops.specs.OwnStates.{HasStates};
 
 use crate::asking::begin_is_connected;
@@ -37,6 +38,11 @@ pub fn payload_written_by_one_step(
 ) -> Result<Option<SeatReply>, BeginError>
     requires no_port { port_of map.now number ≡ None }
     requires slot { IfSome (entry_at number seat.old.seat.table) (HasLoanSlot map.now) }
+    requires writable { IfSome (entry_at number seat.old.seat.table)
+        (IsWritableAs map.now Client) }
+    requires whole { (k : ℕ) → elements ≡ Some k
+        → length words.now ≡ k * words_each map.now Client }
+    requires words { HasRoomForSlots map.now seat.old.words_room }
     requires accesses { seat.old.seat.accesses + 1 < 2 ^ 64 }
     ensures { (p : Setting) → IsSettingOf map.now p → OnOk result (seat.new.seat
         ≡ next p (begin p seat.old.seat (write_of number Client elements words.now)) seen) }
@@ -53,6 +59,7 @@ pub fn first_word_of_a_message(
 ) -> Result<Access, BeginError>
     requires no_port { port_of map.now number ≡ None }
     requires readable { IfSome (entry_at number seat.old.seat.table) (IsReadable map.now) }
+    requires words { HasRoomForSlots map.now seat.old.words_room }
     ensures { (p : Setting) → IsSettingOf map.now p → IfOk result (λ access. access
         ≡ program_access p.layout
         (program_of p (begin p seat.old.seat (Port (Read number))).local)) }
@@ -69,6 +76,7 @@ pub fn unknown_message_is_refused(
 ) -> Result<(), BeginError>
     requires no_port { port_of map.now number ≡ None }
     requires readable { IfSome (entry_at number seat.old.seat.table) (IsReadable map.now) }
+    requires words { HasRoomForSlots map.now seat.old.words_room }
     ensures { (p : Setting) → IsSettingOf map.now p
         → refusal_at p seat.old.seat (Port (Read number)) ≡ Some refusals.UnknownNumber
         → result ≡ Err errors.UnknownNumber }
@@ -87,6 +95,7 @@ pub fn connection_asked_by_one_step(
     requires no_port { port_of map.now number ≡ None }
     requires states { IfSome (entry_at number seat.old.seat.table) (HasStates map.now) }
     requires list { most_ways map.now ≤ vec_capacity stops.old }
+    requires rooms { most_ways map.now ≤ seat.old.ways_room }
     requires accesses { seat.old.seat.accesses + 1 < 2 ^ 64 }
     ensures { (p : Setting) → IsSettingOf map.now p → OnOk result (seat.new.seat
         ≡ next p (begin p seat.old.seat (Port (IsConnected number))) seen) }
@@ -105,6 +114,7 @@ pub fn busy_node_gives_no_hint(
     requires no_port { port_of map.now number ≡ None }
     requires states { IfSome (entry_at number seat.old.seat.table) (HasStates map.now) }
     requires list { most_ways map.now ≤ vec_capacity stops.old }
+    requires rooms { most_ways map.now ≤ seat.old.ways_room }
     requires hint { IfSome (entry_at number seat.old.seat.table) HasRoomForHint }
     ensures { (p : Setting) → IsSettingOf map.now p
         → refusal_at p seat.old.seat (Port (SetHint number)) ≡ Some refusals.Busy

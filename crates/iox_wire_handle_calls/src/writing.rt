@@ -1,11 +1,13 @@
 //! The write of a payload.
-ghost use Rattle.std.specs.Prelude.{◌≡◌, IfErr, IfSome, None, OnErr, OnOk};
+ghost use Rattle.std.specs.Prelude.{ℕ, ◌≡◌, ◌*◌, IfErr, IfSome, None, OnErr, OnOk, Some, length};
 ghost use Rattle.iox_wire_stops.specs.Plans.{port_of};
 ghost use Rattle.iox_wire_stops.specs.PlansOf.{IsSettingOf};
 ghost use Rattle.iox_wire_stops.specs.Begins.{refusal_at};
 ghost use Rattle.iox_wire_stops.specs.Tables.{Setting, entry_at};
 ghost use Rattle.iox_wire_handle_calls.specs.HandleCalls.{IsBegun, refusal_in, write_of};
-ghost use Rattle.iox_wire_handle_calls.specs.PlacedHandles.{HasLoanSlot};
+ghost use Rattle.iox_wire_handle_calls.specs.PlacedHandles.{HasLoanSlot, HasRoomForSlots, IsWritableAs};
+ghost use Rattle.iox_wire_handle_calls.specs.PlacedHandles.{words_each};
+ghost use Rattle.iox_wire_stops.specs.Aims.{HasSameRooms};
 
 use crate::asked::Asked;
 use crate::error::BeginError;
@@ -27,11 +29,16 @@ pub fn begin_write(
 ) -> Result<(), BeginError>
     requires no_port { port_of map.now number ≡ None }
     requires slot { IfSome (entry_at number seat.old.seat.table) (HasLoanSlot map.now) }
+    requires writable { IfSome (entry_at number seat.old.seat.table) (IsWritableAs map.now role) }
+    requires whole { (k : ℕ) → elements ≡ Some k
+        → length words.now ≡ k * words_each map.now role }
+    requires words { HasRoomForSlots map.now seat.old.words_room }
     ensures begun { (p : Setting) → IsSettingOf map.now p → OnOk result (IsBegun p seat.old
         (write_of number role elements words.now) seat.new) }
     ensures refused { (p : Setting) → IsSettingOf map.now p → IfErr result (λ error.
         refusal_at p seat.old.seat (write_of number role elements words.now)
         ≡ refusal_in error) }
+    ensures rooms { HasSameRooms seat.old seat.new }
     ensures unchanged { OnErr result (seat.new ≡ seat.old) }
     ensures accesses { seat.new.seat.accesses ≡ seat.old.seat.accesses }
     ensures room { seat.new.room ≡ seat.old.room }
@@ -41,9 +48,6 @@ pub fn begin_write(
     let _total = map.total();
     let port = port_with_slot(map.plan(), loan.port, loan.slot);
     let payload = payload_of(map, port, loan.slot as usize);
-    if words.len() > usize::MAX - payload {
-        return Err(BeginError::WantOfMemory);
-    }
-    seat.write(loan, payload, elements, words)?;
+    seat.write(loan, payload, elements, words);
     Ok(())
 }

@@ -1,64 +1,24 @@
 -- A slot whose message has another payload, and which slots the end of a call fills.
 use Rattle.iox_wire_calls.proofs.OwnPorts.{both}
 use Rattle.iox_wire_calls.specs.Ending.TheVariants as endings
-use Rattle.std.proofs.Common.{ap, append_assoc, arith, eqb-true, inl, inr, subst, sym, true≢false, ◌∙◌}
+use Rattle.std.proofs.Common.{ap, eqb-true, subst, sym, true≢false, ◌∙◌}
 use Rattle.iox_wire_keeps.specs.Stored.{IsAddressed, IsStored, StoresAt}
-use Rattle.std.specs.Prelude.{Bool, List, false, if◌then◌else◌, length, refl, slice_index, true, ℕ, ◌&&◌, ◌*◌, ◌++◌, ◌+◌, ◌-◌, ◌<◌, ◌==◌, ◌≡◌, ◌≤◌}
+use Rattle.std.specs.Prelude.{Bool, List, false, if◌then◌else◌, length, refl, true, ℕ, ◌&&◌, ◌*◌, ◌+◌, ◌-◌, ◌<◌, ◌==◌, ◌≡◌, ◌≤◌}
 use Rattle.iox_laws.proofs.WeaveLedger.Truths.{never}
 use Rattle.iox_wire_calls.specs.Regions.{HasRegion}
-use Rattle.iox_model.specs.declared.kind.Role.{Role}
 use Rattle.iox_wire_calls.specs.Writes.{is_slot_of, with_payload}
 use Rattle.iox_wire_calls.specs.StoredMessages.{StandFrom, words_in}
-use Rattle.iox_wire_calls.specs.Stored.{header_length, header_words, message_words}
-use Rattle.iox_wire_calls.specs.Tables.{Setting, port_shape, region_word, words_before_payload}
-use Rattle.iox_model.specs.declared.kind.Role.TheVariants.{Client, Server}
-use Rattle.iox_laws.proofs.CallFunctions.Leads.{behind}
-use Rattle.iox_wire_calls.proofs.MessageLists.{header_count}
+use Rattle.iox_wire_calls.specs.Stored.{header_length, message_words}
+use Rattle.iox_wire_calls.specs.Tables.{Setting, port_shape, words_before_payload}
+use Rattle.iox_wire_calls.proofs.MessageStores.{joined, with_words}
 use Rattle.iox_wire_calls.specs.Local.TheVariants.{Ends}
 use Rattle.iox_wire_calls.specs.MomentsOf.{Pools}
-use Rattle.std.proofs.lemmas.List.{get_or-append-add, length-append}
-use Rattle.std.proofs.Math.ListN.{get_or-append}
 use Rattle.iox_wire_calls.specs.Fits.{WireContents}
 use Rattle.iox_wire_calls.specs.Ending.{Ending}
 use Rattle.iox_model.specs.Messages.{Message}
-use Rattle.std.proofs.lemmas.Bool.{cases_lt}
 use Rattle.iox_wire_calls.specs.Entry.{Entry}
 
 -- ---- a message with another payload
-
--- the words before the payload, and the payload, are those of a message
-joined : (p : Setting) (c : WireContents) (port slot : ℕ) (r : Role) (m : Message) (words : List ℕ) (from : ℕ) → from ≡ header_length r + length m.user
-    → StandFrom p c port slot 0 (message_words r m) from → StandFrom p c port slot from words (length words)
-    → StandFrom p c port slot 0 (header_words r m ++ (m.user ++ words)) (length (header_words r m ++ (m.user ++ words)))
-joined p c port slot r m words from is head tail k low = elim (cases_lt k from) [
-  | inl first ↦ (
-      let all : length (header_words r m ++ m.user) ≡ from = both in
-      let here : k < length (header_words r m ++ m.user) = omega arith in
-      head k first ∙ ap (λ xs. slice_index xs k) (sym (append_assoc (header_words r m) m.user m.payload))
-      ∙ get_or-append (header_words r m ++ m.user) m.payload 0 k here ∙ sym (get_or-append (header_words r m ++ m.user) words 0 k here)
-      ∙ ap (λ xs. slice_index xs k) (append_assoc (header_words r m) m.user words)
-      )
-  | inr behind ↦ (
-      let total : length (header_words r m ++ (m.user ++ words)) ≡ length (header_words r m) + length (m.user ++ words) = length-append (header_words r m) (m.user ++ words) in
-      let rest : length (m.user ++ words) ≡ length m.user + length words = length-append m.user words in
-      let all : length (header_words r m ++ m.user) ≡ from = both in
-      let head_count : length (header_words r m) ≡ header_length r = header_count r m in
-      let at : from + (k - from) ≡ 0 + k = omega arith in
-      let at' : length (header_words r m ++ m.user) + (k - from) ≡ k = omega arith in
-      ap (λ i. c.stored port (region_word p port slot i)) (sym at) ∙ tail (k - from) (omega arith)
-      ∙ sym (get_or-append-add (header_words r m ++ m.user) words (k - from) 0) ∙ ap (slice_index ((header_words r m ++ m.user) ++ words)) at'
-      ∙ ap (λ xs. slice_index xs k) (append_assoc (header_words r m) m.user words)
-      )
-]
-  where
-    both : length (header_words r m ++ m.user) ≡ from
-    both =
-        let a : length (header_words r m ++ m.user) ≡ length (header_words r m) + length m.user = length-append (header_words r m) m.user in
-        let b : length (header_words r m) ≡ header_length r = header_count r m in omega arith
-
-with_words : (r : Role) (m : Message) (words : List ℕ) → message_words r (record m { payload = words }) ≡ header_words r m ++ (m.user ++ words)
-with_words Client m words = refl
-with_words Server m words = refl
 
 -- a slot whose message has another payload, which stands there
 pub filled_slot : (p : Setting) (held new : Pools) (c : WireContents) (port slot : ℕ) (words : List ℕ) → new port slot ≡ record (held port slot) { payload = words }

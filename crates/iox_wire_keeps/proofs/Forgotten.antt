@@ -1,5 +1,4 @@
--- Who lives stays so over a step, and who was forgotten stays forgotten: so a way that is counted
--- after it was counted before.
+-- Who was forgotten stays forgotten over a step: so a way that is counted after it was counted before.
 use Rattle.iox_model.specs.Weaves as weaves
 use Rattle.iox_wire_calls.specs.Ending.TheVariants as endings
 use Rattle.iox_wire_calls.specs.Settlements as settle
@@ -7,7 +6,6 @@ use Rattle.iox_wire_calls.specs.Local.TheVariants.{ReleaseExchanges, ReleaseLook
 use Rattle.iox_model.specs.Handles.{is_received, is_request_loan}
 use Rattle.iox_model.specs.States.{Fixed, Port}
 use Rattle.iox_wire_calls.specs.Steps.{accessed, advance, closed, ending_at, next}
-use Rattle.iox_laws.proofs.WeaveLaws.DeathLaws.{settled-members}
 use Rattle.std.specs.Prelude.{Bool, List, None, Option, Some, [], false, find, not, refl, true, ℕ, ◌&&◌, ◌++◌, ◌-◌, ◌==◌, ◌∷◌, ◌≡◌}
 use Rattle.iox_wire_calls.specs.Tables.{Setting, way_in}
 use Rattle.iox_wire_calls.proofs.OthersSame.{view_same}
@@ -16,7 +14,6 @@ use Rattle.iox_wire_calls.specs.WholeSteps.{reply_beats, step_beats}
 use Rattle.iox_model.specs.declared.way.Way.{Way}
 use Rattle.iox_wire_calls.specs.Ending.{Ending}
 use Rattle.iox_model.specs.Peers.{forgot_port, is_connected_port, is_counted_on, node_of_port}
-use Rattle.iox_laws.proofs.WeaveLaws.WholeLemmas.{moved-members}
 use Rattle.iox_wire_calls.specs.Desks.{at_count, at_desk, gives_up}
 use Rattle.iox_wire_calls.specs.Seat.{Seat}
 use Rattle.iox_laws.proofs.WeaveLedger.Views.{View, less}
@@ -37,18 +34,6 @@ use Rattle.std.specs.Option.{option_map_or}
 use Rattle.iox_model.specs.Commands.{Reply}
 
 -- ---- the machine
-
--- who lives stays so
-replied_members : (n : ℕ) (payload : List ℕ) (reply : Option Reply) (w u : World) → IsWeave w (reply_beats n payload reply) u → u.state.members ≡ w.state.members
-replied_members n payload None w u woven = ap (λ (v : World). v.state.members) woven
-replied_members n payload (Some reply) w u woven =
-    ap (λ (v : World). v.state.members) woven.2 ∙ ap (λ (v : World). v.state.members) woven.1.7 ∙ settled-members w.state n payload woven.1.3
-
-pub members_stay : (n : ℕ) (payload : List ℕ) (m : Option Moment) (reply : Option Reply) (w u : World) → IsWeave w (step_beats n payload m reply) u
-    → u.state.members ≡ w.state.members
-members_stay n payload None reply w u woven = replied_members n payload reply w u woven
-members_stay n payload (Some m) reply w u woven =
-    replied_members n payload reply woven.0 u woven.2 ∙ ap (λ (v : World). v.state.members) woven.1.5 ∙ moved-members w.state m
 
 -- whom another node forgot stays so
 replied_forgot : (n k : ℕ) (payload : List ℕ) (reply : Option Reply) (w u : World) → IsReachable w → (k == n) ≡ false → IsWeave w (reply_beats n payload reply) u

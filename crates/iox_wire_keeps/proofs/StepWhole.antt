@@ -1,5 +1,6 @@
 -- The whole step of a node leads from what stands to what stands.
-use Rattle.iox_wire_keeps.proofs.Forgotten.{counted_back, forgot_next, forgot_stays, members_stay, shown_forgot}
+use Rattle.iox_wire_keeps.proofs.Forgotten.{counted_back, forgot_next, forgot_stays, shown_forgot}
+use Rattle.iox_wire_calls.proofs.CallsAround.{members_stay}
 use Rattle.iox_wire_calls.specs.Local.TheVariants.{ReleaseExchanges, ReleaseLooks}
 use Rattle.iox_wire_calls.specs.Holding.{held_after}
 use Rattle.iox_wire_keeps.proofs.StepParts.{payload_at, node_agrees, payload_fits, reads_low, shown_holds, stored_agrees}

@@ -32,7 +32,7 @@ pub leaves_picked : (x : Placed) (port : ℕ) (o : NewLoan) (slot : ℕ) (free :
     → LeavesSeat x (picked x port o slot free)
 leaves_picked x port o slot free rests = record {
   accesses = refl;
-  room = refl;
+  room = record { handles = refl; rooms = record { ways = refl; words = refl } };
   rests = rests;
   may = λ number other may. record {
     room = may.room;

@@ -169,11 +169,17 @@ StoresAhead (LendStores o slot next) count (Some loan) after =
     (after ≡ Idle) × (next + 1 ≡ count) × (loan ≡ entry_in o slot)
 StoresAhead local count loan after = ⊥
 
+-- there is as much room for ways, and for words
+pub record HasSameRooms (r s : Loaned) : Type 0 where
+  pub ways : s.ways_room ≡ r.ways_room
+  pub words : s.words_room ≡ r.words_room
+
 -- it is the same loan
 pub record IsSameLoan (r s : Loaned) : Type 0 where
   pub order : s.order ≡ r.order
   pub words : s.words ≡ r.words
   pub places : s.places ≡ r.places
+  pub rooms : HasSameRooms r s
 
 -- a handle of that number is to be lent by that port
 abbrev pub IsOrdered : Loaned → (number port : ℕ) → Type 0

@@ -50,7 +50,8 @@ response_refused p x e k =
 -- ---- a loan
 
 -- A loan: where it is, what it will be, the ways that follow and how many messages may return on
--- each, and where what it accesses stands: a queue, and the words of its message.
+-- each, and where what it accesses stands: a queue, and the words of its message. Last for how many
+-- ways, and for how many words, it has room.
 pub record Loaned : Type 0 where
   pub local : Local
   pub order : Order
@@ -61,6 +62,8 @@ pub record Loaned : Type 0 where
   pub places : SlotPlaces
   pub first : ℕ
   pub user : ℕ
+  pub ways_room : ℕ
+  pub words_room : ℕ
 
 -- what stands beside the name of a place
 pub record Beside : Type 0 where

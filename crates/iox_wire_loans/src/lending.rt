@@ -14,7 +14,7 @@ use iox_model::way::Way;
 use iox_steps::{Access, QueueKind, Site};
 use iox_wire_locals::CallRefusal;
 use iox_wire_seats::{Popper, Stops, StoredSeat};
-use std::alloc::Global;
+use std::alloc::{AllocError, Global};
 use std::marker::Model;
 
 const NO_ORDER: Order = Order {
@@ -49,7 +49,7 @@ const NO_PLACES: SlotPlaces = SlotPlaces {
     step: 0,
 };
 
-/// A loan of a node, beside what the node keeps. Only its begin takes memory.
+/// A loan of a node, beside what the node keeps. Only its making takes memory.
 #[derive(Drop)]
 pub struct Lending {
     at: LendAt,
@@ -61,8 +61,9 @@ pub struct Lending {
     room: usize,
     popper: Popper,
     site: Site,
-    /// the words of its message, and where the slots of its port stand
+    /// the words of its message, for how many there is room, and where the slots of its port stand
     words: Vec<u64>,
+    longest: usize,
     places: SlotPlaces,
     /// the slot that it took, where both headers stand there, and which word is stored next
     slot: u64,
@@ -74,6 +75,7 @@ pub struct Lending {
 }
 
 impl Model for Lending {
+    ghost use Rattle.std.specs.Prelude.{◌≤◌, vec_capacity};
     ghost use Rattle.iox_wire_seats.specs.Aims.{IsInMemory};
     ghost use Rattle.iox_wire_loans.specs.Aims.{AreVisited, HasWords, HasWordsLeft};
     ghost use Rattle.iox_wire_loans.specs.Loans.{Loaned, local_of};
@@ -84,29 +86,32 @@ impl Model for Lending {
       local = local_of l.at (record {
         order = l.order;
         way = l.way;
-        left = l.left;
+        left = l.left.left;
         popping = l.popper;
         slot = l.slot;
         next = l.next;
         refusal = l.refusal;
       });
       order = l.order;
-      left = l.left;
+      left = l.left.left;
       room = l.room;
       site = l.site;
       words = l.words.items;
       places = l.places;
       first = l.first;
       user = l.user;
+      ways_room = l.left.room;
+      words_room = l.longest;
     } };
 
     ghost invariant = { λ l.
-        IsInMemory l.site × AreVisited l.at l.room l.left × HasWords l.at l.words.items l.places
-        × HasWordsLeft l.at l.words.items l.places l.next l.first l.user };
+        IsInMemory l.site × AreVisited l.at l.room l.left.left × HasWords l.at l.words.items l.places
+        × HasWordsLeft l.at l.words.items l.places l.next l.first l.user
+        × (l.longest ≤ vec_capacity l.words) };
 }
 
 impl Lending {
-    ghost use Rattle.std.specs.Prelude.{◌≡◌, ◌+◌, ◌<◌, ◌^◌, None, false, is_none, true};
+    ghost use Rattle.std.specs.Prelude.{◌≡◌, ◌+◌, ◌<◌, ◌^◌, IfOk, None, false, is_none, true};
     ghost use Rattle.iox_wire_words.specs.Programs.{program_access};
     ghost use Rattle.iox_wire_locals.specs.declared.local.Local.TheVariants.{Idle};
     ghost use Rattle.iox_wire_locals.specs.declared.seat.Seat.{Seat};
@@ -118,26 +123,30 @@ impl Lending {
     ghost use Rattle.iox_wire_loans.specs.Aims.{Answers, GetsBackUsed, GoesOn, IsAimed};
     ghost use Rattle.iox_wire_loans.specs.Aims.{IsSameLoan, StaysAimed};
 
-    /// No loan is under way.
-    pub fn new(alloc: Global) -> Lending
-        ensures { result.local ≡ Idle }
+    /// No loan is under way, and there is room for so many ways, and for so many words of a message
+    /// in front of its payload.
+    pub fn new(alloc: Global, ways: usize, longest: usize) -> Result<Lending, AllocError>
+        ensures local { IfOk result (λ l. l.local ≡ Idle) }
+        ensures ways { IfOk result (λ l. l.ways_room ≡ ways) }
+        ensures words { IfOk result (λ l. l.words_room ≡ longest) }
     {
-        Lending {
+        Ok(Lending {
             at: LendAt::Rest,
             order: NO_ORDER,
             way: NO_WAY,
-            left: Stops::new(alloc),
+            left: Stops::new(alloc, ways)?,
             room: 0,
             popper: Popper::new(),
             site: NO_SITE,
-            words: Vec::new(alloc),
+            words: Vec::with_capacity(alloc, longest)?,
+            longest,
             places: NO_PLACES,
             slot: 0,
             first: 0,
             user: 0,
             next: 0,
             refusal: CallRefusal::WrongLength,
-        }
+        })
     }
 
     /// Whether a loan is under way.

@@ -1,5 +1,5 @@
 //! Callers, proved from the clauses alone.
-ghost use Rattle.std.specs.Prelude.{ℕ, ◌≡◌, ◌+◌, ◌<◌, ◌^◌, OnErr, OnOk, false, true};
+ghost use Rattle.std.specs.Prelude.{ℕ, ◌≡◌, ◌+◌, ◌<◌, ◌≤◌, ◌^◌, false, length, true};
 ghost use Rattle.iox_model.specs.declared.call.Call.TheVariants.{Loan};
 ghost use Rattle.iox_model.specs.Loans.{request_ways, response_ways};
 ghost use Rattle.iox_model.specs.States.{Port};
@@ -25,9 +25,8 @@ use crate::lending::Lending;
 use iox_steps::Access;
 use iox_wire_locals::Entry;
 use iox_wire_seats::{Stop, StoredSeat};
-use std::alloc::AllocError;
 
-/// A client's loan begins as the definitions begin it, or takes no memory and changes nothing.
+/// A client's loan begins as the definitions begin it.
 pub fn request_loan_begins(
     lending: &mut Lending,
     seat: &mut StoredSeat,
@@ -35,17 +34,18 @@ pub fn request_loan_begins(
     number: u64,
     elements: u64,
     stops: &[Stop],
-) -> Result<(), AllocError>
+)
     requires rests { is_busy lending.old.local ≡ false }
     requires seat { is_busy seat.old.seat.local ≡ false }
     requires whole { IsWhole lender.now }
     requires within { QueuesInMemory Index lender.now.room stops.now }
+    requires fits { length stops.now ≤ lending.old.ways_room }
+    requires words { lender.now.places.slot_words ≤ lending.old.words_room }
     ensures begun { (p : Setting) → (n : ℕ) → (q : Port) → q ≡ p.port lender.now.port
         → IsLender p lender.now → IsClient p lender.now → number ≡ next_handle p seat.old.seat
         → ways_of stops.now ≡ request_ways (known p seat.old.seat) q.node lender.now.port
-        → OnOk result (placed seat.new.seat lending.new.local
-        ≡ begins_at_port p seat.old.seat (Loan n elements) q) }
-    ensures unchanged { OnErr result (seat.new ≡ seat.old) }
+        → placed seat.new.seat lending.new.local
+        ≡ begins_at_port p seat.old.seat (Loan n elements) q }
 {
     lending.lend_request(seat, lender, number, elements, stops)
 }
@@ -59,18 +59,19 @@ pub fn response_loan_begins(
     number: u64,
     elements: u64,
     stops: &[Stop],
-) -> Result<(), AllocError>
+)
     requires rests { is_busy lending.old.local ≡ false }
     requires seat { is_busy seat.old.seat.local ≡ false }
     requires whole { IsWhole lender.now }
     requires within { QueuesInMemory Index lender.now.room stops.now }
+    requires fits { length stops.now ≤ lending.old.ways_room }
+    requires words { lender.now.places.slot_words ≤ lending.old.words_room }
     ensures begun { (p : Setting) → (n : ℕ) → IsLender p lender.now → IsServer p lender.now
         → request.port ≡ lender.now.port → number ≡ next_handle p seat.old.seat
         → ways_of stops.now
         ≡ response_ways (known p seat.old.seat) (p.port lender.now.port).node lender.now.port
-        → OnOk result (placed seat.new.seat lending.new.local
-        ≡ begins_at_entry p seat.old.seat (Loan n elements) request) }
-    ensures unchanged { OnErr result (seat.new ≡ seat.old) }
+        → placed seat.new.seat lending.new.local
+        ≡ begins_at_entry p seat.old.seat (Loan n elements) request }
 {
     lending.lend_response(seat, lender, request, number, elements, stops)
 }

@@ -14,6 +14,7 @@ pub mod PlaceBounds
 pub use Rattle.iox_wire_keeps.proofs.AccessesMade
 pub use Rattle.iox_wire_keeps.proofs.BeginBeats
 pub use Rattle.iox_wire_keeps.proofs.BeginWhole
+pub use Rattle.iox_wire_keeps.proofs.CallsAround
 pub use Rattle.iox_wire_keeps.proofs.Forgotten
 pub use Rattle.iox_wire_keeps.proofs.LanesTell
 pub use Rattle.iox_wire_keeps.proofs.NamedSlots

@@ -62,7 +62,8 @@ use Rattle.iox_wire_keeps.specs.WireStands.{WireStands}
 use Rattle.iox_wire_keeps.proofs.OwnWrites.{loan_kept}
 use Rattle.iox_wire_keeps.proofs.StepMessages as messages
 use Rattle.iox_wire_needs.specs.Counts.{IsTidy}
-use Rattle.iox_wire_needs.specs.Uses.{AccessesFindInUse, FindsInUse, GetsBackInUse, HaveFewWays, LoansGetBackInUse, WhatIsSentIsInUse}
+use Rattle.iox_wire_loans.specs.Aims.{GetsBackUsed}
+use Rattle.iox_wire_needs.specs.Uses.{AccessesFindInUse, FindsInUse, HaveFewWays, LoansGetBackInUse, WhatIsSentIsInUse}
 use Rattle.iox_wire_needs.proofs.AtDesks.{at_desk, different_after, few_found}
 use Rattle.iox_wire_needs.proofs.Places.{node, stored}
 
@@ -332,7 +333,7 @@ accesses_find_in_use p words words' players r n wire living busy few made len ti
 -- ---- what a loan gets back
 
 gets_back : (p : Setting) (x : Seat) (seen : ℕ) → ((w : Way) → p.layout.kind (ReturningQueue w) ≡ Index) → (local : Local) → FindsInUse p x local seen
-    → GetsBackInUse x local
+    → GetsBackUsed x local
 gets_back p x seen index (LendEmpties o w (popping.Pops (pop.Takes read slot)) left) finds =
     finds slot (ap (λ k. if is_taken k read seen then HandOut slot else Quiet) (index w))
 gets_back p x seen index local finds = tt

@@ -9,6 +9,7 @@ use Rattle.iox_steps.specs.declared.pop.Pop.TheVariants as pop
 use Rattle.iox_steps.specs.declared.side.Popping.TheVariants as popping
 use Rattle.iox_steps.specs.declared.side.QueueEvent.TheVariants.{HandOut, Learn, Publish}
 use Rattle.iox_word_map.specs.WordMaps.{MessageQueue, ReturningQueue}
+use Rattle.iox_wire_loans.specs.Aims.{GetsBackUsed}
 use Rattle.iox_wire_keeps.specs.Laws.{IsMade}
 use Rattle.iox_wire_keeps.specs.Programs.{program_access}
 use Rattle.iox_wire_keeps.specs.Local.{Local}
@@ -64,18 +65,12 @@ AccessesFindInUse =
     → IsMade access (word_of words) (word_of words') → length words' ≡ length words → IsTidy x
     → HaveFewWays x.desks → FindsInUse p x x.local (seen_by access (word_of words))
 
--- the slot that a loan gets back with its next access is in use
-abbrev pub GetsBackInUse : Seat → Local → Type 0
-GetsBackInUse x (LendEmpties o w (popping.Pops (pop.Takes read slot)) left) =
-    IsUsed o.port slot x.desks
-GetsBackInUse x local = Unit {0}
-
--- So it is of each loan, whatever its access finds, where returning queues are queues of indices: these
--- have no other taker.
+-- The slot that a loan gets back with its next access is in use, whatever its access finds, where returning
+-- queues are queues of indices: these have no other taker.
 abbrev pub LoansGetBackInUse : Type 0
 LoansGetBackInUse =
     (p : Setting) (x : Seat) (seen : ℕ) → ((w : Way) → p.layout.kind (ReturningQueue w) ≡ Index)
-    → FindsInUse p x x.local seen → GetsBackInUse x x.local
+    → FindsInUse p x x.local seen → GetsBackUsed x x.local
 
 -- A request that a living node's call sends may be given up: its slot is in use, and fewer lanes are
 -- free than its client has.

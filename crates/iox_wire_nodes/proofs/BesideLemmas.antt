@@ -26,17 +26,12 @@ use Rattle.iox_wire_begins.specs.CopyCalls.{CopyCall}
 use Rattle.iox_wire_begins.specs.ResponseCopies as response_copies
 use Rattle.iox_wire_begins.specs.ResponseCopies.{ResponseCopy}
 use Rattle.iox_wire_nodes.specs.declared.call_at.CallAt.TheVariants as at
-use Rattle.iox_wire_nodes.specs.Begins.{IsBegun, IsReady, IsUnchanged, IsUnderWay}
+use Rattle.iox_wire_nodes.specs.Begins.{IsBegun, IsReady, IsUnderWay}
 use Rattle.iox_wire_nodes.specs.Nodes.{Node, seat_at, seat_in}
 
 -- a call that is begun is under way
 pub is_under_way : (p : Setting) (old : Node) (call : WireCall) (new : Node) → IsBegun p old call new → IsUnderWay p old call new
 is_under_way p old call new by = record { allowed = by.allowed; begun = by.begun; aimed = λ of_pools. by.aimed; ready = by.ready }
-
--- what is as it was is unchanged
-pub is_unchanged : (old new : Node) → new ≡ old → IsUnchanged old new
-is_unchanged old new same =
-    subst (λ (n : Node). IsUnchanged old n) (sym same) (record { seat = refl; place = refl; going = λ busy. refl; aimed = λ p aimed. aimed })
 
 -- the node's own seat, as the code has it
 pub own_seat : {n old : Node} → n ≡ old → seat_in old ≡ old.seat.seat → seat_in old ≡ n.seat.seat
@@ -97,24 +92,6 @@ next_number_is t p same first = ap₂ (λ a b. a + b) (sym first) (ap (λ (o : N
 pub stands_at : (plan : WirePlan) (old : Node) (n : ℕ) (e : Entry) → entry_at n old.seat.seat.table ≡ Some e
     → IfSome (entry_at n old.seat.seat.table) (HandleStands plan old.seat.seat.desks) → HandleStands plan old.seat.seat.desks e
 stands_at plan old n e found stands = subst (λ (o : Option Entry). IfSome o (HandleStands plan old.seat.seat.desks)) found stands
-
--- a node at rest accesses no word
-aimed_at_rest : (p : Setting) (x : Placed) (local : Local) → is_busy local ≡ false → seats.AreAimed p local x
-aimed_at_rest p x Idle rests = tt
-aimed_at_rest p x local rests = absurd (true≢false rests)
-
--- what is left of a copy that did not begin
-pub copy_left : {m old : Node} (s : Placed) (y : CopyCall) → m ≡ old → seat_in old ≡ old.seat.seat → is_busy (seat_in old).local ≡ false → s ≡ m.seat
-    → IsUnchanged old (record m { at = at.Seats; seat = s; copies_request = y })
-copy_left {m} {old} s y same own rests seat =
-    let alike : s ≡ old.seat = seat ∙ ap (λ (o : Node). o.seat) same in (
-    record {
-      seat = alike;
-      place = ap (λ (z : Placed). z.seat) alike ∙ sym own;
-      going = λ busy. absurd (true≢false (sym busy ∙ rests));
-      aimed = λ p aimed. aimed_at_rest p s s.seat.local (ap (λ (z : Placed). is_busy z.seat.local) alike ∙ sym (ap (λ (z : Seat). is_busy z.local) own) ∙ rests);
-    }
-    )
 
 -- how many handles it made
 pub handles_in : (a : CallAt) (n : Node) → (seat_at a n).handles_made ≡ n.seat.seat.handles_made

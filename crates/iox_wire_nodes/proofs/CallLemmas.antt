@@ -16,10 +16,9 @@ use Rattle.iox_wire_nodes.specs.declared.handle_call.HandleCall.{HandleCall}
 use Rattle.iox_wire_nodes.specs.declared.handle_call.HandleCall.TheVariants as handle_calls
 use Rattle.iox_wire_nodes.specs.declared.node_call.NodeCall.{NodeCall}
 use Rattle.iox_wire_nodes.specs.declared.node_call.NodeCall.TheVariants as node_calls
-use Rattle.iox_wire_nodes.specs.Begins.{IsLeftBy}
 use Rattle.iox_wire_nodes.specs.Calls.{IsKeptAt, asked_by, asked_in, call_in, number_in, of_handle, payload_of}
 use Rattle.iox_wire_nodes.specs.Nodes.{Node, seat_in}
-use Rattle.iox_wire_nodes.proofs.BesideLemmas.{handles_in, is_unchanged}
+use Rattle.iox_wire_nodes.proofs.BesideLemmas.{handles_in}
 
 -- no payload is asked
 abbrev pub none : Payload
@@ -87,13 +86,3 @@ module _ (p : Setting) (call : NodeCall) (asked : Asked) (number : ℕ) (asks : 
 pub next_is : (plan : WirePlan) (t : WireTerms) (p : Setting) (n : Node) (next : ℕ) → IsSettingWith plan t p → next ≡ t.first_number + n.seat.seat.handles_made
     → next ≡ next_handle p (seat_in n)
 next_is plan t p n next with is = is ∙ ap₂ (λ a b. a + b) (sym with.first_number) (sym (handles_in n.at n))
-
--- a node that stays is left so by each begin
-pub left_as_it_was : (call : NodeCall) (old new : Node) → new ≡ old → IsLeftBy call old new
-left_as_it_was (node_calls.SendCopy n y) old new same = is_unchanged old new same
-left_as_it_was (node_calls.Loan n k) old new same = same
-left_as_it_was (node_calls.Write n y) old new same = same
-left_as_it_was (node_calls.Send n) old new same = same
-left_as_it_was (node_calls.Receive n) old new same = same
-left_as_it_was (node_calls.HasRequests n) old new same = same
-left_as_it_was (node_calls.Handle n h) old new same = same

@@ -6,6 +6,7 @@ pub mod StayLemmas
 pub mod NameLemmas
 pub mod PortsKept
 pub mod CallLemmas
+pub mod RoomsKept
 -- what the crates above cite of those below
 pub use Rattle.iox_wire_begins.proofs.Aside
 pub use Rattle.iox_wire_begins.proofs.Layouts

@@ -49,10 +49,10 @@ module _ (p : Setting) (n : Node) where
 
   -- a loan that is a handle adds none
   pub ready_to_send_request : (y : RequestDispatch) → y.copied ≡ false → IsReady p n (record n { at = at.SendsRequest; requests = y })
-  ready_to_send_request y own = record { accesses = refl; room = refl; may = λ lends. own }
+  ready_to_send_request y own = record { accesses = refl; room = record { handles = refl; rooms = record { ways = refl; words = refl } }; may = λ lends. own }
 
   pub ready_to_send_response : (y : Dispatch) → y.copied ≡ false → IsReady p n (record n { at = at.SendsResponse; responds = y })
-  ready_to_send_response y own = record { accesses = refl; room = refl; may = λ lends. own }
+  ready_to_send_response y own = record { accesses = refl; room = record { handles = refl; rooms = record { ways = refl; words = refl } }; may = λ lends. own }
 
 -- the node is told as its own code has it
 pub sent_so : (p : Setting) {n old : Node} {new : Node} → n ≡ old → IsReady p n new → IsReady p old new

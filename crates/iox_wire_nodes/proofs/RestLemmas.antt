@@ -24,6 +24,7 @@ use Rattle.iox_wire_begins.specs.Tables.{Setting}
 use Rattle.iox_wire_begins.specs.ReceivesAims as receives
 use Rattle.iox_wire_begins.specs.Receipts.{Receipt}
 use Rattle.iox_wire_begins.specs.Seats.{Placed}
+use Rattle.iox_wire_begins.specs.Aims.{HasSameRooms}
 use Rattle.iox_wire_nodes.specs.Begins.{IsBegun, IsReady}
 use Rattle.iox_wire_begins.proofs.BeginCounts.{begins_alike}
 use Rattle.iox_wire_begins.specs.Entry.{Entry}
@@ -49,9 +50,9 @@ seat_rests n at.CopiesResponse own rests = at_its_place n.seat.seat n.copies_res
 
 -- what begins in the seat begins so
 pub begun_in : (p : Setting) (call : WireCall) {n old : Node} (y : Placed) → n ≡ old → RestsUnless (same_call at.Seats n.at) n.seat.seat.local
-    → is_busy (seat_in old).local ≡ false → handles.IsBegun p n.seat call y → y.seat.accesses ≡ n.seat.seat.accesses → y.room ≡ n.seat.room
+    → is_busy (seat_in old).local ≡ false → handles.IsBegun p n.seat call y → y.seat.accesses ≡ n.seat.seat.accesses → y.room ≡ n.seat.room → HasSameRooms n.seat y
     → IsBegun p old call (record n { at = at.Seats; seat = y })
-begun_in p call {n} y same own rests by accesses room =
+begun_in p call {n} y same own rests by accesses room rooms =
     let alike : seat_in n ≡ n.seat.seat = seat_rests n n.at own (ap (λ (o : Node). is_busy (seat_in o).local) same ∙ rests) in
     subst (λ (o : Node). IsBegun p o call (record n { at = at.Seats; seat = y })) same (record {
       allowed = ap (λ (x : Seat). refusal_at p x call) alike ∙ by.allowed;
@@ -59,7 +60,7 @@ begun_in p call {n} y same own rests by accesses room =
       aimed = by.aimed;
       ready = record {
         accesses = accesses;
-        room = ap₂ (λ (k : ℕ) (es : List Entry). k + length es) room (ap (λ (x : Seat). x.table) by.begun ∙ (begins_alike p n.seat.seat call).table);
+        room = record { handles = ap₂ (λ (k : ℕ) (es : List Entry). k + length es) room (ap (λ (x : Seat). x.table) by.begun ∙ (begins_alike p n.seat.seat call).table); rooms = rooms };
         may = λ lends. tt;
       };
     })
@@ -71,7 +72,7 @@ pub ready_to_receive : (p : Setting) (n : Node) (y : Receipt) → y.terms.number
     → IsReady p n (record n { at = at.Receives; receives = y })
 ready_to_receive p n y number counts = record {
   accesses = refl;
-  room = refl;
+  room = record { handles = refl; rooms = record { ways = refl; words = refl } };
   may = λ lends. (
     subst (λ (k : ℕ). receives.MayReceive n.seat k) (sym number)
         (record { room = (lends tt 0).room; newer = (lends tt 0).newer; handles = (lends tt 0).handles }),

@@ -19,8 +19,6 @@ use Rattle.iox_wire_nodes.specs.declared.call_at.CallAt.TheVariants as at
 use Rattle.iox_wire_nodes.specs.declared.node_error.NodeError.{NodeError}
 use Rattle.iox_wire_nodes.specs.declared.node_error.NodeError.TheVariants as errors
 use Rattle.iox_wire_nodes.specs.declared.handle_call.HandleCall.{HandleCall}
-use Rattle.iox_wire_nodes.specs.declared.node_call.NodeCall.{NodeCall}
-use Rattle.iox_wire_nodes.specs.declared.node_call.NodeCall.TheVariants.{SendCopy}
 use Rattle.iox_wire_nodes.specs.Calls.{of_handle}
 use Rattle.iox_wire_nodes.specs.Aims.{IsAimed, MayAdd, TellsOfPools}
 use Rattle.iox_wire_nodes.specs.Nodes.{Node, seat_in}
@@ -65,27 +63,13 @@ pub record IsAtOnce (p : Setting) (old : Node) (there : Seat) (new : Node) : Typ
   pub aimed : IsAimed p new
   pub ready : IsReady p old new
 
--- Nothing of the node changes that a caller may see: what it keeps for itself, and where it is in its
--- call. It still knows the places of the words that it accesses; with a call under way it is the same.
-pub record IsUnchanged (old new : Node) : Type 0 where
-  pub seat : new.seat ≡ old.seat
-  pub place : seat_in new ≡ seat_in old
-  pub going : is_busy (seat_in old).local ≡ true → new ≡ old
-  pub aimed : (p : Setting) → IsAimed p old → IsAimed p new
-
--- What a begin that is refused leaves: the node as it was, or, of a copy, one of which a caller sees
--- nothing else.
-abbrev pub IsLeftBy : NodeCall → Node → Node → Type 0
-IsLeftBy (SendCopy n y) old new = IsUnchanged old new
-IsLeftBy call old new = new ≡ old
-
 -- the call by which a loan of that kind is sent
 abbrev pub send_at : Kind → CallAt
 send_at kind = if is_request_loan kind then at.SendsRequest else at.SendsResponse
 
 -- ---- why no call begins
 
--- the machine's name of a refusal; want of memory is none
+-- the machine's name of a refusal
 abbrev pub node_refusal : NodeError → Option Refusal
 node_refusal (errors.Begin error) = refusal_in error
 

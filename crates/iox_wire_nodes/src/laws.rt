@@ -1,6 +1,6 @@
 //! Laws of the room that a node has for handles, and of its ports.
 ghost use Rattle.iox_wire_nodes.specs.Ports.{BeginsKeepPorts, StepsKeepPorts};
-ghost use Rattle.iox_wire_nodes.specs.Rooms.{RoomIsLeft, RoomStays};
+ghost use Rattle.iox_wire_nodes.specs.Rooms.{RoomIsLeft, RoomStays, RoomSuffices};
 
 /// Where room is neither made nor lost, a node keeps the room that it has.
 pub fn nodes_keep_their_room()
@@ -20,4 +20,9 @@ pub fn steps_keep_ports()
 /// Nor does a begin.
 pub fn begins_keep_ports()
     ensures { BeginsKeepPorts }
+{}
+
+/// A node that keeps as much room as it has for what calls keep has room for any of them.
+pub fn nodes_with_as_much_room_begin()
+    ensures { RoomSuffices }
 {}

@@ -24,7 +24,7 @@ use iox_steps::Access;
 use iox_wire_begins::{
     CopyingClient, CopyingServer, Lending, Receiving, Requesting, Responding, StoredSeat,
 };
-use std::alloc::Global;
+use std::alloc::{AllocError, Global};
 use std::marker::Model;
 
 /// A node of a wire: what it keeps for itself, and the call that is under way.
@@ -73,7 +73,7 @@ impl Model for StoredNode {
 }
 
 impl StoredNode {
-    ghost use Rattle.std.specs.Prelude.{◌≡◌, ◌+◌, ◌<◌, ◌^◌, IfSome, false, true};
+    ghost use Rattle.std.specs.Prelude.{◌≡◌, ◌+◌, ◌<◌, ◌^◌, IfOk, IfSome, false, true};
     ghost use Rattle.iox_wire_begins.specs.Programs.{program_access};
     ghost use Rattle.iox_wire_begins.specs.Begins.{is_busy};
     ghost use Rattle.iox_wire_begins.specs.Locals.{program_of};
@@ -83,24 +83,32 @@ impl StoredNode {
     ghost use Rattle.iox_wire_nodes.specs.Aims.{Answers, GoesOn, IsAimed, MayGoOn, StaysAimed};
     ghost use Rattle.iox_wire_nodes.specs.Aims.{StaysReady};
     ghost use Rattle.iox_wire_nodes.specs.Nodes.{answered_at, seat_in};
+    ghost use Rattle.iox_wire_nodes.specs.Rooms.{HasRoomOf, KeepsRooms};
 
-    /// A node with that seat, which is between calls.
-    pub fn new(alloc: Global, seat: StoredSeat) -> StoredNode
+    /// A node with that seat, which is between calls. Whatever call it keeps beside the seat has
+    /// room for so many ways, and for so many words of a message.
+    pub fn new(
+        alloc: Global,
+        seat: StoredSeat,
+        ways: usize,
+        longest: usize,
+    ) -> Result<StoredNode, AllocError>
         requires { is_busy seat.seat.local ≡ false }
-        ensures seat { seat_in result ≡ seat.seat }
-        ensures whole { result.seat ≡ seat }
-        ensures at { result.at ≡ Seats }
+        ensures seat { IfOk result (λ node. seat_in node ≡ seat.seat) }
+        ensures whole { IfOk result (λ node. node.seat ≡ seat) }
+        ensures at { IfOk result (λ node. node.at ≡ Seats) }
+        ensures rooms { IfOk result (HasRoomOf ways longest) }
     {
-        StoredNode {
+        Ok(StoredNode {
             at: CallAt::Seats,
             seat,
-            receiving: Receiving::new(alloc),
-            lending: Lending::new(alloc),
-            requesting: Requesting::new(alloc),
+            receiving: Receiving::new(alloc, ways)?,
+            lending: Lending::new(alloc, ways, longest)?,
+            requesting: Requesting::new(alloc, ways)?,
             responding: Responding::new(),
-            copying_client: CopyingClient::new(alloc),
-            copying_server: CopyingServer::new(alloc),
-        }
+            copying_client: CopyingClient::new(alloc, ways, longest)?,
+            copying_server: CopyingServer::new(alloc, ways, longest)?,
+        })
     }
 
     /// Whether a call is under way.
@@ -158,6 +166,7 @@ impl StoredNode {
         ensures call { self.new.at ≡ self.old.at }
         ensures accesses { self.new.seat.seat.accesses ≡ self.old.seat.seat.accesses + 1 }
         ensures room { KeepsRoom self.old.seat self.new.seat }
+        ensures rooms { KeepsRooms self.old self.new }
     {
         let seat = &mut self.seat;
         match self.at {

@@ -1,15 +1,13 @@
 //! Why a call of a node does not begin.
 ghost use Rattle.std.specs.Prelude.{◌≡◌};
-ghost use Rattle.iox_wire_begins.specs.BeginError.TheVariants.{WantOfMemory};
 ghost use Rattle.iox_wire_nodes.specs.declared.node_error.NodeError.TheVariants.{Begin};
 
 use iox_wire_begins::BeginError;
-use std::alloc::AllocError;
 
 /// Why a call of a node does not begin. The first that applies is told.
 #[derive(Clone, Copy, Debug, PartialEq, Eq)]
 pub enum NodeError {
-    /// It is refused, or there is no memory for it.
+    /// It is refused.
     Begin(BeginError),
 }
 
@@ -18,13 +16,5 @@ impl From<BeginError> for NodeError {
 
     fn from(error: BeginError) -> NodeError {
         NodeError::Begin(error)
-    }
-}
-
-impl From<AllocError> for NodeError {
-    ghost from_gives = { λ _ error. error ≡ Begin WantOfMemory };
-
-    fn from(_error: AllocError) -> NodeError {
-        NodeError::Begin(BeginError::WantOfMemory)
     }
 }

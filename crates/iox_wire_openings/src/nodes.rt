@@ -100,18 +100,23 @@ fn open_counts(alloc: Global, plan: &WirePlan, node: u64) -> Result<Counts, Allo
     Ok(Counts::new(counts))
 }
 
-/// The node as the wire opens, with room for so many handles.
+/// The node as the wire opens, with room for so many handles, for so many ways that a call visits,
+/// and for so many words of a message.
 pub fn open_node(
     alloc: Global,
     plan: &WirePlan,
     node: u64,
     room: usize,
+    ways: usize,
+    longest: usize,
 ) -> Result<StoredSeat, AllocError>
     requires { AreDistinct (port_numbers plan.now) }
     ensures seat { IfOk result (λ seat. seat.seat ≡ planned_seat plan.now node) }
     ensures room { IfOk result (λ seat. seat.room ≡ room) }
+    ensures ways { IfOk result (λ seat. seat.ways_room ≡ ways) }
+    ensures words { IfOk result (λ seat. seat.words_room ≡ longest) }
 {
     let desks = open_desks(alloc, plan, node)?;
     let counts = open_counts(alloc, plan, node)?;
-    StoredSeat::new(alloc, node, room, desks, counts)
+    StoredSeat::new(alloc, node, room, ways, longest, desks, counts)
 }

@@ -170,3 +170,4 @@ pub record IsOnSameWay (r s : Receipt) : Type 0 where
   pub terms : s.terms ≡ r.terms
   pub source : s.source ≡ r.source
   pub left : s.left ≡ r.left
+  pub room : s.room ≡ r.room

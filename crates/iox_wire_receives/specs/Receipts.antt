@@ -18,8 +18,14 @@ use Rattle.iox_wire_receives.specs.declared.source.Source.{Source}
 use Rattle.iox_wire_receives.specs.declared.source.ReceiveTerms.{ReceiveTerms}
 use Rattle.iox_wire_receives.specs.Sources.{ways_of}
 
+-- The ways that a receive still visits, and for how many there is room.
+pub record Visits : Type 0 where
+  pub left : List Source
+  pub room : ℕ
+
 -- A receive: where it is, who receives, the way that it visits and those that follow, what it took,
--- and where what it accesses stands: a queue, and the words of a header or a request state.
+-- and where what it accesses stands: a queue, and the words of a header or a request state. Last for how
+-- many ways it has room.
 pub record Receipt : Type 0 where
   pub local : Local
   pub visit : Visit
@@ -31,6 +37,7 @@ pub record Receipt : Type 0 where
   pub header : List ℕ
   pub site : Site
   pub place : ℕ
+  pub room : ℕ
 
 -- what stands beside the name of a place
 pub record Beside : Type 0 where

@@ -16,8 +16,11 @@ use iox_model::way::Way;
 use iox_steps::{Access, QueueKind, Site};
 use iox_wire_locals::Visit;
 use iox_wire_seats::{Popper, Pusher, StoredSeat};
-use std::alloc::Global;
+use std::alloc::{AllocError, Global};
 use std::marker::Model;
+
+/// No header has more words.
+const LONGEST_HEADER: usize = 7;
 
 const NO_VISIT: Visit = Visit {
     port: 0,
@@ -58,7 +61,7 @@ const NO_SITE: Site = Site {
     capacity: 0,
 };
 
-/// A receive of a node, beside what the node keeps. Only `begin` takes memory.
+/// A receive of a node, beside what the node keeps. Only `new` takes memory.
 #[derive(Drop)]
 pub struct Receiving {
     at: ReceiveAt,
@@ -82,7 +85,7 @@ pub struct Receiving {
 }
 
 impl Model for Receiving {
-    ghost use Rattle.std.specs.Prelude.{vec_capacity};
+    ghost use Rattle.std.specs.Prelude.{◌≤◌, vec_capacity};
     ghost use Rattle.iox_wire_seats.specs.Aims.{IsInMemory};
     ghost use Rattle.iox_wire_receives.specs.Aims.{AreVisited, HasHeader};
     ghost use Rattle.iox_wire_receives.specs.Receipts.{Receipt, local_of};
@@ -93,7 +96,7 @@ impl Model for Receiving {
       local = local_of r.at (record {
         visit = r.visit;
         source = r.source;
-        left = r.left;
+        left = r.left.left;
         waiting = r.waiting;
         again = r.again;
         slot = r.slot;
@@ -104,21 +107,23 @@ impl Model for Receiving {
       visit = r.visit;
       terms = r.terms;
       source = r.source;
-      left = r.left;
+      left = r.left.left;
       waiting = r.waiting;
       slot = r.slot;
       header = r.header.items;
       site = r.site;
       place = r.place;
+      room = r.left.room;
     } };
 
     ghost invariant = { λ r.
-        IsInMemory r.site × AreVisited r.at r.visit r.terms r.source r.left
-        × HasHeader r.at r.visit r.header.items r.place (vec_capacity r.header) };
+        IsInMemory r.site × AreVisited r.at r.visit r.terms r.source r.left.left
+        × HasHeader r.at r.visit r.header.items r.place (vec_capacity r.header)
+        × (7 ≤ vec_capacity r.header) };
 }
 
 impl Receiving {
-    ghost use Rattle.std.specs.Prelude.{◌≡◌, ◌+◌, ◌<◌, ◌^◌, None, true};
+    ghost use Rattle.std.specs.Prelude.{◌≡◌, ◌+◌, ◌<◌, ◌^◌, IfOk, None, true};
     ghost use Rattle.iox_wire_words.specs.Programs.{program_access};
     ghost use Rattle.iox_wire_locals.specs.declared.local.Local.TheVariants.{Idle};
     ghost use Rattle.iox_wire_locals.specs.declared.seat.Seat.{Seat};
@@ -129,25 +134,26 @@ impl Receiving {
     ghost use Rattle.iox_wire_receives.specs.Aims.{Answers, GoesOn, HasRoomFor, IsAimed};
     ghost use Rattle.iox_wire_receives.specs.Aims.{MayReceive, StaysAimed};
 
-    /// No receive is under way.
-    pub fn new(alloc: Global) -> Receiving
-        ensures { result.local ≡ Idle }
+    /// No receive is under way, and there is room for so many ways.
+    pub fn new(alloc: Global, ways: usize) -> Result<Receiving, AllocError>
+        ensures local { IfOk result (λ r. r.local ≡ Idle) }
+        ensures ways { IfOk result (λ r. r.room ≡ ways) }
     {
-        Receiving {
+        Ok(Receiving {
             at: ReceiveAt::Rest,
             visit: NO_VISIT,
             terms: NO_TERMS,
             source: NO_SOURCE,
-            left: Sources::new(alloc),
+            left: Sources::new(alloc, ways)?,
             waiting: false,
             again: false,
             slot: 0,
-            header: Vec::new(alloc),
+            header: Vec::with_capacity(alloc, LONGEST_HEADER)?,
             popper: Popper::new(),
             pusher: Pusher::new(),
             site: NO_SITE,
             place: 0,
-        }
+        })
     }
 
     /// Whether a receive is under way.
@@ -188,6 +194,7 @@ impl Receiving {
         ensures may { result ≡ None → MayReceive seat.new self.new.terms.number }
         ensures counts { HasRoomFor seat.new.seat self.new.local }
         ensures terms { self.new.terms ≡ self.old.terms }
+        ensures ways { self.new.room ≡ self.old.room }
     {
         match self.at {
             ReceiveAt::Rest => None,

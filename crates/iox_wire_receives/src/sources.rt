@@ -5,60 +5,62 @@ use crate::source::Source;
 use std::alloc::{AllocError, Global};
 use std::marker::Model;
 
-/// The ways that a receive still visits, in their order. Only `fill` takes memory.
+/// The ways that a receive still visits, in their order. Only `new` takes memory.
 #[derive(Drop)]
 pub struct Sources {
     sources: Vec<Source>,
     // how many were visited
     turn: usize,
+    // for how many there is room
+    room: usize,
 }
 
 impl Model for Sources {
-    ghost use Rattle.std.specs.Prelude.{◌≤◌, List, drop, length};
-    ghost use Rattle.iox_wire_receives.specs.declared.source.Source.{Source};
+    ghost use Rattle.std.specs.Prelude.{◌≤◌, drop, length, vec_capacity};
+    ghost use Rattle.iox_wire_receives.specs.Receipts.{Visits};
 
-    ghost Value = { List Source };
+    ghost Value = { Visits };
 
-    ghost view = { λ s. drop s.turn s.sources.items };
+    ghost view = { λ s. record { left = drop s.turn s.sources.items; room = s.room } };
 
-    ghost invariant = { λ s. s.turn ≤ length s.sources.items };
+    ghost invariant = { λ s. (s.turn ≤ length s.sources.items)
+        × (s.room ≤ vec_capacity s.sources) };
 }
 
 impl Sources {
-    ghost use Rattle.std.specs.Prelude.{◌≡◌, ◌∷◌, [], IfSome, None, OnErr, OnOk};
+    ghost use Rattle.std.specs.Prelude.{◌≡◌, ◌≤◌, ◌∷◌, [], IfOk, IfSome, None, length};
 
-    /// None are left.
-    pub fn new(alloc: Global) -> Sources
-        ensures { result ≡ [] }
+    /// None are left, and there is room for so many.
+    pub fn new(alloc: Global, room: usize) -> Result<Sources, AllocError>
+        ensures { IfOk result (λ sources. sources ≡ record { left = []; room = room }) }
     {
-        Sources {
-            sources: Vec::new(alloc),
+        Ok(Sources {
+            sources: Vec::with_capacity(alloc, room)?,
             turn: 0,
-        }
+            room,
+        })
     }
 
     /// Those are left now.
-    pub fn fill(&mut self, sources: &[Source]) -> Result<(), AllocError>
-        ensures filled { OnOk result (self.new ≡ sources.now) }
-        ensures unchanged { OnErr result (self.new ≡ self.old) }
+    pub fn fill(&mut self, sources: &[Source])
+        requires { length sources.now ≤ self.old.room }
+        ensures filled { self.new.left ≡ sources.now }
+        ensures room { self.new.room ≡ self.old.room }
     {
-        if self.sources.capacity() < sources.len() {
-            self.sources.reserve(sources.len())?;
-        }
         self.sources.clear();
         self.turn = 0;
         if self.sources.extend_from_slice(sources).is_err() {
             unreachable!();
         }
-        Ok(())
     }
 
     /// Takes the next of them.
     #[inline(always)]
     pub fn next(&mut self) -> Option<Source>
-        ensures taken { IfSome result (λ source. self.old ≡ source ∷ self.new) }
-        ensures none { result ≡ None → self.old ≡ [] }
-        ensures stays { result ≡ None → self.new ≡ [] }
+        ensures taken { IfSome result (λ source. self.old.left ≡ source ∷ self.new.left) }
+        ensures none { result ≡ None → self.old.left ≡ [] }
+        ensures stays { result ≡ None → self.new.left ≡ [] }
+        ensures room { self.new.room ≡ self.old.room }
     {
         if self.turn == self.sources.len() {
             return None;

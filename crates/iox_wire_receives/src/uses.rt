@@ -1,5 +1,5 @@
 //! Callers, proved from the clauses alone.
-ghost use Rattle.std.specs.Prelude.{ℕ, ◌≡◌, ◌+◌, ◌<◌, ◌^◌, OnOk, false, true};
+ghost use Rattle.std.specs.Prelude.{ℕ, ◌≡◌, ◌+◌, ◌<◌, ◌≤◌, ◌^◌, false, length, true};
 ghost use Rattle.iox_model.specs.declared.call.Call.TheVariants.{Receive};
 ghost use Rattle.iox_model.specs.Receives.{server_ways};
 ghost use Rattle.iox_model.specs.States.{Port};
@@ -22,7 +22,6 @@ use crate::source::{ReceiveTerms, Source};
 use iox_steps::Access;
 use iox_wire_locals::{Entry, Visit};
 use iox_wire_seats::StoredSeat;
-use std::alloc::AllocError;
 
 /// A pending response's receive begins as the definitions begin it.
 pub fn response_receive_begins(
@@ -31,14 +30,15 @@ pub fn response_receive_begins(
     visit: Visit,
     terms: ReceiveTerms,
     sources: &[Source],
-) -> Result<(), AllocError>
+)
     requires rests { is_busy receiving.old.local ≡ false }
     requires within { AreWithin terms (received_length visit) sources.now }
+    requires fits { length sources.now ≤ receiving.old.room }
     ensures { (p : Setting) → (n : ℕ) → (e : Entry) → visit ≡ pending_visit e
         → ways_of sources.now ≡ ways_for p seat.now.seat e
         → AreSources p terms (received_length visit) sources.now
-        → OnOk result (placed seat.now.seat receiving.new.local
-        ≡ begins_at_entry p seat.now.seat (Receive n) e) }
+        → placed seat.now.seat receiving.new.local
+        ≡ begins_at_entry p seat.now.seat (Receive n) e }
 {
     receiving.begin(seat, visit, terms, sources)
 }
@@ -50,14 +50,15 @@ pub fn request_receive_begins(
     visit: Visit,
     terms: ReceiveTerms,
     sources: &[Source],
-) -> Result<(), AllocError>
+)
     requires rests { is_busy receiving.old.local ≡ false }
     requires within { AreWithin terms (received_length visit) sources.now }
+    requires fits { length sources.now ≤ receiving.old.room }
     ensures { (p : Setting) → (n : ℕ) → (q : Port) → visit ≡ server_visit q → ways_of sources.now
         ≡ server_ways (known p seat.now.seat) q
         → AreSources p terms (received_length visit) sources.now
-        → OnOk result (placed seat.now.seat receiving.new.local
-        ≡ begins_at_port p seat.now.seat (Receive n) q) }
+        → placed seat.now.seat receiving.new.local
+        ≡ begins_at_port p seat.now.seat (Receive n) q }
 {
     receiving.begin(seat, visit, terms, sources)
 }

@@ -76,6 +76,7 @@ pub fn list_states(
         ≡ each (response_way (number_at map.now client) lane)
         (others (known p seat.now.seat) seat.now.seat.node Server) }
     ensures places { (p : Setting) → IsSettingOf map.now p → AreStates p stops.new.items }
+    ensures few { length stops.new.items ≤ most_ways map.now }
     ensures list { vec_capacity stops.new ≡ vec_capacity stops.old }
 {
     stops.clear();

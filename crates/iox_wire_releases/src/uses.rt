@@ -1,5 +1,5 @@
 //! Callers, proved from the clauses alone.
-ghost use Rattle.std.specs.Prelude.{ℕ, ◌≡◌, ◌≢◌, ◌+◌, ◌<◌, ◌≤◌, ◌^◌, [], None, OnOk, Some, true, vec_capacity};
+ghost use Rattle.std.specs.Prelude.{ℕ, ◌≡◌, ◌≢◌, ◌+◌, ◌<◌, ◌≤◌, ◌^◌, [], None, Some, true, vec_capacity};
 ghost use Rattle.iox_word_places.specs.Plans.{most_ways};
 ghost use Rattle.iox_model.specs.declared.call.Call.TheVariants.{Release};
 ghost use Rattle.iox_model.specs.declared.call.WireCall.TheVariants.{Port};
@@ -27,7 +27,6 @@ use iox_steps::Access;
 use iox_wire_locals::Entry;
 use iox_wire_seats::{SeatReply, Stop, StoredSeat};
 use iox_word_places::WordMap;
-use std::alloc::AllocError;
 
 /// A release begins and makes its first access, as the definitions do.
 pub fn released_by_one_step(
@@ -36,29 +35,26 @@ pub fn released_by_one_step(
     number: u64,
     stops: &mut Vec<Stop>,
     seen: u64,
-) -> Result<Option<SeatReply>, AllocError>
+) -> Option<SeatReply>
     requires home { MayReleaseNumber map.now number seat.old.seat }
     requires list { most_ways map.now ≤ vec_capacity stops.old }
+    requires rooms { most_ways map.now ≤ seat.old.ways_room }
     requires accesses { seat.old.seat.accesses + 1 < 2 ^ 64 }
-    ensures { (p : Setting) → IsSettingOf map.now p → OnOk result (seat.new.seat
-        ≡ next p (begin p seat.old.seat (Port (Release number))) seen) }
+    ensures { (p : Setting) → IsSettingOf map.now p → seat.new.seat
+        ≡ next p (begin p seat.old.seat (Port (Release number))) seen }
 {
-    begin_release(map, seat, number, stops)?;
-    Ok(seat.go_on(seen))
+    begin_release(map, seat, number, stops);
+    seat.go_on(seen)
 }
 
 /// What no port and no handle is named is refused.
-pub fn nothing_is_released(
-    map: &WordMap,
-    seat: &mut StoredSeat,
-    number: u64,
-    stops: &mut Vec<Stop>,
-) -> Result<(), AllocError>
+pub fn nothing_is_released(map: &WordMap, seat: &mut StoredSeat, number: u64, stops: &mut Vec<Stop>)
     requires none { entry_at number seat.old.seat.table ≡ None }
     requires list { most_ways map.now ≤ vec_capacity stops.old }
+    requires rooms { most_ways map.now ≤ seat.old.ways_room }
     ensures { (p : Setting) → IsSettingOf map.now p
         → port_at (known p seat.old.seat) number ≡ None
-        → OnOk result (seat.new.seat ≡ ended seat.old.seat (Refuses UnknownNumber)) }
+        → seat.new.seat ≡ ended seat.old.seat (Refuses UnknownNumber) }
 {
     begin_release(map, seat, number, stops)
 }

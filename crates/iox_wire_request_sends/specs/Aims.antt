@@ -161,12 +161,13 @@ Answers x r seen reply =
 abbrev pub StaysAimed : Placed → RequestDispatch → Placed → RequestDispatch → Type 0
 StaysAimed x r y s = (p : Setting) → IsAimed p x.seat r → IsAimed p y.seat s
 
--- it is the send of the same loan, told of the same servers
+-- it is the send of the same loan, told of the same servers, with room for as many
 pub record IsSameSend (r s : RequestDispatch) : Type 0 where
   pub loan : s.loan ≡ r.loan
   pub copied : s.copied ≡ r.copied
   pub terms : s.terms ≡ r.terms
   pub targets : s.targets ≡ r.targets
+  pub room : s.room ≡ r.room
 
 -- A step counts one access, and the seat stays between calls.
 pub record IsOneStep (x y : Placed) : Type 0 where

@@ -39,6 +39,7 @@ pub record RequestDispatch : Type 0 where
   pub count : ℕ
   pub site : Site
   pub state : ℕ
+  pub room : ℕ
 
 -- what stands beside the name of a place
 pub record Beside : Type 0 where

@@ -13,10 +13,11 @@ use Rattle.iox_wire_seats.specs.Aims.{IsInMemory}
 use Rattle.iox_wire_request_sends.specs.declared.target.RequestTerms.{RequestTerms}
 use Rattle.iox_wire_request_sends.specs.declared.target.Target.{Target}
 
--- All servers of a send, and those left in a round.
+-- All servers of a send, those left in a round, and for how many there is room.
 pub record Round : Type 0 where
   pub all : List Target
   pub left : List Target
+  pub room : ℕ
 
 -- their numbers
 abbrev pub servers_of : List Target → List ℕ

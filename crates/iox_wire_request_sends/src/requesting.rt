@@ -18,7 +18,7 @@ use iox_model::way::Way;
 use iox_steps::{Access, QueueKind, Site};
 use iox_wire_locals::Entry;
 use iox_wire_seats::{Popper, Pusher, StoredSeat};
-use std::alloc::Global;
+use std::alloc::{AllocError, Global};
 use std::marker::Model;
 
 const NO_LOAN: Entry = Entry {
@@ -56,7 +56,7 @@ const NO_TARGET: Target = Target {
     place: 0,
 };
 
-/// The send of a loaned request, beside what the node keeps. Only its begin takes memory.
+/// The send of a loaned request, beside what the node keeps. Only its making takes memory.
 #[derive(Drop)]
 pub struct Requesting {
     at: RequestAt,
@@ -114,6 +114,7 @@ impl Model for Requesting {
       count = r.count;
       site = r.site;
       state = r.state;
+      room = r.targets.room;
     } };
 
     ghost invariant = { λ r.
@@ -121,11 +122,12 @@ impl Model for Requesting {
         × AreWithin r.terms r.targets.all × AreWithin r.terms r.targets.left
         × (length r.targets.all ≤ vec_capacity r.full)
         × HasSeen r.at (length r.full.items) (length r.targets.left) (length r.targets.all)
-        × HasCount r.at r.count (length r.targets.left) (length r.targets.all) };
+        × HasCount r.at r.count (length r.targets.left) (length r.targets.all)
+        × (r.targets.room ≤ vec_capacity r.full) };
 }
 
 impl Requesting {
-    ghost use Rattle.std.specs.Prelude.{◌≡◌, ◌+◌, ◌<◌, ◌^◌, false, is_none, true};
+    ghost use Rattle.std.specs.Prelude.{◌≡◌, ◌+◌, ◌<◌, ◌^◌, IfOk, false, is_none, true};
     ghost use Rattle.iox_model.specs.Messages.{request_way};
     ghost use Rattle.iox_wire_words.specs.Programs.{program_access};
     ghost use Rattle.iox_wire_locals.specs.declared.local.Local.TheVariants.{Idle};
@@ -136,25 +138,26 @@ impl Requesting {
     ghost use Rattle.iox_wire_request_sends.specs.Aims.{Answers, FindsUsed, GoesOn, IsAimed};
     ghost use Rattle.iox_wire_request_sends.specs.Aims.{IsOneStep, IsSameSend, MayEnd, StaysAimed};
 
-    /// No send is under way.
-    pub fn new(alloc: Global) -> Requesting
-        ensures { result.local ≡ Idle }
+    /// No send is under way, and there is room for so many servers.
+    pub fn new(alloc: Global, ways: usize) -> Result<Requesting, AllocError>
+        ensures local { IfOk result (λ r. r.local ≡ Idle) }
+        ensures room { IfOk result (λ r. r.room ≡ ways) }
     {
-        Requesting {
+        Ok(Requesting {
             at: RequestAt::Rest,
             loan: NO_LOAN,
             copied: false,
             terms: NO_TERMS,
-            targets: Targets::new(alloc),
+            targets: Targets::new(alloc, ways)?,
             target: NO_TARGET,
-            full: Vec::new(alloc),
+            full: Vec::with_capacity(alloc, ways)?,
             last: None,
             count: 0,
             popper: Popper::new(),
             pusher: Pusher::new(),
             site: NO_SITE,
             state: 0,
-        }
+        })
     }
 
     /// Whether a send is under way.

@@ -6,65 +6,68 @@ use crate::target::Target;
 use std::alloc::{AllocError, Global};
 use std::marker::Model;
 
-/// The servers to which a request goes, in their order, and those left in a round. Only `fill`
-/// takes memory.
+/// The servers to which a request goes, in their order, and those left in a round. Only `new` takes
+/// memory.
 #[derive(Drop)]
 pub struct Targets {
     targets: Vec<Target>,
     // how many were visited in this round
     turn: usize,
+    // for how many there is room
+    room: usize,
 }
 
 impl Model for Targets {
-    ghost use Rattle.std.specs.Prelude.{◌≤◌, drop, length};
+    ghost use Rattle.std.specs.Prelude.{◌≤◌, drop, length, vec_capacity};
     ghost use Rattle.iox_wire_request_sends.specs.Targets.{Round};
 
     ghost Value = { Round };
 
-    ghost view = { λ t. record { all = t.targets.items; left = drop t.turn t.targets.items } };
+    ghost view = { λ t. record {
+      all = t.targets.items;
+      left = drop t.turn t.targets.items;
+      room = t.room;
+    } };
 
-    ghost invariant = { λ t. t.turn ≤ length t.targets.items };
+    ghost invariant = { λ t. (t.turn ≤ length t.targets.items)
+        × (t.room ≤ vec_capacity t.targets) };
 }
 
 impl Targets {
-    ghost use Rattle.std.specs.Prelude.{◌≡◌, ◌≤◌, ◌<◌, ◌∷◌, [], IfSome, None, OnErr, OnOk, length};
+    ghost use Rattle.std.specs.Prelude.{◌≡◌, ◌≤◌, ◌<◌, ◌∷◌, [], IfOk, IfSome, None, length};
     ghost use Rattle.iox_wire_locals.specs.Tables.{Setting};
     ghost use Rattle.iox_wire_locals.specs.declared.table.Entry.{Entry};
     ghost use Rattle.iox_wire_request_sends.specs.declared.target.RequestTerms.{RequestTerms};
     ghost use Rattle.iox_wire_request_sends.specs.Targets.{AreTargets, AreWithin, IsTarget};
     ghost use Rattle.iox_wire_request_sends.specs.Targets.{IsWithin, Round, with_room};
 
-    /// There are none.
-    pub fn new(alloc: Global) -> Targets
-        ensures { result ≡ record { all = []; left = [] } }
+    /// There are none, and there is room for so many.
+    pub fn new(alloc: Global, room: usize) -> Result<Targets, AllocError>
+        ensures { IfOk result (λ t. t ≡ record { all = []; left = []; room = room }) }
     {
-        Targets {
-            targets: Vec::new(alloc),
+        Ok(Targets {
+            targets: Vec::with_capacity(alloc, room)?,
             turn: 0,
-        }
+            room,
+        })
     }
 
     /// Those are the servers now, and all are left.
-    pub fn fill(&mut self, targets: &[Target]) -> Result<(), AllocError>
-        ensures filled { OnOk result (self.new
-            ≡ record { all = targets.now; left = targets.now }) }
-        ensures unchanged { OnErr result (self.new ≡ self.old) }
+    pub fn fill(&mut self, targets: &[Target])
+        requires { length targets.now ≤ self.old.room }
+        ensures { self.new ≡ record (self.old) { all = targets.now; left = targets.now } }
     {
-        if self.targets.capacity() < targets.len() {
-            self.targets.reserve(targets.len())?;
-        }
         self.targets.clear();
         self.turn = 0;
         if self.targets.extend_from_slice(targets).is_err() {
             unreachable!();
         }
-        Ok(())
     }
 
     /// All are left again.
     #[inline(always)]
     pub fn restart(&mut self)
-        ensures { self.new ≡ record { all = self.old.all; left = self.old.all } }
+        ensures { self.new ≡ record (self.old) { left = self.old.all } }
     {
         self.turn = 0;
     }
@@ -73,6 +76,7 @@ impl Targets {
     #[inline(always)]
     pub fn next(&mut self) -> Option<Target>
         ensures all { self.new.all ≡ self.old.all }
+        ensures room { self.new.room ≡ self.old.room }
         ensures taken { IfSome result (λ target. self.old.left ≡ target ∷ self.new.left) }
         ensures none { result ≡ None → self.old.left ≡ [] }
         ensures stays { result ≡ None → self.new.left ≡ [] }
@@ -89,6 +93,7 @@ impl Targets {
     #[inline(always)]
     pub fn next_with_room(&mut self, full: &[u64]) -> Option<Target>
         ensures all { self.new.all ≡ self.old.all }
+        ensures room { self.new.room ≡ self.old.room }
         ensures taken { IfSome result (λ target. with_room full.now self.old.left
             ≡ target ∷ with_room full.now self.new.left) }
         ensures none { result ≡ None → with_room full.now self.old.left ≡ [] }

@@ -1,5 +1,5 @@
 //! Callers, proved from the clauses alone.
-ghost use Rattle.std.specs.Prelude.{ℕ, ◌≡◌, ◌+◌, ◌<◌, ◌^◌, OnErr, OnOk, IfOk, false, true};
+ghost use Rattle.std.specs.Prelude.{ℕ, ◌≡◌, ◌+◌, ◌<◌, ◌≤◌, ◌^◌, false, length, true};
 ghost use Rattle.iox_model.specs.declared.call.Call.TheVariants.{Send};
 ghost use Rattle.iox_model.specs.declared.kind.Role.TheVariants.{Server};
 ghost use Rattle.iox_model.specs.Handles.{is_request_loan};
@@ -23,7 +23,6 @@ use crate::target::{RequestTerms, Target};
 use iox_steps::Access;
 use iox_wire_locals::Entry;
 use iox_wire_seats::StoredSeat;
-use std::alloc::AllocError;
 
 /// The send of a request begins as the definitions begin it.
 pub fn request_send_begins(
@@ -32,16 +31,16 @@ pub fn request_send_begins(
     loan: Entry,
     terms: RequestTerms,
     targets: &[Target],
-) -> Result<(), AllocError>
+)
     requires rests { is_busy requesting.old.local ≡ false }
     requires kind { is_request_loan loan.kind ≡ true }
     requires request { HasRoomForHint loan }
     requires within { AreWithin terms targets.now }
+    requires fits { length targets.now ≤ requesting.old.room }
     ensures begun { (p : Setting) → (n : ℕ) → IsToldOf p loan terms
         → servers_of targets.now ≡ others (known p seat.now.seat) seat.now.seat.node Server
-        → OnOk result (placed seat.now.seat requesting.new.local
-        ≡ begins_at_entry p seat.now.seat (Send n) loan) }
-    ensures unchanged { OnErr result (requesting.new ≡ requesting.old) }
+        → placed seat.now.seat requesting.new.local
+        ≡ begins_at_entry p seat.now.seat (Send n) loan }
 {
     requesting.begin(seat, loan, terms, targets)
 }
@@ -62,21 +61,22 @@ pub fn request_sent_by_one_step(
     terms: RequestTerms,
     targets: &[Target],
     seen: u64,
-) -> Result<Option<RequestReply>, AllocError>
+) -> Option<RequestReply>
     requires rests { is_busy requesting.old.local ≡ false }
     requires kind { is_request_loan loan.kind ≡ true }
     requires request { HasRoomForHint loan }
     requires within { AreWithin terms targets.now }
+    requires fits { length targets.now ≤ requesting.old.room }
     requires seat_rests { is_busy seat.old.seat.local ≡ false }
     requires accesses { seat.old.seat.accesses + 1 < 2 ^ 64 }
     requires held { MayGiveUp loan seat.old.seat.desks }
     ensures { (p : Setting) → IsToldOf p loan terms → AreTargets p terms loan targets.now
         → servers_of targets.now ≡ others (known p seat.old.seat) seat.old.seat.node Server
-        → OnOk result (placed seat.new.seat requesting.new.local
-        ≡ next p (sends p seat.old.seat loan false) seen) }
+        → placed seat.new.seat requesting.new.local
+        ≡ next p (sends p seat.old.seat loan false) seen }
 {
-    requesting.begin(seat, loan, terms, targets)?;
-    Ok(requesting.go_on(seat, seen))
+    requesting.begin(seat, loan, terms, targets);
+    requesting.go_on(seat, seen)
 }
 
 /// One send may follow another: what is over is at rest.
@@ -86,15 +86,16 @@ pub fn next_request_send_begins(
     loan: Entry,
     terms: RequestTerms,
     targets: &[Target],
-) -> Result<bool, AllocError>
+) -> bool
     requires kind { is_request_loan loan.kind ≡ true }
     requires request { HasRoomForHint loan }
     requires within { AreWithin terms targets.now }
-    ensures { OnOk result (is_busy requesting.new.local ≡ true) }
+    requires fits { length targets.now ≤ requesting.old.room }
+    ensures { is_busy requesting.new.local ≡ true }
 {
     if requesting.is_busy() {
-        return Ok(false);
+        return false;
     }
-    requesting.begin(seat, loan, terms, targets)?;
-    Ok(true)
+    requesting.begin(seat, loan, terms, targets);
+    true
 }

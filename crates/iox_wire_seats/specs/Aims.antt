@@ -163,9 +163,15 @@ Answers old seen reply new =
 abbrev pub StaysAimed : Placed → Placed → Type 0
 StaysAimed old new = (p : Setting) → IsAimed p old → IsAimed p new
 
--- room for handles is neither made nor lost
-abbrev pub KeepsRoom : Placed → Placed → Type 0
-KeepsRoom old new = new.room + length new.seat.table ≡ old.room + length old.seat.table
+-- There is as much room for ways, and for the words of a message.
+pub record HasSameRooms (old new : Placed) : Type 0 where
+  pub ways : new.ways_room ≡ old.ways_room
+  pub words : new.words_room ≡ old.words_room
+
+-- Room is neither made nor lost, for handles, for ways, and for words.
+pub record KeepsRoom (old new : Placed) : Type 0 where
+  pub handles : new.room + length new.seat.table ≡ old.room + length old.seat.table
+  pub rooms : HasSameRooms old new
 
 -- ---- where it is
 

@@ -26,9 +26,15 @@ use Rattle.iox_wire_seats.specs.declared.at.SeatReply.TheVariants as seat_replie
 use Rattle.iox_wire_seats.specs.declared.message_places.MessagePlaces.{MessagePlaces}
 use Rattle.iox_wire_seats.specs.declared.stops.Stop.{Stop}
 
+-- The ways that a call still visits, and for how many there is room.
+pub record Visits : Type 0 where
+  pub left : List Stop
+  pub room : ℕ
+
 -- A seat, for how many more handles it has room, and where the words stand that its call accesses:
 -- a queue, a request state, so many words of a message, and those of the ways that it visits next.
--- And the words of the message, as far as it knows them.
+-- And the words of the message, as far as it knows them. Last for how many ways, and for how many words
+-- of a message, it has room.
 pub record Placed : Type 0 where
   pub seat : Seat
   pub room : ℕ
@@ -38,6 +44,8 @@ pub record Placed : Type 0 where
   pub count : ℕ
   pub words : List ℕ
   pub left : List Stop
+  pub ways_room : ℕ
+  pub words_room : ℕ
 
 -- What stands beside the name of a place.
 pub record Beside : Type 0 where

@@ -92,6 +92,8 @@ pub struct StoredSeat {
     count: usize,
     words: Vec<u64>,
     next: usize,
+    /// for how many words there is room
+    longest: usize,
     /// why the call is refused
     refusal: CallRefusal,
     /// whether it asks for a hint, or what it answers
@@ -102,7 +104,7 @@ pub struct StoredSeat {
 }
 
 impl Model for StoredSeat {
-    ghost use Rattle.std.specs.Prelude.{vec_capacity};
+    ghost use Rattle.std.specs.Prelude.{◌≤◌, vec_capacity};
     ghost use Rattle.iox_wire_seats.specs.Aims.{AreInMemory, AreVisited, HasWordsLeft, IsInMemory};
     ghost use Rattle.iox_wire_seats.specs.Aims.{IsHeld, IsOfKind, MayBeHinted};
     ghost use Rattle.iox_wire_seats.specs.Seats.{Placed, local_of};
@@ -128,7 +130,7 @@ impl Model for StoredSeat {
           refusal = s.refusal;
           flag = s.flag;
           way = s.way;
-          left = s.left;
+          left = s.left.left;
         });
       };
       room = s.entries.room;
@@ -137,14 +139,17 @@ impl Model for StoredSeat {
       message = s.message;
       count = s.count;
       words = s.words.items;
-      left = s.left;
+      left = s.left.left;
+      ways_room = s.left.room;
+      words_room = s.longest;
     } };
 
     ghost invariant = { λ s.
         IsInMemory s.site × IsOfKind s.at s.entry × IsHeld s.at s.entry s.desks
         × AreInMemory s.message s.count
         × HasWordsLeft s.at s.words.items s.next s.count (vec_capacity s.words)
-        × MayBeHinted s.at s.entry × AreVisited s.at s.site s.left };
+        × MayBeHinted s.at s.entry × AreVisited s.at s.site s.left.left
+        × (s.longest ≤ vec_capacity s.words) };
 }
 
 impl StoredSeat {
@@ -156,16 +161,21 @@ impl StoredSeat {
     ghost use Rattle.iox_wire_seats.specs.Aims.{Answers, GoesOn, IsAimed, KeepsRoom, StaysAimed};
     ghost use Rattle.iox_wire_seats.specs.Seats.{new_seat};
 
-    /// A node between calls, with no handles and room for so many.
+    /// A node between calls, with no handles and room for so many, for so many ways that a call
+    /// visits, and for so many words of a message.
     pub fn new(
         alloc: Global,
         node: u64,
         room: usize,
+        ways: usize,
+        longest: usize,
         desks: Desks,
         counts: Counts,
     ) -> Result<StoredSeat, AllocError>
         ensures seat { IfOk result (λ s. s.seat ≡ new_seat node desks counts) }
         ensures room { IfOk result (λ s. s.room ≡ room) }
+        ensures ways { IfOk result (λ s. s.ways_room ≡ ways) }
+        ensures words { IfOk result (λ s. s.words_room ≡ longest) }
     {
         Ok(StoredSeat {
             node,
@@ -184,12 +194,13 @@ impl StoredSeat {
             seen: 0,
             message: NO_PLACES,
             count: 0,
-            words: Vec::new(alloc),
+            words: Vec::with_capacity(alloc, longest)?,
             next: 0,
+            longest,
             refusal: CallRefusal::WrongKind,
             flag: false,
             way: NO_WAY,
-            left: Stops::new(alloc),
+            left: Stops::new(alloc, ways)?,
         })
     }
 

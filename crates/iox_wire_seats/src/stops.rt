@@ -12,60 +12,60 @@ pub struct Stop {
     pub place: usize,
 }
 
-/// The ways that a call still visits, in their order. Only `fill` takes memory.
+/// The ways that a call still visits, in their order. Only `new` takes memory.
 #[derive(Drop)]
 pub struct Stops {
     stops: Vec<Stop>,
     // how many were visited
     turn: usize,
+    // for how many there is room
+    room: usize,
 }
 
 impl Model for Stops {
-    ghost use Rattle.std.specs.Prelude.{◌≤◌, List, drop, length};
-    ghost use Rattle.iox_wire_seats.specs.declared.stops.Stop.{Stop};
+    ghost use Rattle.std.specs.Prelude.{◌≤◌, drop, length, vec_capacity};
+    ghost use Rattle.iox_wire_seats.specs.Seats.{Visits};
 
-    ghost Value = { List Stop };
+    ghost Value = { Visits };
 
-    ghost view = { λ s. drop s.turn s.stops.items };
+    ghost view = { λ s. record { left = drop s.turn s.stops.items; room = s.room } };
 
-    ghost invariant = { λ s. s.turn ≤ length s.stops.items };
+    ghost invariant = { λ s. (s.turn ≤ length s.stops.items) × (s.room ≤ vec_capacity s.stops) };
 }
 
 impl Stops {
-    ghost use Rattle.std.specs.Prelude.{◌≡◌, ◌∷◌, [], IfSome, None, OnErr, OnOk};
+    ghost use Rattle.std.specs.Prelude.{◌≡◌, ◌≤◌, ◌∷◌, [], IfOk, IfSome, None, length};
 
-    /// None are left.
-    pub fn new(alloc: Global) -> Stops
-        ensures { result ≡ [] }
+    /// None are left, and there is room for so many.
+    pub fn new(alloc: Global, room: usize) -> Result<Stops, AllocError>
+        ensures { IfOk result (λ stops. stops ≡ record { left = []; room = room }) }
     {
-        Stops {
-            stops: Vec::new(alloc),
+        Ok(Stops {
+            stops: Vec::with_capacity(alloc, room)?,
             turn: 0,
-        }
+            room,
+        })
     }
 
     /// Those are left now.
-    pub fn fill(&mut self, stops: &[Stop]) -> Result<(), AllocError>
-        ensures filled { OnOk result (self.new ≡ stops.now) }
-        ensures unchanged { OnErr result (self.new ≡ self.old) }
+    pub fn fill(&mut self, stops: &[Stop])
+        requires { length stops.now ≤ self.old.room }
+        ensures { self.new ≡ record (self.old) { left = stops.now } }
     {
-        if self.stops.capacity() < stops.len() {
-            self.stops.reserve(stops.len())?;
-        }
         self.stops.clear();
         self.turn = 0;
         if self.stops.extend_from_slice(stops).is_err() {
             unreachable!();
         }
-        Ok(())
     }
 
     /// Takes the next of them.
     #[inline(always)]
     pub fn next(&mut self) -> Option<Stop>
-        ensures taken { IfSome result (λ stop. self.old ≡ stop ∷ self.new) }
-        ensures none { result ≡ None → self.old ≡ [] }
-        ensures stays { result ≡ None → self.new ≡ [] }
+        ensures taken { IfSome result (λ stop. self.old.left ≡ stop ∷ self.new.left) }
+        ensures none { result ≡ None → self.old.left ≡ [] }
+        ensures stays { result ≡ None → self.new.left ≡ [] }
+        ensures room { self.new.room ≡ self.old.room }
     {
         if self.turn == self.stops.len() {
             return None;

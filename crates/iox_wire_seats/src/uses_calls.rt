@@ -1,5 +1,5 @@
 //! Callers of whole calls, proved from the clauses alone.
-ghost use Rattle.std.specs.Prelude.{ℕ, ◌≡◌, ◌+◌, ◌<◌, ◌^◌, IfOk, None, OnOk, Some, false, length, option_map};
+ghost use Rattle.std.specs.Prelude.{ℕ, ◌≡◌, ◌+◌, ◌<◌, ◌≤◌, ◌^◌, None, Some, false, length, option_map};
 ghost use Rattle.iox_model.specs.declared.call.Call.TheVariants.{HasHint, HasRequests, HasResponse};
 ghost use Rattle.iox_model.specs.declared.call.Call.TheVariants.{IsConnected, Read, Release, SetHint, Write};
 ghost use Rattle.iox_model.specs.declared.kind.Kind.TheVariants.{PendingResponse};
@@ -19,7 +19,6 @@ use crate::seat::StoredSeat;
 use crate::stops::Stop;
 use iox_steps::Site;
 use iox_wire_locals::{CallRefusal, Entry};
-use std::alloc::AllocError;
 
 /// A read begins, and loads a word.
 pub fn read_by_one_step(
@@ -28,16 +27,18 @@ pub fn read_by_one_step(
     message: MessagePlaces,
     count: usize,
     seen: u64,
-) -> Result<Option<SeatReply>, AllocError>
+) -> Option<SeatReply>
+    requires fits { count ≤ seat.old.words_room }
     requires memory { AreInMemory message count }
     requires accesses { seat.old.seat.accesses + 1 < 2 ^ 64 }
     ensures next { (p : Setting) → StandAt p entry message count
-        → OnOk result (seat.new.seat ≡ next p (reads p seat.old.seat entry) seen) }
-    ensures told { (p : Setting) → StandAt p entry message count → IfOk result (λ r.
-        tells p (reads p seat.old.seat entry) seen ≡ option_map (reply_with seat.new.words) r) }
+        → seat.new.seat ≡ next p (reads p seat.old.seat entry) seen }
+    ensures told { (p : Setting) → StandAt p entry message count
+        → tells p (reads p seat.old.seat entry) seen
+        ≡ option_map (reply_with seat.new.words) result }
 {
-    seat.read(entry, message, count)?;
-    Ok(seat.go_on(seen))
+    seat.read(entry, message, count);
+    seat.go_on(seen)
 }
 
 /// A write begins, and stores a word.
@@ -46,15 +47,16 @@ pub fn write_by_one_step(
     loan: Entry,
     payload: usize,
     word: &[u64],
-) -> Result<Option<SeatReply>, AllocError>
+) -> Option<SeatReply>
+    requires fits { length word.now ≤ seat.old.words_room }
     requires memory { payload + length word.now < 2 ^ 64 }
     requires accesses { seat.old.seat.accesses + 1 < 2 ^ 64 }
     ensures { (p : Setting) → IsPayloadAt p loan payload (length word.now)
-        → OnOk result (seat.new.seat
-        ≡ next p (writes seat.old.seat loan (Some loan.elements) word.now) 0) }
+        → seat.new.seat
+        ≡ next p (writes seat.old.seat loan (Some loan.elements) word.now) 0 }
 {
-    seat.write(loan, payload, Some(loan.elements), word)?;
-    Ok(seat.go_on(0))
+    seat.write(loan, payload, Some(loan.elements), word);
+    seat.go_on(0)
 }
 
 /// A question begins, and sees a request state.
@@ -63,13 +65,14 @@ pub fn check_by_one_step(
     entry: Entry,
     stops: &[Stop],
     seen: u64,
-) -> Result<Option<SeatReply>, AllocError>
-    requires { seat.old.seat.accesses + 1 < 2 ^ 64 }
-    ensures { (p : Setting) → AreStates p stops.now → OnOk result (seat.new.seat
-        ≡ next p (checking seat.old.seat entry false (ways_of stops.now)) seen) }
+) -> Option<SeatReply>
+    requires fits { length stops.now ≤ seat.old.ways_room }
+    requires accesses { seat.old.seat.accesses + 1 < 2 ^ 64 }
+    ensures { (p : Setting) → AreStates p stops.now → seat.new.seat
+        ≡ next p (checking seat.old.seat entry false (ways_of stops.now)) seen }
 {
-    seat.check(entry, false, stops)?;
-    Ok(seat.go_on(seen))
+    seat.check(entry, false, stops);
+    seat.go_on(seen)
 }
 
 /// A hint begins, and sees a request state.
@@ -78,14 +81,15 @@ pub fn hint_by_one_step(
     entry: Entry,
     stops: &[Stop],
     seen: u64,
-) -> Result<Option<SeatReply>, AllocError>
+) -> Option<SeatReply>
+    requires fits { length stops.now ≤ seat.old.ways_room }
     requires hint { HasRoomForHint entry }
     requires accesses { seat.old.seat.accesses + 1 < 2 ^ 64 }
-    ensures { (p : Setting) → AreStates p stops.now → OnOk result (seat.new.seat
-        ≡ next p (hinting seat.old.seat entry (ways_of stops.now)) seen) }
+    ensures { (p : Setting) → AreStates p stops.now → seat.new.seat
+        ≡ next p (hinting seat.old.seat entry (ways_of stops.now)) seen }
 {
-    seat.hint(entry, stops)?;
-    Ok(seat.go_on(seen))
+    seat.hint(entry, stops);
+    seat.go_on(seen)
 }
 
 /// A look for messages begins, and makes its first access.
@@ -94,26 +98,23 @@ pub fn seek_by_one_step(
     queue: Site,
     stops: &[Stop],
     seen: u64,
-) -> Result<Option<SeatReply>, AllocError>
+) -> Option<SeatReply>
+    requires fits { length stops.now ≤ seat.old.ways_room }
     requires memory { QueuesInMemory queue.kind queue.capacity stops.now }
     requires accesses { seat.old.seat.accesses + 1 < 2 ^ 64 }
     ensures { (p : Setting) → AreQueues p queue.kind queue.capacity stops.now
-        → OnOk result (seat.new.seat ≡ next p (seeking seat.old.seat (ways_of stops.now)) seen) }
+        → seat.new.seat ≡ next p (seeking seat.old.seat (ways_of stops.now)) seen }
 {
-    seat.seek(queue, stops)?;
-    Ok(seat.go_on(seen))
+    seat.seek(queue, stops);
+    seat.go_on(seen)
 }
 
 /// A read begins as the definitions begin it.
-pub fn read_begins(
-    seat: &mut StoredSeat,
-    entry: Entry,
-    message: MessagePlaces,
-    count: usize,
-) -> Result<(), AllocError>
-    requires { AreInMemory message count }
+pub fn read_begins(seat: &mut StoredSeat, entry: Entry, message: MessagePlaces, count: usize)
+    requires fits { count ≤ seat.old.words_room }
+    requires memory { AreInMemory message count }
     ensures { (p : Setting) → (n : ℕ) → StandAt p entry message count
-        → OnOk result (seat.new.seat ≡ begins_at_entry p seat.old.seat (Read n) entry) }
+        → seat.new.seat ≡ begins_at_entry p seat.old.seat (Read n) entry }
 {
     seat.read(entry, message, count)
 }
@@ -125,75 +126,60 @@ pub fn write_begins(
     payload: usize,
     elements: Option<u64>,
     words: &[u64],
-) -> Result<(), AllocError>
-    requires { payload + length words.now < 2 ^ 64 }
+)
+    requires fits { length words.now ≤ seat.old.words_room }
+    requires memory { payload + length words.now < 2 ^ 64 }
     ensures { (p : Setting) → (n : ℕ) → (y : Payload) → y.elements ≡ elements → y.words ≡ words.now
-        → OnOk result (seat.new.seat ≡ begins_at_entry p seat.old.seat (Write n y) loan) }
+        → seat.new.seat ≡ begins_at_entry p seat.old.seat (Write n y) loan }
 {
     seat.write(loan, payload, elements, words)
 }
 
 /// So does the question whether a server still has the request.
-pub fn is_connected_begins(
-    seat: &mut StoredSeat,
-    entry: Entry,
-    stops: &[Stop],
-) -> Result<(), AllocError>
+pub fn is_connected_begins(seat: &mut StoredSeat, entry: Entry, stops: &[Stop])
+    requires fits { length stops.now ≤ seat.old.ways_room }
     ensures { (p : Setting) → (n : ℕ) → ways_of stops.now ≡ states_for p seat.old.seat entry
-        → OnOk result (seat.new.seat ≡ begins_at_entry p seat.old.seat (IsConnected n) entry) }
+        → seat.new.seat ≡ begins_at_entry p seat.old.seat (IsConnected n) entry }
 {
     seat.check(entry, false, stops)
 }
 
 /// And whether a hint was given.
-pub fn has_hint_begins(
-    seat: &mut StoredSeat,
-    entry: Entry,
-    stops: &[Stop],
-) -> Result<(), AllocError>
+pub fn has_hint_begins(seat: &mut StoredSeat, entry: Entry, stops: &[Stop])
+    requires fits { length stops.now ≤ seat.old.ways_room }
     ensures { (p : Setting) → (n : ℕ) → ways_of stops.now ≡ states_for p seat.old.seat entry
-        → OnOk result (seat.new.seat ≡ begins_at_entry p seat.old.seat (HasHint n) entry) }
+        → seat.new.seat ≡ begins_at_entry p seat.old.seat (HasHint n) entry }
 {
     seat.check(entry, true, stops)
 }
 
 /// So does a hint.
-pub fn set_hint_begins(
-    seat: &mut StoredSeat,
-    entry: Entry,
-    stops: &[Stop],
-) -> Result<(), AllocError>
-    requires { HasRoomForHint entry }
+pub fn set_hint_begins(seat: &mut StoredSeat, entry: Entry, stops: &[Stop])
+    requires fits { length stops.now ≤ seat.old.ways_room }
+    requires hint { HasRoomForHint entry }
     ensures { (p : Setting) → (n : ℕ) → ways_of stops.now ≡ states_for p seat.old.seat entry
-        → OnOk result (seat.new.seat ≡ begins_at_entry p seat.old.seat (SetHint n) entry) }
+        → seat.new.seat ≡ begins_at_entry p seat.old.seat (SetHint n) entry }
 {
     seat.hint(entry, stops)
 }
 
 /// So does the question whether a response waits.
-pub fn has_response_begins(
-    seat: &mut StoredSeat,
-    entry: Entry,
-    queue: Site,
-    stops: &[Stop],
-) -> Result<(), AllocError>
-    requires { QueuesInMemory queue.kind queue.capacity stops.now }
+pub fn has_response_begins(seat: &mut StoredSeat, entry: Entry, queue: Site, stops: &[Stop])
+    requires fits { length stops.now ≤ seat.old.ways_room }
+    requires memory { QueuesInMemory queue.kind queue.capacity stops.now }
     ensures { (p : Setting) → (n : ℕ) → ways_of stops.now ≡ ways_for p seat.old.seat entry
-        → OnOk result (seat.new.seat ≡ begins_at_entry p seat.old.seat (HasResponse n) entry) }
+        → seat.new.seat ≡ begins_at_entry p seat.old.seat (HasResponse n) entry }
 {
     seat.seek(queue, stops)
 }
 
 /// So does the release of a pending response.
-pub fn release_begins(
-    seat: &mut StoredSeat,
-    pending: Entry,
-    stops: &[Stop],
-) -> Result<(), AllocError>
+pub fn release_begins(seat: &mut StoredSeat, pending: Entry, stops: &[Stop])
+    requires fits { length stops.now ≤ seat.old.ways_room }
     requires kind { pending.kind ≡ PendingResponse }
     requires held { MayGiveUp pending seat.old.seat.desks }
     ensures { (p : Setting) → (n : ℕ) → ways_of stops.now ≡ states_for p seat.old.seat pending
-        → OnOk result (seat.new.seat ≡ begins_at_entry p seat.old.seat (Release n) pending) }
+        → seat.new.seat ≡ begins_at_entry p seat.old.seat (Release n) pending }
 {
     seat.release_pending(pending, stops)
 }

@@ -10,6 +10,7 @@ pub use Rattle.iox_wire_releases.specs.Released
 pub use Rattle.iox_wire_ways.specs.Aims
 pub use Rattle.iox_wire_ways.specs.Begins
 pub use Rattle.iox_wire_ways.specs.Copies
+pub use Rattle.iox_wire_ways.specs.CopyAims
 pub use Rattle.iox_wire_ways.specs.Copiers
 pub use Rattle.iox_wire_ways.specs.CopyCalls
 pub use Rattle.iox_wire_ways.specs.CopyReply

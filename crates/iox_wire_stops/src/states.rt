@@ -83,6 +83,7 @@ fn list_own_state(
         (filter (λ client. client == request.client)
         (others (known p seat.now.seat) seat.now.seat.node Client)) }
     ensures places { (p : Setting) → IsSettingOf map.now p → AreStates p stops.new.items }
+    ensures few { length stops.new.items ≤ most_ways map.now }
     ensures list { vec_capacity stops.new ≡ vec_capacity stops.old }
 {
     stops.clear();
@@ -103,6 +104,7 @@ pub fn list_states_of(map: &WordMap, seat: &StoredSeat, handle: Entry, stops: &m
     ensures ways { (p : Setting) → IsSettingOf map.now p
         → ways_of stops.new.items ≡ states_for p seat.now.seat handle }
     ensures places { (p : Setting) → IsSettingOf map.now p → AreStates p stops.new.items }
+    ensures few { length stops.new.items ≤ most_ways map.now }
     ensures list { vec_capacity stops.new ≡ vec_capacity stops.old }
 {
     match handle.kind {

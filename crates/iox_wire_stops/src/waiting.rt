@@ -69,6 +69,7 @@ pub fn list_waiting_requests(
         → AreQueues p result.kind result.capacity stops.new.items }
     ensures within { QueuesInMemory result.kind result.capacity stops.new.items }
     ensures sources { vec_capacity sources.new ≡ vec_capacity sources.old }
+    ensures few { length stops.new.items ≤ most_ways map.now }
     ensures stops { vec_capacity stops.new ≡ vec_capacity stops.old }
 {
     let terms = list_request_sources(map, seat, server, fire_and_forget, 0, sources);
@@ -95,6 +96,7 @@ pub fn list_waiting_responses(
         → AreQueues p result.kind result.capacity stops.new.items }
     ensures within { QueuesInMemory result.kind result.capacity stops.new.items }
     ensures sources { vec_capacity sources.new ≡ vec_capacity sources.old }
+    ensures few { length stops.new.items ≤ most_ways map.now }
     ensures stops { vec_capacity stops.new ≡ vec_capacity stops.old }
 {
     let terms = list_response_sources(map, client, lane, false, 0, sources);

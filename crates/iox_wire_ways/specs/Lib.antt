@@ -11,6 +11,7 @@ pub mod PlannedSlots
 -- what the crates above cite of those below
 pub use Rattle.iox_wire_copies.specs.Aims as SendsAims
 pub use Rattle.iox_wire_copies.specs.Copies
+pub use Rattle.iox_wire_copies.specs.CopyAims
 pub use Rattle.iox_wire_copies.specs.Copiers
 pub use Rattle.iox_wire_copies.specs.CopyCalls
 pub use Rattle.iox_wire_copies.specs.Dispatches

@@ -1,5 +1,5 @@
 //! How a receive begins, with its ways from the map.
-ghost use Rattle.std.specs.Prelude.{ℕ, ◌≡◌, ◌*◌, ◌≤◌, OnErr, OnOk, false, vec_capacity};
+ghost use Rattle.std.specs.Prelude.{ℕ, ◌≡◌, ◌*◌, ◌≤◌, false, vec_capacity};
 ghost use Rattle.iox_model.specs.declared.call.Call.TheVariants.{Receive};
 ghost use Rattle.iox_model.specs.declared.kind.Role.TheVariants.{Server};
 ghost use Rattle.iox_wire_messages.specs.Plans.{IsLaneAt, IsPortAt, most_ways, number_at};
@@ -17,7 +17,6 @@ use crate::sources::list_request_sources;
 use iox_model::kind::Role;
 use iox_wire_messages::{Entry, StoredSeat, Visit, WordMap};
 use iox_wire_receives::{Receiving, Source};
-use std::alloc::AllocError;
 
 /// Begins the receive of the server at an index, whose handle will have that number. No receive may
 /// be under way. What it lists in `sources` is of no use later.
@@ -29,22 +28,23 @@ pub fn begin_request_receive(
     fire_and_forget: bool,
     number: u64,
     sources: &mut Vec<Source>,
-) -> Result<(), AllocError>
+)
     requires rests { is_busy receiving.old.local ≡ false }
     requires server { IsPortAt map.now Server server }
     requires known { HasRequestWays map.now }
     requires list { most_ways map.now ≤ vec_capacity sources.old }
+    requires room { most_ways map.now ≤ receiving.old.room }
     ensures begun { (p : Setting) → (n : ℕ) → IsSettingOf map.now p
         → p.limits.fire_and_forget ≡ fire_and_forget
-        → OnOk result (placed seat.now.seat receiving.new.local
-        ≡ begins_at_port p seat.now.seat (Receive n) (p.port (number_at map.now server))) }
+        → placed seat.now.seat receiving.new.local
+        ≡ begins_at_port p seat.now.seat (Receive n) (p.port (number_at map.now server)) }
     ensures aimed { (p : Setting) → IsSettingOf map.now p
         → p.limits.fire_and_forget ≡ fire_and_forget → number ≡ next_handle p seat.now.seat
-        → OnOk result (IsAimed p seat.now.seat receiving.new) }
-    ensures counts { OnOk result (HasRoomFor seat.now.seat receiving.new.local) }
-    ensures number { OnOk result (receiving.new.terms.number ≡ number) }
-    ensures unchanged { OnErr result (receiving.new ≡ receiving.old) }
+        → IsAimed p seat.now.seat receiving.new }
+    ensures counts { HasRoomFor seat.now.seat receiving.new.local }
+    ensures number { receiving.new.terms.number ≡ number }
     ensures list { vec_capacity sources.new ≡ vec_capacity sources.old }
+    ensures room { receiving.new.room ≡ receiving.old.room }
 {
     let terms = list_request_sources(map, seat, server, fire_and_forget, number, sources);
     let visit = Visit {
@@ -67,22 +67,23 @@ pub fn begin_response_receive(
     fire_and_forget: bool,
     number: u64,
     sources: &mut Vec<Source>,
-) -> Result<(), AllocError>
+)
     requires rests { is_busy receiving.old.local ≡ false }
     requires client { number_at map.now client ≡ pending.port }
     requires lane { IsLaneAt map.now client pending.lane }
     requires header { map.now.response.header.size ≡ 8 * header_length Server }
     requires list { most_ways map.now ≤ vec_capacity sources.old }
+    requires room { most_ways map.now ≤ receiving.old.room }
     ensures begun { (p : Setting) → (n : ℕ) → IsSettingOf map.now p
-        → OnOk result (placed seat.now.seat receiving.new.local
-        ≡ begins_at_entry p seat.now.seat (Receive n) pending) }
+        → placed seat.now.seat receiving.new.local
+        ≡ begins_at_entry p seat.now.seat (Receive n) pending }
     ensures aimed { (p : Setting) → IsSettingOf map.now p
         → p.limits.fire_and_forget ≡ fire_and_forget → number ≡ next_handle p seat.now.seat
-        → OnOk result (IsAimed p seat.now.seat receiving.new) }
-    ensures counts { OnOk result (HasRoomFor seat.now.seat receiving.new.local) }
-    ensures number { OnOk result (receiving.new.terms.number ≡ number) }
-    ensures unchanged { OnErr result (receiving.new ≡ receiving.old) }
+        → IsAimed p seat.now.seat receiving.new }
+    ensures counts { HasRoomFor seat.now.seat receiving.new.local }
+    ensures number { receiving.new.terms.number ≡ number }
     ensures list { vec_capacity sources.new ≡ vec_capacity sources.old }
+    ensures room { receiving.new.room ≡ receiving.old.room }
 {
     let lane = pending.lane;
     let terms = list_response_sources(map, client, lane, fire_and_forget, number, sources);

@@ -85,6 +85,7 @@ pub fn list_request_returns(
     ensures places { (p : Setting) → IsSettingOf map.now p
         → AreReturning p result stops.new.items }
     ensures within { QueuesInMemory Index result stops.new.items }
+    ensures few { length stops.new.items ≤ most_ways map.now }
     ensures list { vec_capacity stops.new ≡ vec_capacity stops.old }
 {
     // only what this promises is wanted

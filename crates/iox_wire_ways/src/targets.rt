@@ -90,6 +90,7 @@ pub fn list_targets(
         → AreTargets p result loan targets.new.items }
     ensures within { AreWithin result targets.new.items }
     ensures rest { KeepsTerms terms result }
+    ensures few { length targets.new.items ≤ most_ways map.now }
     ensures list { vec_capacity targets.new ≡ vec_capacity targets.old }
 {
     // only what this promises is wanted

@@ -2,14 +2,12 @@
 use Rattle.std.specs.Prelude.{filter, IsSomeAnd, ◌++◌, ◌⊎◌}
 use Rattle.std.specs.Option.{option_map_or}
 use Rattle.std.proofs.Common.{◌≡◌, ℕ, ◌+◌, ◌-◌, ◌*◌, ◌/◌, ◌^◌, ◌<◌, ◌≤◌, ◌==◌, true, false, if◌then◌else◌, List, length, Option, Some, None, refl, ap, ap₂, sym, subst, ◌∙◌, arith, inl, inr, true≢false}
-use Rattle.std.proofs.Math.Nat.{mul_assoc}
-use Rattle.std.proofs.lemmas.Nat.{mul-le}
 use Rattle.iox_model.specs.declared.kind.Kind.{Kind}
 use Rattle.iox_model.specs.declared.kind.Kind.TheVariants as kinds
 use Rattle.iox_model.specs.declared.kind.Role.{Role}
 use Rattle.iox_model.specs.declared.kind.Role.TheVariants.{Client, Server}
 use Rattle.iox_model.specs.declared.way.Way.{Way}
-use Rattle.iox_model.specs.Handles.{is_request_loan, is_response_loan, same_kind}
+use Rattle.iox_model.specs.Handles.{is_received, is_request_loan, is_response_loan, same_kind}
 use Rattle.iox_model.specs.Joins.{not_living}
 use Rattle.iox_model.specs.Maps.{has_number}
 use Rattle.iox_model.specs.Messages.{request_way, response_way}
@@ -27,13 +25,14 @@ use Rattle.iox_wire_nodes.specs.Nodes.{Node, seat_at, seat_in}
 use Rattle.iox_wire_nodes.specs.declared.call_at.CallAt.{CallAt}
 use Rattle.iox_wire_nodes.specs.declared.call_at.CallAt.TheVariants as at
 use Rattle.iox_wire_nodes.specs.PlanPort.{PlanPort}
-use Rattle.iox_wire_nodes.specs.Plans.{details_of, numbers_of, role_of, sizes_of}
+use Rattle.iox_wire_nodes.specs.WirePlan.{WirePlan}
+use Rattle.iox_wire_nodes.specs.Plans.{details_of, numbers_of, role_of, sizes_of, slot_words_of}
 use Rattle.iox_wire_nodes.specs.PlansOf.{IsAsPlanned, IsShapeOf}
 use Rattle.iox_wire_nodes.specs.Programs.{WireLayout}
 use Rattle.iox_wire_nodes.specs.Seat.{Seat}
 use Rattle.iox_wire_nodes.specs.Tables.{Setting, entry_at, port_shape, state_in, way_in}
 use Rattle.iox_wire_nodes.specs.WirePlans.{HandleStands, IsLaneOf, IsWirePlan}
-use Rattle.iox_wire_nodes.specs.PlacedHandles.{HasSlot, words_behind_header}
+use Rattle.iox_wire_nodes.specs.PlacedHandles.{HasSlot, IsWritableAs, is_loan_of, words_behind_header, words_each}
 use Rattle.iox_wire_nodes.proofs.Planned.{Found, each_planned, find_planned}
 use Rattle.iox_wire_needs.specs.CallPlaces.{SuitsPort, is_kind_of}
 use Rattle.iox_wire_needs.specs.CallsStand.{CallStands}
@@ -52,6 +51,7 @@ use Rattle.iox_wire_needs.proofs.LanesTell.{in_table, lane_of_client, low, reque
 use Rattle.iox_wire_needs.proofs.OwnPorts.{is_response}
 use Rattle.iox_wire_weaves.specs.Laws.{HandlesStand}
 use Rattle.iox_wire_weaves.specs.Wires.{Shows, WireData, WireNode, living_refusal, node_at, players_of, seat_of}
+use Rattle.iox_wire_weaves.proofs.SlotRooms.{eighth, payload_behind, slot_room, within, within_slot}
 use Rattle.iox_wire_weaves.proofs.NodesKnown.{entry_there, handle_kind, here, idle, if_some, lives, same}
 
 -- ---- kinds and roles
@@ -86,25 +86,19 @@ desks_alike x at.SendsResponse = refl
 desks_alike x at.CopiesRequest = refl
 desks_alike x at.CopiesResponse = refl
 
--- ---- numbers
-
-turned : (n m : ℕ) → n * (8 * m) ≡ 8 * (n * m)
-turned n m =
-    let a : n * (m * 8) ≡ n * m * 8 = sym (mul_assoc n m 8) in
-    let e : 8 * m ≡ m * 8 = omega arith in
-    ap (λ k. n * k) e ∙ a ∙ omega arith
-
-eighth : (a b : ℕ) → a ≡ 8 * b → a / 8 ≡ b
-eighth a b is = omega (arith, is)
-
--- the words of a user header and of so many elements are no more than the region of slots that are for longer messages
-within : (h u a t g w b l n s region pool slot : ℕ) → u ≡ 8 * w → t ≡ 8 * b → l ≤ n → h + u + a + n * t + g ≤ s → 8 * region ≡ pool * s → slot < pool
-    → w + l * b ≤ region
-within h u a t g w b l n s region pool slot user part fewer room whole some =
-    let product : l * t ≡ 8 * (l * b) = ap (λ k. l * k) part ∙ turned l b in
-    let less : l * t ≤ n * t = mul-le l t n t fewer (omega arith) in
-    let slots : 1 * s ≤ pool * s = mul-le 1 s pool s (omega (arith, some)) (omega arith) in
-    omega (arith, user, product, less, room, whole, slots)
+-- a loan was not received
+loan_is_own : (role : Role) (kind : Kind) → is_loan_of role kind ≡ true → is_received kind ≡ false
+loan_is_own role kinds.Client is = refl
+loan_is_own role kinds.Server is = refl
+loan_is_own role kinds.RequestMutUninit is = refl
+loan_is_own role kinds.RequestMut is = refl
+loan_is_own role kinds.ResponseMutUninit is = refl
+loan_is_own role kinds.ResponseMut is = refl
+loan_is_own role kinds.PendingResponse is = refl
+loan_is_own Client kinds.ActiveRequest is = absurd (true≢false (sym is))
+loan_is_own Server kinds.ActiveRequest is = absurd (true≢false (sym is))
+loan_is_own Client kinds.Response is = absurd (true≢false (sym is))
+loan_is_own Server kinds.Response is = absurd (true≢false (sym is))
 
 module _ (p : Setting) (wire : WireData) (r : Run) (n : ℕ) (x : WireNode) (shows : Shows p wire r) (there : node_at n wire.nodes ≡ Some x)
     (plan : IsWirePlan wire.plan wire.terms) (alive : living_refusal wire.nodes n ≡ None) (rests : is_busy (seat_in x.node).local ≡ false)
@@ -285,6 +279,58 @@ module _ (p : Setting) (wire : WireData) (r : Run) (n : ℕ) (x : WireNode) (sho
       counted : (total count own region m : ℕ) → own ≡ total → count ≡ m → m ≤ region → region ≤ own → 2 * total < 2 ^ 64 → total + count < 2 ^ 64
       counted total count own region m is words less inside few = omega (arith, is, words, less, inside, few)
 
+  -- ---- and those of a slot
+
+  region_there : p.layout.sizes.region e.sender ≡ (p.port e.sender).pool * slot_words_of wire.plan e.sender
+  region_there =
+      ap (λ (z : Sizes). z.region e.sender) sizes_are
+      ∙ ap (λ (o : Option PlanPort). option_map_or (λ (k : PlanPort). k.pool * k.slot_words) o 0) (planned e.sender known).found
+      ∙ ap₂ (λ (a b : ℕ). a * b) (sym (pool_is e.sender known))
+      (sym (ap (λ (o : Option PlanPort). option_map_or (λ (k : PlanPort). k.slot_words) o 0) (planned e.sender known).found))
+
+  some_slot : (k pool : ℕ) → k < pool → 0 < pool
+  some_slot k pool less = omega (arith, less)
+
+  in_slot : length (port_shape p e.sender).user + e.elements * (port_shape p e.sender).width ≤ slot_words_of wire.plan e.sender
+  in_slot =
+      within_slot d.header_part.size d.user_part.size (d.user_part.alignment - 1) d.element_part.size (d.element_part.alignment - 1) (length d.user) d.width e.elements
+      (p.port e.sender).longest (message_size d (p.port e.sender).longest) (slot_words_of wire.plan e.sender)
+      message.fits.region.user message.fits.region.element (subst (λ k. k ≤ (p.port e.sender).longest) (stored.lengths e has low_slot) message.fits.room)
+      (aligned_place-ge (bytes_of_parts d.header_part d.user_part d.element_part (p.port e.sender).longest) d.header_part.alignment
+      (IsPowerOfTwo-positive d.header_part.alignment message.fits.region.header_part))
+      (slot_room (p.layout.sizes.region e.sender) (p.port e.sender).pool (message_size d (p.port e.sender).longest) (slot_words_of wire.plan e.sender)
+      message.fits.region.region region_there (some_slot e.slot (p.port e.sender).pool low_slot))
+
+  few : words_behind_header wire.plan e.sender e.elements ≤ slot_words_of wire.plan e.sender
+  few = subst (λ k. k ≤ slot_words_of wire.plan e.sender) (sym words_are) in_slot
+
+  -- ---- the payload of a loan
+
+  role_own : (role : Role) → is_loan_of role e.kind ≡ true → (p.port e.port).role ≡ role
+  role_own Client is = client_role (p.port e.port).role (lane_of_client (p.port e.port).role e.kind suits.1 (request_has e.kind is))
+  role_own Server is = response_server (p.port e.port).role e.kind suits.1 is
+
+  writable : (role : Role) → IsWritableAs wire.plan role e
+  writable role loan =
+      let own : e.sender ≡ e.port = ((mine.names.entries e has).own (loan_is_own role e.kind loan)).1 in
+      let role_is : role_of wire.plan e.sender ≡ role = role_there e.sender known ∙ ap (λ k. (p.port k).role) own ∙ role_own role loan in
+      let same : e.elements * words_each wire.plan (role_of wire.plan e.sender) ≡ e.elements * words_each wire.plan role
+      = ap (λ k. e.elements * words_each wire.plan k) role_is in
+      let behind = payload_behind wire.plan e.sender e.elements in let all = few in let low = memory in
+      record {
+        few = subst (λ k. e.elements * words_each wire.plan role ≤ slot_words_of wire.plan k) own
+            (less (e.elements * words_each wire.plan role) (e.elements * words_each wire.plan (role_of wire.plan e.sender)) (words_behind_header wire.plan e.sender e.elements)
+            (slot_words_of wire.plan e.sender) same behind all);
+        memory = lower (total_words (sizes_of wire.plan)) (e.elements * words_each wire.plan role) (e.elements * words_each wire.plan (role_of wire.plan e.sender))
+            (words_behind_header wire.plan e.sender e.elements) same behind low;
+      }
+    where
+      less : (a b c k : ℕ) → b ≡ a → b ≤ c → c ≤ k → a ≤ k
+      less a b c k is behind all = omega (arith, is, behind, all)
+
+      lower : (total a b c : ℕ) → b ≡ a → b ≤ c → total + c < 2 ^ 64 → total + a < 2 ^ 64
+      lower total a b c is behind low = omega (arith, is, behind, low)
+
   -- ---- together
 
   small : (k : ℕ) → k < 2 ^ 62 → k + 1 < 2 ^ 63
@@ -303,7 +349,8 @@ module _ (p : Setting) (wire : WireData) (r : Run) (n : ℕ) (x : WireNode) (sho
     };
     states = record { pending = waits; request = asks };
     hint = small e.request (stored.suits e has low_slot).small;
-    readable = record { slot = slot; memory = memory };
+    readable = record { slot = slot; few = few; memory = memory };
+    writable = writable;
     own = λ own. ((mine.names.entries e has).own own).1;
     request = lent;
     response = answers;

@@ -8,6 +8,7 @@ pub mod StepsShown
 pub mod DeathsShown
 pub mod BeginsShown
 pub mod NodesKnown
+mod SlotRooms
 pub mod HandlesStanding
 pub mod Opened
 pub mod LivingDesks
@@ -26,3 +27,4 @@ pub use Rattle.iox_wire_nodes.proofs.Layouts
 pub use Rattle.iox_wire_nodes.proofs.NameLemmas
 pub use Rattle.iox_wire_nodes.proofs.Planned
 pub use Rattle.iox_wire_nodes.proofs.PortsKept
+pub use Rattle.iox_wire_nodes.proofs.RoomsKept

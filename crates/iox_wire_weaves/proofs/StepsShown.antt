@@ -41,7 +41,7 @@ use Rattle.iox_wire_needs.specs.Places.{InPools}
 use Rattle.iox_wire_needs.proofs.Places.{places_are_in_pools}
 use Rattle.iox_wire_needs.proofs.StepWhole.{stepped_wires_stand}
 use Rattle.iox_wire_needs.specs.NamedSlots.{HoldsLent, Names}
-use Rattle.iox_wire_needs.proofs.Forgotten.{members_stay}
+use Rattle.iox_wire_needs.proofs.CallsAround.{members_stay}
 use Rattle.iox_wire_needs.proofs.NamedSlots.{named_slots_hold_lent}
 use Rattle.iox_wire_weaves.specs.Laws.{LivesAs, Replaces, StepsAreSafe, StepsShow, WentOn, progress_of}
 use Rattle.iox_model.specs.declared.event.Event.{Event}

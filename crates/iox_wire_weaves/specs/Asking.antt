@@ -23,7 +23,7 @@ call_refusal p wire n call =
     (refusal_at p (seat_of p wire.nodes n) (Port call))
 
 -- The machine refuses the call by that name, in each run that the wire shows; where it refuses
--- nothing, there is no memory.
+-- nothing, want of memory is told.
 abbrev pub IsBeginRefusal : WireData → ℕ → NodeCall → WireRefusal → Type 0
 IsBeginRefusal wire n call refusal =
     (p : Setting) (r : Run) → Shows p wire r

@@ -1,5 +1,5 @@
 -- That a wire shows a run as it opens, and goes on showing one.
-use Rattle.std.specs.Prelude.{◌≡◌, ℕ, ◌==◌, false, true, ◌++◌, List, [], length, replicate, Option, Some, None, is_some, option_map, ◌<◌, IfSome}
+use Rattle.std.specs.Prelude.{◌≡◌, ℕ, ◌+◌, ◌==◌, false, true, ◌++◌, List, [], length, replicate, Option, Some, None, is_some, option_map, ◌<◌, IfSome}
 use Rattle.iox_model.specs.Maps.{has_number}
 use Rattle.iox_model.specs.Schedules.{IsStepOf}
 use Rattle.iox_model.specs.States.{State}
@@ -24,7 +24,6 @@ use Rattle.iox_wire_nodes.specs.Tables.{Setting, entry_at}
 use Rattle.iox_wire_nodes.specs.WirePlans.{HandleStands, IsWirePlan}
 use Rattle.iox_wire_nodes.specs.WireTerms.{WireTerms}
 use Rattle.iox_wire_nodes.specs.Aims.{IsAimed}
-use Rattle.iox_wire_nodes.specs.SeatsAims.{KeepsRoom}
 use Rattle.iox_wire_nodes.specs.declared.call_at.CallAt.TheVariants.{Seats}
 use Rattle.iox_wire_nodes.specs.declared.call_at.NodeReply.{NodeReply}
 use Rattle.iox_wire_nodes.specs.Nodes.{Node, reply_in, seat_in}
@@ -91,7 +90,7 @@ pub record WentOn (p : Setting) (x : Node) (seen : ℕ) (reply : Option NodeRepl
   pub next_is : seat_in y ≡ next p (seat_in x) seen
   pub told : tells p (seat_in x) seen ≡ option_map (reply_in y.seat.words) reply
   pub aimed : InPools p (seat_in y).local → IsAimed p y
-  pub room : KeepsRoom x.seat y.seat
+  pub room : y.seat.room + length y.seat.seat.table ≡ x.seat.room + length x.seat.seat.table
 
 -- A living node accesses a word of the wire.
 abbrev pub StepsAreSafe : Type 0

@@ -19,6 +19,7 @@ pub enum WireRefusal {
     AtRest,
     /// The node made as many accesses as it may.
     AccessesSpent,
-    /// There is no memory for what the call visits, or for what the step is to record.
+    /// The node has no room for the handle that the call may add, or there is none for what the step
+    /// is to record, and no memory.
     WantOfMemory,
 }

@@ -1,6 +1,6 @@
 //! How a node of a wire begins a call.
-ghost use Rattle.std.specs.Prelude.{ℕ, ◌≡◌, ◌<◌, IfErr, OnErr, OnOk, false, true};
-ghost use Rattle.std.specs.Bool.{OnFalse};
+ghost use Rattle.std.specs.Prelude.{ℕ, ◌≡◌, ◌<◌, IfErr, IfSome, None, OnErr, OnOk, false, true};
+ghost use Rattle.std.specs.Bool.{OnFalse, OnTrue};
 ghost use Rattle.iox_wire_weaves.specs.Begins.{is_busy};
 ghost use Rattle.iox_wire_weaves.specs.Calls.{may_add_handle};
 ghost use Rattle.iox_wire_weaves.specs.Lendings.{next_handle};
@@ -11,17 +11,47 @@ ghost use Rattle.iox_wire_weaves.specs.ListRooms.{HasRoomFor};
 ghost use Rattle.iox_wire_weaves.specs.Tables.{Setting};
 ghost use Rattle.iox_wire_weaves.specs.Terms.{IsSettingWith};
 ghost use Rattle.iox_wire_weaves.specs.WirePlans.{IsWirePlan};
-ghost use Rattle.iox_wire.specs.Begun.{HasBegun, IsRefusedBy, StaysPut};
+ghost use Rattle.iox_wire_weaves.specs.HandleCalls.{refusal_in};
+ghost use Rattle.iox_wire_weaves.specs.Rooms.{HasRoomToBegin};
+ghost use Rattle.iox_wire_weaves.specs.Wires.{machine_refusal};
+ghost use Rattle.iox_wire_weaves.specs.declared.refusal.WireRefusal.TheVariants.{WantOfMemory};
+ghost use Rattle.iox_wire.specs.Begun.{FindsNoRoom, HasBegun, IsRefusedBy};
 
 use super::Member;
 use crate::finding::find_port;
-use iox_wire_weaves::{Lists, NodeCall, NodeError, WireTerms, WordMap};
+use iox_wire_weaves::{BeginError, Lists, NodeCall, NodeError, WireRefusal, WireTerms, WordMap};
+
+/// A wire's name of a refusal.
+fn refusal_of(error: BeginError) -> WireRefusal
+    ensures named { machine_refusal result ≡ refusal_in error }
+    ensures memory { result ≡ WantOfMemory → ⊥ }
+{
+    match error {
+        BeginError::Busy => WireRefusal::Busy,
+        BeginError::UnknownNumber => WireRefusal::UnknownNumber,
+        BeginError::ForeignNumber => WireRefusal::ForeignNumber,
+        BeginError::WrongKind => WireRefusal::WrongKind,
+    }
+}
+
+/// The wire's name of why the node's own tables refuse a call, if they do, and else want of memory.
+fn refusal_or_want(refusal: Option<BeginError>) -> WireRefusal
+    ensures named { IfSome refusal (λ error. machine_refusal result ≡ refusal_in error) }
+    ensures memory { IfSome refusal (λ error. result ≡ WantOfMemory → ⊥) }
+    ensures want { refusal ≡ None → result ≡ WantOfMemory }
+{
+    match refusal {
+        Some(error) => refusal_of(error),
+        None => WireRefusal::WantOfMemory,
+    }
+}
 
 impl Member {
     /// Whether there is no room for a handle that the call may add.
     fn lacks_room(&self, call: NodeCall<'_>) -> bool
-        ensures { OnFalse result
+        ensures room { OnFalse result
             (may_add_handle call.entry ≡ true → 0 < self.now.node.seat.room) }
+        ensures none { OnTrue result (FindsNoRoom self.now call.entry) }
     {
         call.may_add_handle() && !self.has_room()
     }
@@ -34,7 +64,7 @@ impl Member {
         call: NodeCall<'_>,
         begun: usize,
         lists: &mut Lists,
-    ) -> Result<(), NodeError>
+    ) -> Result<(), WireRefusal>
         requires plan { IsWirePlan map.now terms.now }
         requires setting { (p : Setting) × IsSettingWith map.now terms.now p }
         requires may { is_busy (seat_in self.old.node).local ≡ false
@@ -44,17 +74,23 @@ impl Member {
             → (port : ℕ)
             → MayLend self.old.node.seat (next_handle p self.old.node.seat.seat) port }
         requires lists { HasRoomFor map.now lists.old }
-        ensures begun { OnOk result (HasBegun map.now terms.now self.old call.entry begun self.new) }
+        requires rooms { HasRoomToBegin map.now self.old.node }
+        ensures begun { OnOk result
+            (HasBegun map.now terms.now self.old call.entry begun self.new) }
         ensures refused { IfErr result (IsRefusedBy map.now terms.now self.old call.entry) }
-        ensures unchanged { OnErr result (StaysPut self.old call.entry self.new) }
+        ensures full { IfErr result (λ error. error ≡ WantOfMemory
+            → FindsNoRoom self.old call.entry) }
+        ensures unchanged { OnErr result (self.new ≡ self.old) }
         ensures lists { HasRoomFor map.now lists.new }
     {
         let port = find_port(map, call.number());
         if self.lacks_room(call) {
-            let error = self.node.refuse_without_room(map, terms, call, port);
-            return Err(NodeError::Begin(error));
+            let refusal = self.node.refusal(map, terms, call, port);
+            return Err(refusal_or_want(refusal));
         }
-        self.node.begin(map, terms, call, port, lists)?;
+        if let Err(NodeError::Begin(error)) = self.node.begin(map, terms, call, port, lists) {
+            return Err(refusal_of(error));
+        }
         self.keep(call, begun);
         Ok(())
     }

@@ -8,10 +8,9 @@ use crate::payload_places::PayloadPlaces;
 use iox_wire_locals::Entry;
 use iox_wire_request_sends::Lender;
 use iox_wire_seats::{Stop, StoredSeat};
-use std::alloc::AllocError;
 
 impl CopyLending {
-    ghost use Rattle.std.specs.Prelude.{◌≡◌, ◌≤◌, OnErr, OnOk, false, length, true};
+    ghost use Rattle.std.specs.Prelude.{◌≡◌, ◌≤◌, false, length, true};
     ghost use Rattle.iox_model.specs.Loans.{response_ways};
     ghost use Rattle.iox_steps.specs.declared.site.QueueKind.TheVariants.{Index};
     ghost use Rattle.iox_wire_locals.specs.Begins.{is_busy};
@@ -25,7 +24,7 @@ impl CopyLending {
     ghost use Rattle.iox_wire_request_sends.specs.Lenders.{AreReturning, IsLender, IsServer, IsWhole};
     ghost use Rattle.iox_wire_request_sends.specs.Orders.{IsResponse};
     ghost use Rattle.iox_wire_copies.specs.Copies.{ArePayloads};
-    ghost use Rattle.iox_wire_copies.specs.CopyAims.{IsAimed};
+    ghost use Rattle.iox_wire_copies.specs.CopyAims.{HasSameRooms, IsAimed};
     ghost use Rattle.iox_wire_copies.specs.Payloads.{HasRoom};
 
     /// Begins the loan of a copy by a server to a request that it received, which gets back on
@@ -40,31 +39,33 @@ impl CopyLending {
         elements: u64,
         words: &[u64],
         stops: &[Stop],
-    ) -> Result<(), AllocError>
+    )
         requires rests { is_busy self.old.local ≡ false }
         requires seat { is_busy seat.old.seat.local ≡ false }
         requires whole { IsWhole lender.now }
         requires within { QueuesInMemory Index lender.now.room stops.now }
         requires room { HasRoom lender.now.places places }
         requires fits { elements ≤ lender.now.longest → length words.now ≤ places.room }
+        requires ways { length stops.now ≤ self.old.lending.ways_room }
+        requires words { lender.now.places.slot_words ≤ self.old.lending.words_room }
+        requires payload { lender.now.places.slot_words ≤ self.old.payload_room }
         ensures begun { (p : Setting) → IsLender p lender.now → IsServer p lender.now
             → request.port ≡ lender.now.port → number ≡ next_handle p seat.old.seat
             → ways_of stops.now
             ≡ response_ways (known p seat.old.seat) (p.port lender.now.port).node lender.now.port
-            → OnOk result (placed seat.new.seat self.new.local
-            ≡ lends_response p seat.old.seat request elements words.now true) }
+            → placed seat.new.seat self.new.local
+            ≡ lends_response p seat.old.seat request elements words.now true }
         ensures aimed { (p : Setting) → IsLender p lender.now → IsServer p lender.now
             → number ≡ next_handle p seat.old.seat → AreReturning p lender.now.room stops.now
             → ArePayloads p lender.now.port lender.now.places places
             → TellsOfSlot p self.new.local
-            → OnOk result (IsAimed p seat.new.seat self.new) }
-        ensures ordered { OnOk result (IsOrdered self.new.lending number lender.now.port) }
-        ensures response { OnOk result (IsResponse self.new.lending.order request) }
-        ensures slots { OnOk result (self.new.slots ≡ lender.now.places) }
-        ensures busy { OnOk result (is_busy self.new.local ≡ true) }
+            → IsAimed p seat.new.seat self.new }
+        ensures ordered { IsOrdered self.new.lending number lender.now.port }
+        ensures response { IsResponse self.new.lending.order request }
+        ensures slots { self.new.slots ≡ lender.now.places }
+        ensures busy { is_busy self.new.local ≡ true }
         ensures leaves { LeavesSeat seat.old seat.new }
-        ensures unchanged { OnErr result (self.new ≡ self.old) }
-        ensures seat_unchanged { OnErr result (seat.new ≡ seat.old) }
+        ensures rooms { HasSameRooms self.old self.new }
     {
         // what is longer than any response is refused
         let kept = if elements <= lender.longest {
@@ -72,15 +73,11 @@ impl CopyLending {
         } else {
             0
         };
-        if self.payload.capacity() < kept {
-            self.payload.reserve(kept)?;
-        }
         self.lending
-            .lend_response(seat, lender, request, number, elements, stops)?;
+            .lend_response(seat, lender, request, number, elements, stops);
         replace(&mut self.payload, &words[..kept]);
         self.slots = lender.places;
         self.places = places;
         self.at = CopyAt::Lends;
-        Ok(())
     }
 }

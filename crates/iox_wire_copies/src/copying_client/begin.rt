@@ -6,10 +6,9 @@ use crate::at::CopierAt;
 use crate::payload_places::PayloadPlaces;
 use iox_wire_request_sends::{Lender, RequestTerms, Target};
 use iox_wire_seats::{Stop, StoredSeat};
-use std::alloc::AllocError;
 
 impl CopyingClient {
-    ghost use Rattle.std.specs.Prelude.{ℕ, ◌≡◌, ◌≤◌, OnErr, OnOk, Some, false, length, true};
+    ghost use Rattle.std.specs.Prelude.{ℕ, ◌≡◌, ◌≤◌, Some, false, length, true};
     ghost use Rattle.iox_model.specs.Loans.{request_ways};
     ghost use Rattle.iox_steps.specs.declared.site.QueueKind.TheVariants.{Index};
     ghost use Rattle.iox_wire_locals.specs.declared.local.Local.TheVariants.{Idle};
@@ -26,17 +25,20 @@ impl CopyingClient {
     ghost use Rattle.iox_wire_request_sends.specs.Targets.{AreWithin};
     ghost use Rattle.iox_wire_copies.specs.Copiers.{MayBeMade};
     ghost use Rattle.iox_wire_copies.specs.Copies.{ArePayloads};
+    ghost use Rattle.iox_wire_copies.specs.CopyAims.{HasSameRooms};
     ghost use Rattle.iox_wire_copies.specs.CopyCalls.{IsAimed, KnowsServersOnLane, TellsOfSlotAndLane};
     ghost use Rattle.iox_wire_copies.specs.Payloads.{HasRoom};
 
     /// Is told of the servers to which it sends. No copy may be under way.
-    pub fn prepare(&mut self, terms: RequestTerms, targets: &[Target]) -> Result<(), AllocError>
+    pub fn prepare(&mut self, terms: RequestTerms, targets: &[Target])
         requires rests { is_busy self.old.local ≡ false }
         requires within { AreWithin terms targets.now }
-        ensures terms { OnOk result (self.new.sends.terms ≡ terms) }
-        ensures targets { OnOk result (self.new.sends.targets ≡ targets.now) }
+        requires fits { length targets.now ≤ self.old.sends.room }
+        ensures terms { self.new.sends.terms ≡ terms }
+        ensures targets { self.new.sends.targets ≡ targets.now }
         ensures rests { is_busy self.new.local ≡ false }
-        ensures unchanged { OnErr result (self.new ≡ self.old) }
+        ensures lends { self.new.lends ≡ self.old.lends }
+        ensures room { self.new.sends.room ≡ self.old.sends.room }
     {
         self.sends.prepare(terms, targets)
     }
@@ -53,7 +55,7 @@ impl CopyingClient {
         elements: Option<u64>,
         words: &[u64],
         stops: &[Stop],
-    ) -> Result<(), AllocError>
+    )
         requires rests { is_busy self.old.local ≡ false }
         requires seat { is_busy seat.old.seat.local ≡ false }
         requires whole { IsWhole lender.now }
@@ -61,12 +63,15 @@ impl CopyingClient {
         requires room { HasRoom lender.now.places places }
         requires fits { (k : ℕ) → elements ≡ Some k → k ≤ lender.now.longest
             → length words.now ≤ places.room }
+        requires ways { length stops.now ≤ self.old.lends.lending.ways_room }
+        requires words { lender.now.places.slot_words ≤ self.old.lends.lending.words_room }
+        requires payload { lender.now.places.slot_words ≤ self.old.lends.payload_room }
         ensures begun { (p : Setting) → IsLender p lender.now → IsClient p lender.now
             → number ≡ next_handle p seat.old.seat
             → ways_of stops.now
             ≡ request_ways (known p seat.old.seat) (p.port lender.now.port).node lender.now.port
-            → OnOk result (placed seat.new.seat self.new.local
-            ≡ copies_request p seat.old.seat (p.port lender.now.port) elements words.now) }
+            → placed seat.new.seat self.new.local
+            ≡ copies_request p seat.old.seat (p.port lender.now.port) elements words.now }
         ensures aimed { (p : Setting) → IsLender p lender.now → IsClient p lender.now
             → number ≡ next_handle p seat.old.seat → AreReturning p lender.now.room stops.now
             → ArePayloads p lender.now.port lender.now.places places
@@ -75,26 +80,24 @@ impl CopyingClient {
             → KnowsServersOnLane p seat.old.seat lender.now.port
             (first_lane lender.now.pool (free_lanes seat.old.seat lender.now.port)) self.old.sends
             → TellsOfSlotAndLane p self.new.local
-            → OnOk result (IsAimed p seat.new.seat self.new) }
+            → IsAimed p seat.new.seat self.new }
         ensures ordered { (k : ℕ) → elements ≡ Some k
-            → OnOk result (IsOrdered self.new.lends.lending number lender.now.port) }
-        ensures may { (x : Placed) → MayLend x number lender.now.port → OnOk result
-            (MayBeMade x self.new.at self.new.lends.lending.order self.new.sends.loan) }
-        ensures busy { OnOk result (is_busy self.new.local ≡ true) }
+            → IsOrdered self.new.lends.lending number lender.now.port }
+        ensures may { (x : Placed) → MayLend x number lender.now.port
+            → MayBeMade x self.new.at self.new.lends.lending.order self.new.sends.loan }
+        ensures busy { is_busy self.new.local ≡ true }
         ensures told { self.new.sends ≡ self.old.sends }
         ensures leaves { LeavesSeat seat.old seat.new }
-        ensures unchanged { OnErr result (self.new ≡ self.old) }
-        ensures seat_unchanged { OnErr result (seat.new ≡ seat.old) }
+        ensures rooms { HasSameRooms self.old.lends self.new.lends }
     {
         let Some(count) = elements else {
             self.at = CopierAt::Refuses;
-            return Ok(());
+            return;
         };
         self.lends
-            .lend_request(seat, lender, places, number, count, words, stops)?;
+            .lend_request(seat, lender, places, number, count, words, stops);
         // only what this promises is wanted
         self.lends.place();
         self.at = CopierAt::Lends;
-        Ok(())
     }
 }

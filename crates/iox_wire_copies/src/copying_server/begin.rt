@@ -8,10 +8,9 @@ use iox_wire_locals::Entry;
 use iox_wire_request_sends::Lender;
 use iox_wire_seats::{Stop, StoredSeat};
 use iox_wire_sends::ResponseTerms;
-use std::alloc::AllocError;
 
 impl CopyingServer {
-    ghost use Rattle.std.specs.Prelude.{ℕ, ◌≡◌, ◌≤◌, OnErr, OnOk, Some, false, length, true};
+    ghost use Rattle.std.specs.Prelude.{ℕ, ◌≡◌, ◌≤◌, Some, false, length, true};
     ghost use Rattle.iox_model.specs.Loans.{response_ways};
     ghost use Rattle.iox_steps.specs.declared.site.QueueKind.TheVariants.{Index};
     ghost use Rattle.iox_wire_locals.specs.Begins.{is_busy};
@@ -27,6 +26,7 @@ impl CopyingServer {
     ghost use Rattle.iox_wire_request_sends.specs.Orders.{IsResponse};
     ghost use Rattle.iox_wire_copies.specs.Copiers.{MayBeMade};
     ghost use Rattle.iox_wire_copies.specs.Copies.{ArePayloads};
+    ghost use Rattle.iox_wire_copies.specs.CopyAims.{HasSameRooms};
     ghost use Rattle.iox_wire_copies.specs.ResponseCopies.{IsAimed, KnowsWay};
     ghost use Rattle.iox_wire_copies.specs.Payloads.{HasRoom};
 
@@ -44,7 +44,7 @@ impl CopyingServer {
         elements: Option<u64>,
         words: &[u64],
         stops: &[Stop],
-    ) -> Result<(), AllocError>
+    )
         requires rests { is_busy self.old.local ≡ false }
         requires seat { is_busy seat.old.seat.local ≡ false }
         requires whole { IsWhole lender.now }
@@ -54,39 +54,40 @@ impl CopyingServer {
             → length words.now ≤ places.room }
         requires messages { IsInMemory terms.messages }
         requires returning { IsInMemory terms.returning }
+        requires ways { length stops.now ≤ self.old.lends.lending.ways_room }
+        requires words { lender.now.places.slot_words ≤ self.old.lends.lending.words_room }
+        requires payload { lender.now.places.slot_words ≤ self.old.lends.payload_room }
         ensures begun { (p : Setting) → IsLender p lender.now → IsServer p lender.now
             → request.port ≡ lender.now.port → number ≡ next_handle p seat.old.seat
             → ways_of stops.now
             ≡ response_ways (known p seat.old.seat) (p.port lender.now.port).node lender.now.port
-            → OnOk result (placed seat.new.seat self.new.local
-            ≡ copies_response p seat.old.seat request elements words.now) }
+            → placed seat.new.seat self.new.local
+            ≡ copies_response p seat.old.seat request elements words.now }
         ensures aimed { (p : Setting) → IsLender p lender.now → IsServer p lender.now
             → request.port ≡ lender.now.port → number ≡ next_handle p seat.old.seat
             → AreReturning p lender.now.room stops.now
             → ArePayloads p lender.now.port lender.now.places places
             → KnowsWay p (state_in request) terms
             → TellsOfSlot p self.new.local
-            → OnOk result (IsAimed p seat.new.seat self.new) }
+            → IsAimed p seat.new.seat self.new }
         ensures ordered { (k : ℕ) → elements ≡ Some k
-            → OnOk result (IsOrdered self.new.lends.lending number lender.now.port) }
+            → IsOrdered self.new.lends.lending number lender.now.port }
         ensures response { (k : ℕ) → elements ≡ Some k
-            → OnOk result (IsResponse self.new.lends.lending.order request) }
-        ensures may { (x : Placed) → MayLend x number lender.now.port → OnOk result
-            (MayBeMade x self.new.at self.new.lends.lending.order self.new.sends.loan) }
-        ensures busy { OnOk result (is_busy self.new.local ≡ true) }
-        ensures told { (k : ℕ) → elements ≡ Some k → OnOk result (self.new.sends.terms ≡ terms) }
+            → IsResponse self.new.lends.lending.order request }
+        ensures may { (x : Placed) → MayLend x number lender.now.port
+            → MayBeMade x self.new.at self.new.lends.lending.order self.new.sends.loan }
+        ensures busy { is_busy self.new.local ≡ true }
+        ensures told { (k : ℕ) → elements ≡ Some k → self.new.sends.terms ≡ terms }
         ensures leaves { LeavesSeat seat.old seat.new }
-        ensures unchanged { OnErr result (self.new ≡ self.old) }
-        ensures seat_unchanged { OnErr result (seat.new ≡ seat.old) }
+        ensures rooms { HasSameRooms self.old.lends self.new.lends }
     {
         let Some(count) = elements else {
             self.at = CopierAt::Refuses;
-            return Ok(());
+            return;
         };
         self.lends
-            .lend_response(seat, lender, places, request, number, count, words, stops)?;
+            .lend_response(seat, lender, places, request, number, count, words, stops);
         self.sends.prepare(terms);
         self.at = CopierAt::Lends;
-        Ok(())
     }
 }

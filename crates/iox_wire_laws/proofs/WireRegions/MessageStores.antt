@@ -90,7 +90,7 @@ loans_are_stored p node f shown o c slot next seen owns stand =
 -- ---- writes
 
 -- the words before the payload, and the payload, are those of a message
-joined : (p : Setting) (c : WireContents) (port slot : ℕ) (r : Role) (m : Message) (words : List ℕ) (from : ℕ) → from ≡ header_length r + length m.user
+pub joined : (p : Setting) (c : WireContents) (port slot : ℕ) (r : Role) (m : Message) (words : List ℕ) (from : ℕ) → from ≡ header_length r + length m.user
     → StandFrom p c port slot 0 (message_words r m) from → StandFrom p c port slot from words (length words)
     → StandFrom p c port slot 0 (header_words r m ++ (m.user ++ words)) (length (header_words r m ++ (m.user ++ words)))
 joined p c port slot r m words from is head tail k low = elim (cases_lt k from) [
@@ -120,7 +120,7 @@ joined p c port slot r m words from is head tail k low = elim (cases_lt k from) 
         let b : length (header_words r m) ≡ header_length r = header_count r m in omega arith
 
 -- another payload leaves header and user header
-with_words : (r : Role) (m : Message) (words : List ℕ) → message_words r (record m { payload = words }) ≡ header_words r m ++ (m.user ++ words)
+pub with_words : (r : Role) (m : Message) (words : List ℕ) → message_words r (record m { payload = words }) ≡ header_words r m ++ (m.user ++ words)
 with_words Client m words = refl
 with_words Server m words = refl
 

@@ -11,10 +11,9 @@ use crate::slot_places::SlotPlaces;
 use iox_model::kind::{Kind, Role};
 use iox_wire_locals::{CallRefusal, Entry};
 use iox_wire_seats::{Stop, StoredSeat};
-use std::alloc::AllocError;
 
 impl Lending {
-    ghost use Rattle.std.specs.Prelude.{◌≡◌, [], OnErr, OnOk, false, true};
+    ghost use Rattle.std.specs.Prelude.{◌≡◌, ◌+◌, ◌≤◌, [], false, length, true};
     ghost use Rattle.iox_model.specs.Loans.{request_ways, response_ways};
     ghost use Rattle.iox_steps.specs.declared.site.QueueKind.TheVariants.{Index};
     ghost use Rattle.iox_wire_locals.specs.Begins.{is_busy};
@@ -27,7 +26,7 @@ impl Lending {
     ghost use Rattle.iox_wire_locals.specs.declared.local.Local.TheVariants.{Ends};
     ghost use Rattle.iox_wire_seats.specs.Aims.{QueuesInMemory};
     ghost use Rattle.iox_wire_seats.specs.Seats.{ways_of};
-    ghost use Rattle.iox_wire_loans.specs.Aims.{IsAimed, IsOrdered, LeavesSeat, TellsOfSlot};
+    ghost use Rattle.iox_wire_loans.specs.Aims.{HasSameRooms, IsAimed, IsOrdered, LeavesSeat, TellsOfSlot};
     ghost use Rattle.iox_wire_loans.specs.Lenders.{AreReturning, AreSlots, IsClient, IsLender};
     ghost use Rattle.iox_wire_loans.specs.Lenders.{IsServer};
     ghost use Rattle.iox_wire_loans.specs.Orders.{IsRequest, IsResponse, loan_of};
@@ -41,29 +40,30 @@ impl Lending {
         number: u64,
         elements: u64,
         stops: &[Stop],
-    ) -> Result<(), AllocError>
+    )
         requires rests { is_busy self.old.local ≡ false }
         requires seat { is_busy seat.old.seat.local ≡ false }
         requires whole { IsWhole lender.now }
         requires within { QueuesInMemory Index lender.now.room stops.now }
+        requires fits { length stops.now ≤ self.old.ways_room }
+        requires words { lender.now.places.slot_words ≤ self.old.words_room }
         ensures begun { (p : Setting) → IsLender p lender.now → IsClient p lender.now
             → number ≡ next_handle p seat.old.seat
             → ways_of stops.now
             ≡ request_ways (known p seat.old.seat) (p.port lender.now.port).node lender.now.port
-            → OnOk result (placed seat.new.seat self.new.local
-            ≡ lends_request p seat.old.seat (p.port lender.now.port) elements [] false) }
+            → placed seat.new.seat self.new.local
+            ≡ lends_request p seat.old.seat (p.port lender.now.port) elements [] false }
         ensures aimed { (p : Setting) → IsLender p lender.now → IsClient p lender.now
             → number ≡ next_handle p seat.old.seat → AreReturning p lender.now.room stops.now
             → TellsOfSlot p self.new.local
-            → OnOk result (IsAimed p seat.new.seat self.new) }
-        ensures ordered { OnOk result (IsOrdered self.new number lender.now.port) }
-        ensures request { OnOk result (IsRequest self.new.order
-            (first_lane lender.now.pool (free_lanes seat.old.seat lender.now.port))) }
-        ensures places { OnOk result (self.new.places ≡ lender.now.places) }
-        ensures busy { OnOk result (is_busy self.new.local ≡ true) }
+            → IsAimed p seat.new.seat self.new }
+        ensures ordered { IsOrdered self.new number lender.now.port }
+        ensures request { IsRequest self.new.order
+            (first_lane lender.now.pool (free_lanes seat.old.seat lender.now.port)) }
+        ensures places { self.new.places ≡ lender.now.places }
+        ensures busy { is_busy self.new.local ≡ true }
         ensures leaves { LeavesSeat seat.old seat.new }
-        ensures unchanged { OnErr result (self.new ≡ self.old) }
-        ensures seat_unchanged { OnErr result (seat.new ≡ seat.old) }
+        ensures rooms { HasSameRooms self.old self.new }
     {
         let port = lender.port;
         let loans = seat.loans(port);
@@ -78,10 +78,7 @@ impl Lending {
             elements,
         };
         match lender.request_refusal(seat, elements) {
-            Some(refusal) => {
-                self.refuse(order, lender.places, refusal);
-                Ok(())
-            }
+            Some(refusal) => self.refuse(order, lender.places, refusal),
             None => self.begin(seat, lender, order, stops),
         }
     }
@@ -96,28 +93,29 @@ impl Lending {
         number: u64,
         elements: u64,
         stops: &[Stop],
-    ) -> Result<(), AllocError>
+    )
         requires rests { is_busy self.old.local ≡ false }
         requires seat { is_busy seat.old.seat.local ≡ false }
         requires whole { IsWhole lender.now }
         requires within { QueuesInMemory Index lender.now.room stops.now }
+        requires fits { length stops.now ≤ self.old.ways_room }
+        requires words { lender.now.places.slot_words ≤ self.old.words_room }
         ensures begun { (p : Setting) → IsLender p lender.now → IsServer p lender.now
             → request.port ≡ lender.now.port → number ≡ next_handle p seat.old.seat
             → ways_of stops.now
             ≡ response_ways (known p seat.old.seat) (p.port lender.now.port).node lender.now.port
-            → OnOk result (placed seat.new.seat self.new.local
-            ≡ lends_response p seat.old.seat request elements [] false) }
+            → placed seat.new.seat self.new.local
+            ≡ lends_response p seat.old.seat request elements [] false }
         ensures aimed { (p : Setting) → IsLender p lender.now → IsServer p lender.now
             → number ≡ next_handle p seat.old.seat → AreReturning p lender.now.room stops.now
             → TellsOfSlot p self.new.local
-            → OnOk result (IsAimed p seat.new.seat self.new) }
-        ensures ordered { OnOk result (IsOrdered self.new number lender.now.port) }
-        ensures response { OnOk result (IsResponse self.new.order request) }
-        ensures places { OnOk result (self.new.places ≡ lender.now.places) }
-        ensures busy { OnOk result (is_busy self.new.local ≡ true) }
+            → IsAimed p seat.new.seat self.new }
+        ensures ordered { IsOrdered self.new number lender.now.port }
+        ensures response { IsResponse self.new.order request }
+        ensures places { self.new.places ≡ lender.now.places }
+        ensures busy { is_busy self.new.local ≡ true }
         ensures leaves { LeavesSeat seat.old seat.new }
-        ensures unchanged { OnErr result (self.new ≡ self.old) }
-        ensures seat_unchanged { OnErr result (seat.new ≡ seat.old) }
+        ensures rooms { HasSameRooms self.old self.new }
     {
         let port = lender.port;
         let order = Order {
@@ -131,10 +129,7 @@ impl Lending {
             elements,
         };
         match lender.response_refusal(seat, request, elements) {
-            Some(refusal) => {
-                self.refuse(order, lender.places, refusal);
-                Ok(())
-            }
+            Some(refusal) => self.refuse(order, lender.places, refusal),
             None => self.begin(seat, lender, order, stops),
         }
     }
@@ -144,6 +139,7 @@ impl Lending {
         ensures local { self.new.local ≡ Ends (Refuses refusal) }
         ensures order { self.new.order ≡ order }
         ensures places { self.new.places ≡ places }
+        ensures rooms { HasSameRooms self.old self.new }
     {
         self.order = order;
         self.places = places;
@@ -152,38 +148,29 @@ impl Lending {
     }
 
     /// Begins a loan that is not refused by the node's own tables.
-    fn begin(
-        &mut self,
-        seat: &mut StoredSeat,
-        lender: &Lender<'_>,
-        order: Order,
-        stops: &[Stop],
-    ) -> Result<(), AllocError>
+    fn begin(&mut self, seat: &mut StoredSeat, lender: &Lender<'_>, order: Order, stops: &[Stop])
         requires rests { is_busy self.old.local ≡ false }
         requires seat { is_busy seat.old.seat.local ≡ false }
         requires whole { IsWhole lender.now }
         requires within { QueuesInMemory Index lender.now.room stops.now }
-        ensures begun { (p : Setting) → OnOk result (placed seat.new.seat self.new.local
-            ≡ loaning seat.old.seat (loan_of order) (ways_of stops.now)) }
+        requires fits { length stops.now ≤ self.old.ways_room }
+        requires words { lender.now.places.slot_words ≤ self.old.words_room }
+        ensures begun { (p : Setting) → placed seat.new.seat self.new.local
+            ≡ loaning seat.old.seat (loan_of order) (ways_of stops.now) }
         ensures aimed { (p : Setting) → order.number ≡ next_handle p seat.old.seat
             → words_of lender.now.role lender.now.ids.now lender.now.user.now order
             ≡ loan_words p (loan_of order)
             → AreSlots p order.port lender.now.places
             → AreReturning p lender.now.room stops.now
             → TellsOfSlot p self.new.local
-            → OnOk result (IsAimed p seat.new.seat self.new) }
-        ensures ordered { OnOk result (self.new.order ≡ order) }
-        ensures places { OnOk result (self.new.places ≡ lender.now.places) }
-        ensures busy { OnOk result (is_busy self.new.local ≡ true) }
+            → IsAimed p seat.new.seat self.new }
+        ensures ordered { self.new.order ≡ order }
+        ensures places { self.new.places ≡ lender.now.places }
+        ensures busy { is_busy self.new.local ≡ true }
         ensures leaves { LeavesSeat seat.old seat.new }
-        ensures unchanged { OnErr result (self.new ≡ self.old) }
-        ensures seat_unchanged { OnErr result (seat.new ≡ seat.old) }
+        ensures rooms { HasSameRooms self.old self.new }
     {
-        let count = lender.places.header + lender.places.user;
-        if self.words.capacity() < count {
-            self.words.reserve(count)?;
-        }
-        self.left.fill(stops)?;
+        self.left.fill(stops);
         fill_words(&mut self.words, lender, order);
         self.order = order;
         self.room = lender.room;
@@ -195,7 +182,6 @@ impl Lending {
         } else {
             self.empty_next(seat);
         }
-        Ok(())
     }
 }
 
@@ -203,8 +189,9 @@ impl Lending {
 fn fill_words(words: &mut Vec<u64>, lender: &Lender<'_>, order: Order)
     requires whole { IsWhole lender.now }
     requires room { lender.now.places.header + lender.now.places.user ≤ vec_capacity words.old }
-    ensures { words.new.items
+    ensures words { words.new.items
         ≡ words_of lender.now.role lender.now.ids.now lender.now.user.now order }
+    ensures capacity { vec_capacity words.old ≤ vec_capacity words.new }
 {
     words.clear();
     if words.extend_from_slice(lender.ids).is_err() {

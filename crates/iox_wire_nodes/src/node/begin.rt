@@ -14,8 +14,10 @@ ghost use Rattle.iox_wire_nodes.specs.declared.call_at.CallAt.TheVariants.{Seats
 ghost use Rattle.iox_wire_nodes.specs.Begins.{IsBegun, called};
 ghost use Rattle.iox_wire_nodes.specs.Nodes.{seat_in};
 ghost use Rattle.iox_wire_begins.specs.Released.{MayReleaseNumber};
-ghost use Rattle.iox_wire_begins.specs.Aims.{HasRoomForHint};
+ghost use Rattle.iox_wire_begins.specs.Aims.{HasRoomForHint, HasSameRooms};
 ghost use Rattle.iox_wire_begins.specs.OwnStates.{HasStates};
+ghost use Rattle.iox_wire_begins.specs.ListRooms.{HasRoomToAsk};
+ghost use Rattle.iox_wire_nodes.specs.Rooms.{KeepsRooms};
 
 use super::StoredNode;
 use crate::call_at::CallAt;
@@ -35,6 +37,7 @@ fn release(
     requires no_port { port_of map.now number ≡ None }
     requires home { MayReleaseNumber map.now number seat.old.seat }
     requires list { most_ways map.now ≤ vec_capacity stops.old }
+    requires rooms { HasRoomToAsk map.now seat.old }
     ensures begun { (p : Setting) → IsSettingOf map.now p
         → OnOk result (IsBegunBy p seat.old (Port (Release number)) seat.new) }
     ensures refused { (p : Setting) → IsSettingOf map.now p → IfErr result (λ error.
@@ -43,9 +46,10 @@ fn release(
     ensures room { seat.new.room ≡ seat.old.room }
     ensures unchanged { OnErr result (seat.new ≡ seat.old) }
     ensures list { vec_capacity stops.new ≡ vec_capacity stops.old }
+    ensures rooms { HasSameRooms seat.old seat.new }
 {
     named(seat, map, Asked::Release, number)?;
-    begin_release(map, seat, number, stops)?;
+    begin_release(map, seat, number, stops);
     Ok(())
 }
 
@@ -66,6 +70,7 @@ fn begin_in(
     requires header { map.now.response.header.size ≡ 8 * header_length Server }
     requires sources { most_ways map.now ≤ vec_capacity sources.old }
     requires stops { most_ways map.now ≤ vec_capacity stops.old }
+    requires rooms { HasRoomToAsk map.now seat.old }
     ensures begun { (p : Setting) → IsSettingOf map.now p
         → OnOk result (IsBegunBy p seat.old (called call number) seat.new) }
     ensures refused { (p : Setting) → IsSettingOf map.now p → IfErr result (λ error.
@@ -75,6 +80,7 @@ fn begin_in(
     ensures unchanged { OnErr result (seat.new ≡ seat.old) }
     ensures sources { vec_capacity sources.new ≡ vec_capacity sources.old }
     ensures stops { vec_capacity stops.new ≡ vec_capacity stops.old }
+    ensures rooms { HasSameRooms seat.old seat.new }
 {
     match call {
         HandleCall::Read => begin_read(seat, map, number),
@@ -105,6 +111,7 @@ impl StoredNode {
         requires header { map.now.response.header.size ≡ 8 * header_length Server }
         requires sources { most_ways map.now ≤ vec_capacity sources.old }
         requires stops { most_ways map.now ≤ vec_capacity stops.old }
+        requires rooms { HasRoomToAsk map.now self.old.seat }
         ensures begun { (p : Setting) → IsSettingOf map.now p
             → OnOk result (IsBegun p self.old (called call number) self.new) }
         ensures refused { (p : Setting) → IsSettingOf map.now p → IfErr result (λ error.
@@ -113,6 +120,7 @@ impl StoredNode {
         ensures unchanged { OnErr result (self.new ≡ self.old) }
         ensures sources { vec_capacity sources.new ≡ vec_capacity sources.old }
         ensures stops { vec_capacity stops.new ≡ vec_capacity stops.old }
+        ensures rooms { OnOk result (KeepsRooms self.old self.new) }
     {
         if self.is_busy() {
             return Err(BeginError::Busy);

@@ -9,11 +9,12 @@ ghost use Rattle.iox_wire_begins.specs.HandleCalls.{refusal_in};
 ghost use Rattle.iox_wire_begins.specs.Terms.{IsSettingWith};
 ghost use Rattle.iox_wire_begins.specs.Begins.{is_busy, refusal_at};
 ghost use Rattle.iox_wire_begins.specs.Tables.{Setting};
-ghost use Rattle.iox_wire_nodes.specs.Begins.{AddsHandle, IsLeftBy, IsUnderWay};
+ghost use Rattle.iox_wire_nodes.specs.Begins.{AddsHandle, IsUnderWay};
 ghost use Rattle.iox_wire_nodes.specs.Begins.{MayBegin, node_refusal};
 ghost use Rattle.iox_wire_nodes.specs.Calls.{IsKeptAt, call_in, call_in_words, may_add_handle};
 ghost use Rattle.iox_wire_nodes.specs.Calls.{number_in};
 ghost use Rattle.iox_wire_nodes.specs.Nodes.{seat_in};
+ghost use Rattle.iox_wire_nodes.specs.Rooms.{HasRoomToBegin, KeepsRooms};
 
 use super::StoredNode;
 use super::elements::elements_in;
@@ -39,6 +40,7 @@ impl StoredNode {
         requires there { IfSome port (λ place. number_at map.now place ≡ number_in call) }
         requires none { port ≡ None → port_of map.now (number_in call) ≡ None }
         requires lists { HasRoomFor map.now lists.old }
+        requires rooms { HasRoomToBegin map.now self.old }
         ensures begun { (p : Setting) → IsSettingWith map.now terms.now p
             → OnOk result (IsUnderWay p self.old (Port (call_in p call.entry)) self.new) }
         ensures refused { (p : Setting) → IsSettingWith map.now terms.now p → IfErr result
@@ -46,8 +48,9 @@ impl StoredNode {
             ≡ node_refusal error) }
         ensures at { OnOk result (IsKeptAt (call_in_words call.entry) self.new.at) }
         ensures adds { OnOk result (AddsHandle self.new.at → may_add_handle call.entry ≡ true) }
-        ensures unchanged { OnErr result (IsLeftBy call.entry self.old self.new) }
+        ensures unchanged { OnErr result (self.new ≡ self.old) }
         ensures lists { HasRoomFor map.now lists.new }
+        ensures rooms { OnOk result (KeepsRooms self.old self.new) }
     {
         if self.is_busy() {
             return Err(NodeError::Begin(BeginError::Busy));
@@ -72,6 +75,7 @@ impl StoredNode {
         requires within { port < length map.now.ports.items }
         requires there { number_at map.now port ≡ number_in call }
         requires lists { HasRoomFor map.now lists.old }
+        requires rooms { HasRoomToBegin map.now self.old }
         ensures begun { (p : Setting) → IsSettingWith map.now terms.now p
             → OnOk result (IsUnderWay p self.old (Port (call_in p call.entry)) self.new) }
         ensures refused { (p : Setting) → IsSettingWith map.now terms.now p → IfErr result
@@ -79,8 +83,9 @@ impl StoredNode {
             ≡ node_refusal error) }
         ensures at { OnOk result (IsKeptAt (call_in_words call.entry) self.new.at) }
         ensures adds { OnOk result (AddsHandle self.new.at → may_add_handle call.entry ≡ true) }
-        ensures unchanged { OnErr result (IsLeftBy call.entry self.old self.new) }
+        ensures unchanged { OnErr result (self.new ≡ self.old) }
         ensures lists { HasRoomFor map.now lists.new }
+        ensures rooms { OnOk result (KeepsRooms self.old self.new) }
     {
         let node = self.node();
         match call {
@@ -133,6 +138,7 @@ impl StoredNode {
         requires may { MayBegin map.now terms.now self.old.seat.seat }
         requires no_port { port_of map.now (number_in call) ≡ None }
         requires lists { HasRoomFor map.now lists.old }
+        requires rooms { HasRoomToBegin map.now self.old }
         ensures begun { (p : Setting) → IsSettingWith map.now terms.now p
             → OnOk result (IsUnderWay p self.old (Port (call_in p call.entry)) self.new) }
         ensures refused { (p : Setting) → IsSettingWith map.now terms.now p → IfErr result
@@ -140,8 +146,9 @@ impl StoredNode {
             ≡ node_refusal error) }
         ensures at { OnOk result (IsKeptAt (call_in_words call.entry) self.new.at) }
         ensures adds { OnOk result (AddsHandle self.new.at → may_add_handle call.entry ≡ true) }
-        ensures unchanged { OnErr result (IsLeftBy call.entry self.old self.new) }
+        ensures unchanged { OnErr result (self.new ≡ self.old) }
         ensures lists { HasRoomFor map.now lists.new }
+        ensures rooms { OnOk result (KeepsRooms self.old self.new) }
     {
         let (sources, stops) = (&mut lists.sources, &mut lists.stops);
         match call {
@@ -174,30 +181,33 @@ impl StoredNode {
         Ok(())
     }
 
-    /// Why it does not begin a call, where there is no memory for its handle.
-    pub fn refuse_without_room(
+    /// Why its own tables refuse the call, if they do.
+    pub fn refusal(
         &self,
         map: &WordMap,
         terms: &WireTerms,
         call: NodeCall<'_>,
         port: Option<usize>,
-    ) -> BeginError
+    ) -> Option<BeginError>
         requires within { IfSome port (λ place. place < length map.now.ports.items) }
         requires there { IfSome port (λ place. number_at map.now place ≡ number_in call) }
         requires none { port ≡ None → port_of map.now (number_in call) ≡ None }
-        ensures { (p : Setting) → IsSettingWith map.now terms.now p
-            → refusal_at p (seat_in self.now) (Port (call_in p call.entry)) ≡ refusal_in result }
+        ensures refused { (p : Setting) → IsSettingWith map.now terms.now p → IfSome result
+            (λ error. refusal_at p (seat_in self.now) (Port (call_in p call.entry))
+            ≡ refusal_in error) }
+        ensures allowed { (p : Setting) → IsSettingWith map.now terms.now p → result ≡ None
+            → refusal_at p (seat_in self.now) (Port (call_in p call.entry)) ≡ None }
     {
         let asked = call.asked();
         let number = call.number();
         match port {
             Some(port) => match self.name_at_port(map, terms, asked, number, port) {
-                Err(error) => error,
-                Ok(()) => BeginError::WantOfMemory,
+                Err(error) => Some(error),
+                Ok(()) => None,
             },
             None => match self.name_handle(map, asked, number) {
-                Err(error) => error,
-                Ok(_entry) => BeginError::WantOfMemory,
+                Err(error) => Some(error),
+                Ok(_entry) => None,
             },
         }
     }

@@ -1,18 +1,19 @@
 //! How a node begins a copy: loan, write and send in one call.
-ghost use Rattle.std.specs.Prelude.{◌≡◌, ◌+◌, ◌<◌, ◌^◌, IfErr, OnErr, OnOk, length};
+ghost use Rattle.std.specs.Prelude.{◌≡◌, ◌+◌, ◌<◌, ◌≤◌, ◌^◌, IfErr, OnErr, OnOk, length};
 ghost use Rattle.iox_model.specs.declared.call.Call.TheVariants.{SendCopy};
 ghost use Rattle.iox_model.specs.declared.call.WireCall.TheVariants.{Port};
-ghost use Rattle.iox_wire_begins.specs.ListRooms.{HasRoomFor};
-ghost use Rattle.iox_wire_begins.specs.Plans.{number_at};
+ghost use Rattle.iox_wire_begins.specs.ListRooms.{HasRoomFor, HasRoomToCopy};
+ghost use Rattle.iox_wire_begins.specs.Plans.{most_ways, number_at};
 ghost use Rattle.iox_wire_begins.specs.WirePlans.{IsWirePlan};
 ghost use Rattle.iox_wire_begins.specs.HandleCalls.{refusal_in};
 ghost use Rattle.iox_wire_begins.specs.Terms.{IsSettingWith};
 ghost use Rattle.iox_wire_begins.specs.Begins.{refusal_at};
 ghost use Rattle.iox_wire_begins.specs.Tables.{Setting};
 ghost use Rattle.iox_wire_nodes.specs.declared.call_at.CallAt.TheVariants.{CopiesRequest};
-ghost use Rattle.iox_wire_nodes.specs.Begins.{IsUnchanged, IsUnderWay};
+ghost use Rattle.iox_wire_nodes.specs.Begins.{IsUnderWay};
 ghost use Rattle.iox_wire_nodes.specs.Calls.{payload_with};
 ghost use Rattle.iox_wire_nodes.specs.Nodes.{seat_in};
+ghost use Rattle.iox_wire_nodes.specs.Rooms.{KeepsRooms};
 
 use super::StoredNode;
 use super::elements::elements_in;
@@ -38,21 +39,24 @@ impl StoredNode {
         requires within { port < length map.now.ports.items }
         requires there { number_at map.now port ≡ number }
         requires lists { HasRoomFor map.now lists.old }
+        requires rooms { HasRoomToCopy map.now self.old.copies_request.lends }
+        requires servers { most_ways map.now ≤ self.old.copies_request.sends.room }
         ensures begun { (p : Setting) → IsSettingWith map.now terms.now p → OnOk result
             (IsUnderWay p self.old (Port (SendCopy number (payload_with p role words.now))) self.new) }
         ensures refused { (p : Setting) → IsSettingWith map.now terms.now p → IfErr result
             (λ error. refusal_at p (seat_in self.old)
             (Port (SendCopy number (payload_with p role words.now))) ≡ refusal_in error) }
         ensures at { OnOk result (self.new.at ≡ CopiesRequest) }
-        ensures unchanged { OnErr result (IsUnchanged self.old self.new) }
+        ensures unchanged { OnErr result (self.new ≡ self.old) }
         ensures lists { HasRoomFor map.now lists.new }
+        ensures rooms { OnOk result (KeepsRooms self.old self.new) }
     {
         self.name_at_port(map, terms, Asked::SendCopy(role), number, port)?;
         // only what this promises is wanted
         let _plan = map.plan();
         let next = self.next_number(terms);
         let elements = elements_in(map, terms, role, words);
-        let begun = begin_request_copy(
+        begin_request_copy(
             map,
             terms,
             &mut self.seat,
@@ -63,10 +67,6 @@ impl StoredNode {
             next,
             lists,
         );
-        if let Err(error) = begun {
-            self.at = CallAt::Seats;
-            return Err(BeginError::from(error));
-        }
         self.at = CallAt::CopiesRequest;
         Ok(())
     }

@@ -12,6 +12,8 @@ ghost use Rattle.iox_wire_nodes.specs.declared.call_at.CallAt.TheVariants.{Copie
 ghost use Rattle.iox_wire_nodes.specs.Begins.{IsUnderWay};
 ghost use Rattle.iox_wire_nodes.specs.Calls.{payload_with};
 ghost use Rattle.iox_wire_nodes.specs.Nodes.{seat_in};
+ghost use Rattle.iox_wire_begins.specs.ListRooms.{HasRoomToCopy};
+ghost use Rattle.iox_wire_nodes.specs.Rooms.{KeepsRooms};
 
 use super::StoredNode;
 use super::elements::elements_in;
@@ -39,6 +41,7 @@ impl StoredNode {
         requires handle { IfSome (entry_at number self.old.seat.seat.table)
             (HandleStands map.now self.old.seat.seat.desks) }
         requires list { most_ways map.now ≤ vec_capacity stops.old }
+        requires rooms { HasRoomToCopy map.now self.old.copies_response.lends }
         ensures begun { (p : Setting) → IsSettingWith map.now terms.now p → OnOk result
             (IsUnderWay p self.old (Port (SendCopy number (payload_with p role words.now))) self.new) }
         ensures refused { (p : Setting) → IsSettingWith map.now terms.now p → IfErr result
@@ -47,6 +50,7 @@ impl StoredNode {
         ensures at { OnOk result (self.new.at ≡ CopiesResponse) }
         ensures unchanged { OnErr result (self.new ≡ self.old) }
         ensures list { vec_capacity stops.new ≡ vec_capacity stops.old }
+        ensures rooms { OnOk result (KeepsRooms self.old self.new) }
     {
         let request = self.name_handle(map, Asked::SendCopy(role), number)?;
         // only what this promises is wanted
@@ -67,7 +71,7 @@ impl StoredNode {
             words,
             next,
             stops,
-        )?;
+        );
         self.at = CallAt::CopiesResponse;
         Ok(())
     }

@@ -11,6 +11,8 @@ ghost use Rattle.iox_wire_begins.specs.Tables.{Setting, entry_at};
 ghost use Rattle.iox_wire_nodes.specs.declared.call_at.CallAt.TheVariants.{Lends};
 ghost use Rattle.iox_wire_nodes.specs.Begins.{IsUnderWay};
 ghost use Rattle.iox_wire_nodes.specs.Nodes.{seat_in};
+ghost use Rattle.iox_wire_begins.specs.ListRooms.{HasRoomToLend};
+ghost use Rattle.iox_wire_nodes.specs.Rooms.{KeepsRooms};
 
 use super::StoredNode;
 use crate::call_at::CallAt;
@@ -36,6 +38,7 @@ impl StoredNode {
         requires within { port < length map.now.ports.items }
         requires there { number_at map.now port ≡ number }
         requires list { most_ways map.now ≤ vec_capacity stops.old }
+        requires rooms { HasRoomToLend map.now self.old.lends }
         ensures begun { (p : Setting) → IsSettingWith map.now terms.now p
             → OnOk result (IsUnderWay p self.old (Port (Loan number elements)) self.new) }
         ensures refused { (p : Setting) → IsSettingWith map.now terms.now p
@@ -44,6 +47,7 @@ impl StoredNode {
         ensures at { OnOk result (self.new.at ≡ Lends) }
         ensures unchanged { OnErr result (self.new ≡ self.old) }
         ensures list { vec_capacity stops.new ≡ vec_capacity stops.old }
+        ensures rooms { OnOk result (KeepsRooms self.old self.new) }
     {
         self.name_at_port(map, terms, Asked::Loan(elements), number, port)?;
         // only what this promises is wanted
@@ -58,7 +62,7 @@ impl StoredNode {
             elements,
             next,
             stops,
-        )?;
+        );
         self.at = CallAt::Lends;
         Ok(())
     }
@@ -79,6 +83,7 @@ impl StoredNode {
         requires handle { IfSome (entry_at number self.old.seat.seat.table)
             (HandleStands map.now self.old.seat.seat.desks) }
         requires list { most_ways map.now ≤ vec_capacity stops.old }
+        requires rooms { HasRoomToLend map.now self.old.lends }
         ensures begun { (p : Setting) → IsSettingWith map.now terms.now p
             → OnOk result (IsUnderWay p self.old (Port (Loan number elements)) self.new) }
         ensures refused { (p : Setting) → IsSettingWith map.now terms.now p
@@ -87,6 +92,7 @@ impl StoredNode {
         ensures at { OnOk result (self.new.at ≡ Lends) }
         ensures unchanged { OnErr result (self.new ≡ self.old) }
         ensures list { vec_capacity stops.new ≡ vec_capacity stops.old }
+        ensures rooms { OnOk result (KeepsRooms self.old self.new) }
     {
         let request = self.name_handle(map, Asked::Loan(elements), number)?;
         let server = server_place(map, request.port);
@@ -101,7 +107,7 @@ impl StoredNode {
             elements,
             next,
             stops,
-        )?;
+        );
         self.at = CallAt::Lends;
         Ok(())
     }

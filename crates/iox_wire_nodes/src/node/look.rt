@@ -11,6 +11,8 @@ ghost use Rattle.iox_wire_nodes.specs.declared.call_at.CallAt.TheVariants.{Seats
 ghost use Rattle.iox_wire_nodes.specs.Begins.{IsBegun};
 ghost use Rattle.iox_wire_nodes.specs.Nodes.{seat_in};
 ghost use Rattle.iox_wire_begins.specs.RequestSources.{HasRequestWays};
+ghost use Rattle.iox_wire_begins.specs.ListRooms.{HasRoomToAsk};
+ghost use Rattle.iox_wire_nodes.specs.Rooms.{KeepsRooms};
 
 use super::StoredNode;
 use crate::call_at::CallAt;
@@ -35,6 +37,7 @@ impl StoredNode {
         requires known { HasRequestWays map.now }
         requires sources { most_ways map.now ≤ vec_capacity sources.old }
         requires stops { most_ways map.now ≤ vec_capacity stops.old }
+        requires rooms { HasRoomToAsk map.now self.old.seat }
         ensures begun { (p : Setting) → IsSettingOf map.now p → (p.port number).held ≡ true
             → p.limits.fire_and_forget ≡ fire_and_forget
             → OnOk result (IsBegun p self.old (Port (HasRequests number)) self.new) }
@@ -45,6 +48,7 @@ impl StoredNode {
         ensures unchanged { OnErr result (self.new ≡ self.old) }
         ensures sources { vec_capacity sources.new ≡ vec_capacity sources.old }
         ensures stops { vec_capacity stops.new ≡ vec_capacity stops.old }
+        ensures rooms { OnOk result (KeepsRooms self.old self.new) }
     {
         if self.is_busy() {
             return Err(BeginError::Busy);
@@ -53,7 +57,7 @@ impl StoredNode {
         let _plan = map.plan();
         name_port(&self.seat, map, Asked::HasRequests, number, port, node)?;
         let queue = list_waiting_requests(map, &self.seat, port, fire_and_forget, sources, stops);
-        self.seat.seek(queue, stops)?;
+        self.seat.seek(queue, stops);
         self.at = CallAt::Seats;
         Ok(())
     }

@@ -12,6 +12,7 @@ ghost use Rattle.iox_wire_nodes.specs.declared.call_at.CallAt.TheVariants.{Recei
 ghost use Rattle.iox_wire_nodes.specs.Begins.{IsBegun};
 ghost use Rattle.iox_wire_nodes.specs.Nodes.{seat_in};
 ghost use Rattle.iox_wire_begins.specs.RequestSources.{HasRequestWays};
+ghost use Rattle.iox_wire_nodes.specs.Rooms.{KeepsRooms};
 
 use super::StoredNode;
 use crate::call_at::CallAt;
@@ -35,6 +36,7 @@ impl StoredNode {
         requires there { number_at map.now port ≡ number }
         requires known { HasRequestWays map.now }
         requires list { most_ways map.now ≤ vec_capacity sources.old }
+        requires room { most_ways map.now ≤ self.old.receives.room }
         ensures begun { (p : Setting) → IsSettingOf map.now p → (p.port number).held ≡ true
             → p.limits.fire_and_forget ≡ fire_and_forget → next ≡ next_handle p (seat_in self.old)
             → OnOk result (IsBegun p self.old (Port (Receive number)) self.new) }
@@ -44,6 +46,7 @@ impl StoredNode {
         ensures at { OnOk result (self.new.at ≡ Receives) }
         ensures unchanged { OnErr result (self.new ≡ self.old) }
         ensures list { vec_capacity sources.new ≡ vec_capacity sources.old }
+        ensures rooms { OnOk result (KeepsRooms self.old self.new) }
     {
         if self.is_busy() {
             return Err(BeginError::Busy);
@@ -59,7 +62,7 @@ impl StoredNode {
             fire_and_forget,
             next,
             sources,
-        )?;
+        );
         self.at = CallAt::Receives;
         Ok(())
     }

@@ -11,6 +11,7 @@ ghost use Rattle.iox_wire_begins.specs.Tables.{Setting, entry_at};
 ghost use Rattle.iox_wire_nodes.specs.declared.call_at.CallAt.TheVariants.{Receives};
 ghost use Rattle.iox_wire_nodes.specs.Begins.{IsUnderWay};
 ghost use Rattle.iox_wire_nodes.specs.Nodes.{seat_in};
+ghost use Rattle.iox_wire_nodes.specs.Rooms.{KeepsRooms};
 
 use super::StoredNode;
 use crate::call_at::CallAt;
@@ -34,6 +35,7 @@ impl StoredNode {
         requires handle { IfSome (entry_at number self.old.seat.seat.table)
             (HandleStands map.now self.old.seat.seat.desks) }
         requires list { most_ways map.now ≤ vec_capacity sources.old }
+        requires room { most_ways map.now ≤ self.old.receives.room }
         ensures begun { (p : Setting) → IsSettingWith map.now terms.now p
             → OnOk result (IsUnderWay p self.old (Port (Receive number)) self.new) }
         ensures refused { (p : Setting) → IsSettingWith map.now terms.now p
@@ -42,6 +44,7 @@ impl StoredNode {
         ensures at { OnOk result (self.new.at ≡ Receives) }
         ensures unchanged { OnErr result (self.new ≡ self.old) }
         ensures list { vec_capacity sources.new ≡ vec_capacity sources.old }
+        ensures rooms { OnOk result (KeepsRooms self.old self.new) }
     {
         let pending = self.name_handle(map, Asked::Receive, number)?;
         let client = client_place(map, pending.port, pending.lane);
@@ -55,7 +58,7 @@ impl StoredNode {
             terms.fire_and_forget,
             next,
             sources,
-        )?;
+        );
         self.at = CallAt::Receives;
         Ok(())
     }

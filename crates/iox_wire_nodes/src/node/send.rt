@@ -14,6 +14,7 @@ ghost use Rattle.iox_wire_nodes.specs.declared.call_at.CallAt.TheVariants.{Sends
 ghost use Rattle.iox_wire_nodes.specs.declared.call_at.CallAt.TheVariants.{SendsResponse};
 ghost use Rattle.iox_wire_nodes.specs.Begins.{AddsHandle, IsAtOnce, IsUnderWay, send_at};
 ghost use Rattle.iox_wire_nodes.specs.Nodes.{seat_in};
+ghost use Rattle.iox_wire_nodes.specs.Rooms.{KeepsRooms};
 
 use super::StoredNode;
 use crate::call_at::CallAt;
@@ -38,6 +39,7 @@ impl StoredNode {
         requires handle { IfSome (entry_at number self.old.seat.seat.table)
             (HandleStands map.now self.old.seat.seat.desks) }
         requires list { most_ways map.now ≤ vec_capacity targets.old }
+        requires room { most_ways map.now ≤ self.old.requests.room }
         ensures begun { (p : Setting) → IsSettingWith map.now terms.now p
             → OnOk result (IsUnderWay p self.old (Port (Send number)) self.new) }
         ensures refused { (p : Setting) → IsSettingWith map.now terms.now p
@@ -50,10 +52,11 @@ impl StoredNode {
             ((self.new.at ≡ SendsRequest) ⊎ (self.new.at ≡ SendsResponse)) }
         ensures unchanged { OnErr result (self.new ≡ self.old) }
         ensures list { vec_capacity targets.new ≡ vec_capacity targets.old }
+        ensures rooms { OnOk result (KeepsRooms self.old self.new) }
     {
         let loan = self.name_handle(map, Asked::Send, number)?;
         if is_request(loan.kind) {
-            self.send_request(map, terms, loan, targets)?;
+            self.send_request(map, terms, loan, targets);
             return Ok(());
         }
         self.send_response(map, terms, loan);
@@ -67,19 +70,19 @@ impl StoredNode {
         terms: &WireTerms,
         loan: Entry,
         targets: &mut Vec<Target>,
-    ) -> Result<(), BeginError>
+    )
         requires rests { is_busy (seat_in self.old).local ≡ false }
         requires own { seat_in self.old ≡ self.old.seat.seat }
         requires plan { IsWirePlan map.now terms.now }
         requires kind { is_request_loan loan.kind ≡ true }
         requires handle { HandleStands map.now self.old.seat.seat.desks loan }
         requires list { most_ways map.now ≤ vec_capacity targets.old }
-        ensures begun { (p : Setting) → IsSettingWith map.now terms.now p → OnOk result
-            (IsAtOnce p self.old (begins_at_entry p (seat_in self.old) (Send 0) loan) self.new) }
-        ensures memory { IfErr result (λ error. refusal_in error ≡ None) }
-        ensures at { OnOk result (self.new.at ≡ SendsRequest) }
-        ensures unchanged { OnErr result (self.new ≡ self.old) }
+        requires room { most_ways map.now ≤ self.old.requests.room }
+        ensures begun { (p : Setting) → IsSettingWith map.now terms.now p
+            → IsAtOnce p self.old (begins_at_entry p (seat_in self.old) (Send 0) loan) self.new }
+        ensures at { self.new.at ≡ SendsRequest }
         ensures list { vec_capacity targets.new ≡ vec_capacity targets.old }
+        ensures rooms { KeepsRooms self.old self.new }
     {
         let client = client_place(map, loan.port, loan.lane);
         begin_request_send(
@@ -90,9 +93,8 @@ impl StoredNode {
             loan,
             client,
             targets,
-        )?;
+        );
         self.at = CallAt::SendsRequest;
-        Ok(())
     }
 
     /// Begins to send a loaned response.
@@ -105,6 +107,7 @@ impl StoredNode {
         ensures begun { (p : Setting) → IsSettingWith map.now terms.now p
             → IsAtOnce p self.old (begins_at_entry p (seat_in self.old) (Send 0) loan) self.new }
         ensures at { self.new.at ≡ SendsResponse }
+        ensures rooms { KeepsRooms self.old self.new }
     {
         let client = client_place(map, loan.client, loan.lane);
         let server = server_place(map, loan.port);

@@ -60,6 +60,7 @@ impl Receiving {
         ensures seat { seat.new ≡ counted seat.old }
         ensures counts { HasRoomFor seat.new.seat self.new.local }
         ensures terms { self.new.terms ≡ self.old.terms }
+        ensures ways { self.new.room ≡ self.old.room }
     {
         seat.count_access();
         if let QueueEvent::Publish(_) = self.pusher.advance(self.site, seen) {

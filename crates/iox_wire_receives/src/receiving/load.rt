@@ -32,6 +32,7 @@ impl Receiving {
         ensures may { result ≡ None → MayReceive seat.new self.new.terms.number }
         ensures counts { HasRoomFor seat.new.seat self.new.local }
         ensures terms { self.new.terms ≡ self.old.terms }
+        ensures ways { self.new.room ≡ self.old.room }
     {
         seat.count_access();
         self.header.push_reserved(seen);
@@ -77,6 +78,7 @@ impl Receiving {
         ensures may { result ≡ None → MayReceive seat.new self.new.terms.number }
         ensures counts { HasRoomFor seat.new.seat self.new.local }
         ensures terms { self.new.terms ≡ self.old.terms }
+        ensures ways { self.new.room ≡ self.old.room }
     {
         seat.count_access();
         let request = self.header[self.header.len() - 2];

@@ -24,6 +24,7 @@ impl Receiving {
         ensures seat { seat.new ≡ counted seat.old }
         ensures counts { HasRoomFor seat.new.seat self.new.local }
         ensures terms { self.new.terms ≡ self.old.terms }
+        ensures ways { self.new.room ≡ self.old.room }
     {
         seat.count_access();
         match self.popper.advance(self.site, seen) {
@@ -48,6 +49,7 @@ impl Receiving {
         ensures seat { seat.new ≡ counted seat.old }
         ensures counts { HasRoomFor seat.new.seat self.new.local }
         ensures terms { self.new.terms ≡ self.old.terms }
+        ensures ways { self.new.room ≡ self.old.room }
     {
         seat.count_access();
         match self.popper.advance(self.site, seen) {

@@ -65,6 +65,7 @@ impl Receiving {
         ensures over { self.new.local ≡ Idle }
         ensures reply { result ≡ Some (Handle self.old.terms.number) }
         ensures terms { self.new.terms ≡ self.old.terms }
+        ensures ways { self.new.room ≡ self.old.room }
     {
         seat.receive(self.entry(), self.source.way);
         self.at = ReceiveAt::Rest;

@@ -9,10 +9,9 @@ use crate::source::{ReceiveTerms, Source};
 use iox_model::kind::Role;
 use iox_wire_locals::Visit;
 use iox_wire_seats::StoredSeat;
-use std::alloc::AllocError;
 
 impl Receiving {
-    ghost use Rattle.std.specs.Prelude.{◌≡◌, None, OnErr, OnOk, false, true, option_map};
+    ghost use Rattle.std.specs.Prelude.{◌≡◌, ◌≤◌, None, false, length, true, option_map};
     ghost use Rattle.iox_wire_locals.specs.Begins.{is_busy};
     ghost use Rattle.iox_wire_locals.specs.Courses.{placed};
     ghost use Rattle.iox_wire_locals.specs.NewLoans.{received_length};
@@ -30,23 +29,20 @@ impl Receiving {
         visit: Visit,
         terms: ReceiveTerms,
         sources: &[Source],
-    ) -> Result<(), AllocError>
+    )
         requires rests { is_busy self.old.local ≡ false }
         requires within { AreWithin terms (received_length visit) sources.now }
+        requires fits { length sources.now ≤ self.old.room }
         ensures begun { (p : Setting) → AreSources p terms (received_length visit) sources.now
-            → OnOk result (placed seat.now.seat self.new.local
-            ≡ visiting p seat.now.seat visit (ways_of sources.now) false) }
+            → placed seat.now.seat self.new.local
+            ≡ visiting p seat.now.seat visit (ways_of sources.now) false }
         ensures aimed { (p : Setting) → AreSources p terms (received_length visit) sources.now
-            → KnowsTerms p seat.now.seat terms → OnOk result (IsAimed p seat.now.seat self.new) }
-        ensures counts { OnOk result (HasRoomFor seat.now.seat self.new.local) }
-        ensures terms { OnOk result (self.new.terms ≡ terms) }
-        ensures unchanged { OnErr result (self.new ≡ self.old) }
+            → KnowsTerms p seat.now.seat terms → IsAimed p seat.now.seat self.new }
+        ensures counts { HasRoomFor seat.now.seat self.new.local }
+        ensures terms { self.new.terms ≡ terms }
+        ensures ways { self.new.room ≡ self.old.room }
     {
-        let length = header_length(visit.role);
-        if self.header.capacity() < length {
-            self.header.reserve(length)?;
-        }
-        self.left.fill(sources)?;
+        self.left.fill(sources);
         self.visit = visit;
         self.terms = terms;
         self.waiting = false;
@@ -54,7 +50,6 @@ impl Receiving {
         if sources.len() != 0 {
             self.visit_next(seat);
         }
-        Ok(())
     }
 
     /// Goes on to the next way: at the borrow limit it looks there, else it pops. Without one it is
@@ -78,6 +73,7 @@ impl Receiving {
             → KnowsTerms p seat.now.seat self.old.terms → IsAimed p seat.now.seat self.new }
         ensures counts { HasRoomFor seat.now.seat self.new.local }
         ensures terms { self.new.terms ≡ self.old.terms }
+        ensures ways { self.new.room ≡ self.old.room }
     {
         let Some(source) = self.left.next() else {
             self.at = ReceiveAt::Rest;

@@ -9,10 +9,9 @@ use crate::target::{RequestTerms, Target};
 use iox_model::kind::Kind;
 use iox_wire_locals::Entry;
 use iox_wire_seats::StoredSeat;
-use std::alloc::AllocError;
 
 impl Requesting {
-    ghost use Rattle.std.specs.Prelude.{ℕ, ◌≡◌, OnErr, OnOk, false, true};
+    ghost use Rattle.std.specs.Prelude.{ℕ, ◌≡◌, ◌≤◌, false, length, true};
     ghost use Rattle.iox_model.specs.declared.kind.Role.TheVariants.{Server};
     ghost use Rattle.iox_model.specs.Handles.{is_request_loan};
     ghost use Rattle.iox_model.specs.Peers.{others};
@@ -29,50 +28,41 @@ impl Requesting {
     ghost use Rattle.iox_wire_request_sends.specs.Targets.{AreTargets, AreWithin, servers_of};
 
     /// Begins to send a loaned request to these servers. No send may be under way.
-    pub fn begin(
-        &mut self,
-        seat: &StoredSeat,
-        loan: Entry,
-        terms: RequestTerms,
-        targets: &[Target],
-    ) -> Result<(), AllocError>
+    pub fn begin(&mut self, seat: &StoredSeat, loan: Entry, terms: RequestTerms, targets: &[Target])
         requires rests { is_busy self.old.local ≡ false }
         requires kind { is_request_loan loan.kind ≡ true }
         requires request { HasRoomForHint loan }
         requires within { AreWithin terms targets.now }
+        requires fits { length targets.now ≤ self.old.room }
         ensures begun { (p : Setting) → IsToldOf p loan terms
             → servers_of targets.now ≡ others (known p seat.now.seat) seat.now.seat.node Server
-            → OnOk result (placed seat.now.seat self.new.local
-            ≡ sends p seat.now.seat loan false) }
+            → placed seat.now.seat self.new.local
+            ≡ sends p seat.now.seat loan false }
         ensures aimed { (p : Setting) → IsToldOf p loan terms → AreTargets p terms loan targets.now
-            → OnOk result (IsAimed p seat.now.seat self.new) }
-        ensures busy { OnOk result (is_busy self.new.local ≡ true) }
-        ensures may { (x : Placed) → MayGiveUp loan x.seat.desks → OnOk result (MayEnd x self.new) }
-        ensures first { (x : Placed) → (seen : ℕ) → OnOk result (FindsUsed x self.new seen) }
-        ensures loan { OnOk result (self.new.loan ≡ loan) }
-        ensures own { OnOk result (self.new.copied ≡ false) }
-        ensures unchanged { OnErr result (self.new ≡ self.old) }
+            → IsAimed p seat.now.seat self.new }
+        ensures busy { is_busy self.new.local ≡ true }
+        ensures may { (x : Placed) → MayGiveUp loan x.seat.desks → MayEnd x self.new }
+        ensures first { (x : Placed) → (seen : ℕ) → FindsUsed x self.new seen }
+        ensures loan { self.new.loan ≡ loan }
+        ensures own { self.new.copied ≡ false }
+        ensures room { self.new.room ≡ self.old.room }
     {
-        self.prepare(terms, targets)?;
+        self.prepare(terms, targets);
         self.start(seat, loan, false);
-        Ok(())
     }
 
     /// Is told of the servers, to which it sends later. No send may be under way.
-    pub fn prepare(&mut self, terms: RequestTerms, targets: &[Target]) -> Result<(), AllocError>
+    pub fn prepare(&mut self, terms: RequestTerms, targets: &[Target])
         requires rests { is_busy self.old.local ≡ false }
         requires within { AreWithin terms targets.now }
-        ensures terms { OnOk result (self.new.terms ≡ terms) }
-        ensures targets { OnOk result (self.new.targets ≡ targets.now) }
+        requires fits { length targets.now ≤ self.old.room }
+        ensures terms { self.new.terms ≡ terms }
+        ensures targets { self.new.targets ≡ targets.now }
         ensures rests { is_busy self.new.local ≡ false }
-        ensures unchanged { OnErr result (self.new ≡ self.old) }
+        ensures room { self.new.room ≡ self.old.room }
     {
-        if self.full.capacity() < targets.len() {
-            self.full.reserve(targets.len())?;
-        }
-        self.targets.fill(targets)?;
+        self.targets.fill(targets);
         self.terms = terms;
-        Ok(())
     }
 
     /// Begins to send a loan to the servers that it was told of. Its own call may have made it.
@@ -96,6 +86,7 @@ impl Requesting {
         ensures copied { self.new.copied ≡ copied }
         ensures terms { self.new.terms ≡ self.old.terms }
         ensures targets { self.new.targets ≡ self.old.targets }
+        ensures room { self.new.room ≡ self.old.room }
     {
         self.loan = loan;
         self.copied = copied;

@@ -8,27 +8,27 @@ use super::release::is_named;
 use crate::at::{At, SeatReply};
 use crate::stops::Stop;
 use iox_wire_locals::Entry;
-use std::alloc::AllocError;
 
 impl StoredSeat {
-    ghost use Rattle.std.specs.Prelude.{◌≡◌, ◌+◌, ◌<◌, ◌^◌, OnErr, OnOk};
+    ghost use Rattle.std.specs.Prelude.{◌≡◌, ◌+◌, ◌<◌, ◌≤◌, ◌^◌, length};
     ghost use Rattle.iox_wire_locals.specs.Tables.{Setting};
     ghost use Rattle.iox_wire_locals.specs.ReceiveCourses.{checking};
     ghost use Rattle.iox_wire_seats.specs.Aims.{Answers, AreStates, GoesOn, IsAimed, IsChecking};
-    ghost use Rattle.iox_wire_seats.specs.Aims.{KeepsRoom, StaysAimed};
+    ghost use Rattle.iox_wire_seats.specs.Aims.{HasSameRooms, KeepsRoom, StaysAimed};
     ghost use Rattle.iox_wire_seats.specs.Seats.{ways_of};
 
     /// Begins to look for a request state that names the entry's request, with a hint if that is
     /// asked, on these ways.
-    pub fn check(&mut self, entry: Entry, hinted: bool, stops: &[Stop]) -> Result<(), AllocError>
-        ensures begun { OnOk result (self.new.seat
-            ≡ checking self.old.seat entry hinted (ways_of stops.now)) }
-        ensures aimed { (p : Setting) → AreStates p stops.now → OnOk result (IsAimed p self.new) }
+    pub fn check(&mut self, entry: Entry, hinted: bool, stops: &[Stop])
+        requires fits { length stops.now ≤ self.old.ways_room }
+        ensures begun { self.new.seat
+            ≡ checking self.old.seat entry hinted (ways_of stops.now) }
+        ensures aimed { (p : Setting) → AreStates p stops.now → IsAimed p self.new }
         ensures accesses { self.new.seat.accesses ≡ self.old.seat.accesses }
         ensures room { self.new.room ≡ self.old.room }
-        ensures unchanged { OnErr result (self.new ≡ self.old) }
+        ensures rooms { HasSameRooms self.old self.new }
     {
-        self.left.fill(stops)?;
+        self.left.fill(stops);
         self.entry = entry;
         self.flag = hinted;
         match self.left.next() {
@@ -42,7 +42,6 @@ impl StoredSeat {
                 self.at = At::TellsAnswer;
             }
         }
-        Ok(())
     }
 
     /// A request state is seen.

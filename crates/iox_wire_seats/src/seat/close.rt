@@ -5,16 +5,15 @@ use super::StoredSeat;
 use crate::at::{At, SeatReply};
 use crate::stops::Stop;
 use iox_wire_locals::Entry;
-use std::alloc::AllocError;
 
 impl StoredSeat {
-    ghost use Rattle.std.specs.Prelude.{◌≡◌, ◌+◌, ◌<◌, ◌^◌, OnErr, OnOk, false};
+    ghost use Rattle.std.specs.Prelude.{◌≡◌, ◌+◌, ◌<◌, ◌≤◌, ◌^◌, length, false};
     ghost use Rattle.iox_model.specs.declared.kind.Kind.TheVariants.{PendingResponse};
     ghost use Rattle.iox_model.specs.Handles.{is_received, same_kind};
     ghost use Rattle.iox_wire_locals.specs.Tables.{Setting};
     ghost use Rattle.iox_wire_locals.specs.ReceiveCourses.{closing, releasing};
     ghost use Rattle.iox_wire_seats.specs.Aims.{Answers, AreStates, GoesOn, IsAimed, IsClosing};
-    ghost use Rattle.iox_wire_seats.specs.Aims.{KeepsRoom, StaysAimed};
+    ghost use Rattle.iox_wire_seats.specs.Aims.{HasSameRooms, KeepsRoom, StaysAimed};
     ghost use Rattle.iox_wire_seats.specs.Desks.{MayGiveUp};
     ghost use Rattle.iox_wire_seats.specs.Seats.{ways_of};
 
@@ -27,23 +26,25 @@ impl StoredSeat {
         ensures aimed { (p : Setting) → IsAimed p self.new }
         ensures accesses { self.new.seat.accesses ≡ self.old.seat.accesses }
         ensures room { self.new.room ≡ self.old.room }
+        ensures rooms { HasSameRooms self.old self.new }
     {
         self.entry = loan;
         self.at = At::DropsOwn;
     }
 
     /// Begins the release of a pending response, which closes the request states of these ways.
-    pub fn release_pending(&mut self, pending: Entry, stops: &[Stop]) -> Result<(), AllocError>
+    pub fn release_pending(&mut self, pending: Entry, stops: &[Stop])
+        requires fits { length stops.now ≤ self.old.ways_room }
         requires kind { pending.kind ≡ PendingResponse }
         requires held { MayGiveUp pending self.old.seat.desks }
-        ensures begun { OnOk result (self.new.seat
-            ≡ closing self.old.seat pending (ways_of stops.now)) }
-        ensures aimed { (p : Setting) → AreStates p stops.now → OnOk result (IsAimed p self.new) }
+        ensures begun { self.new.seat
+            ≡ closing self.old.seat pending (ways_of stops.now) }
+        ensures aimed { (p : Setting) → AreStates p stops.now → IsAimed p self.new }
         ensures accesses { self.new.seat.accesses ≡ self.old.seat.accesses }
         ensures room { self.new.room ≡ self.old.room }
-        ensures unchanged { OnErr result (self.new ≡ self.old) }
+        ensures rooms { HasSameRooms self.old self.new }
     {
-        self.left.fill(stops)?;
+        self.left.fill(stops);
         self.entry = pending;
         match self.left.next() {
             Some(stop) => {
@@ -53,7 +54,6 @@ impl StoredSeat {
             }
             None => self.at = At::DropsOwn,
         }
-        Ok(())
     }
 
     /// A request state is closed, or none was left.

@@ -6,27 +6,27 @@ use super::ask::is_shown;
 use crate::at::{At, SeatReply};
 use crate::stops::Stop;
 use iox_wire_locals::Entry;
-use std::alloc::AllocError;
 
 impl StoredSeat {
-    ghost use Rattle.std.specs.Prelude.{◌≡◌, ◌+◌, ◌<◌, ◌^◌, OnErr, OnOk};
+    ghost use Rattle.std.specs.Prelude.{◌≡◌, ◌+◌, ◌<◌, ◌≤◌, ◌^◌, length};
     ghost use Rattle.iox_wire_locals.specs.Tables.{Setting};
     ghost use Rattle.iox_wire_locals.specs.ReceiveCourses.{hinting};
     ghost use Rattle.iox_wire_seats.specs.Aims.{Answers, AreStates, GoesOn, HasRoomForHint, IsAimed};
-    ghost use Rattle.iox_wire_seats.specs.Aims.{IsHinting, KeepsRoom, StaysAimed};
+    ghost use Rattle.iox_wire_seats.specs.Aims.{HasSameRooms, IsHinting, KeepsRoom, StaysAimed};
     ghost use Rattle.iox_wire_seats.specs.Seats.{ways_of};
 
     /// Begins to give a hint to the entry's request, on these ways.
-    pub fn hint(&mut self, entry: Entry, stops: &[Stop]) -> Result<(), AllocError>
-        requires { HasRoomForHint entry }
-        ensures begun { OnOk result (self.new.seat
-            ≡ hinting self.old.seat entry (ways_of stops.now)) }
-        ensures aimed { (p : Setting) → AreStates p stops.now → OnOk result (IsAimed p self.new) }
+    pub fn hint(&mut self, entry: Entry, stops: &[Stop])
+        requires fits { length stops.now ≤ self.old.ways_room }
+        requires hint { HasRoomForHint entry }
+        ensures begun { self.new.seat
+            ≡ hinting self.old.seat entry (ways_of stops.now) }
+        ensures aimed { (p : Setting) → AreStates p stops.now → IsAimed p self.new }
         ensures accesses { self.new.seat.accesses ≡ self.old.seat.accesses }
         ensures room { self.new.room ≡ self.old.room }
-        ensures unchanged { OnErr result (self.new ≡ self.old) }
+        ensures rooms { HasSameRooms self.old self.new }
     {
-        self.left.fill(stops)?;
+        self.left.fill(stops);
         self.entry = entry;
         match self.left.next() {
             Some(stop) => {
@@ -36,7 +36,6 @@ impl StoredSeat {
             }
             None => self.at = At::TellsDone,
         }
-        Ok(())
     }
 
     /// A request state is seen, or its hint is given.

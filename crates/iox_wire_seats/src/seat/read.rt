@@ -5,35 +5,26 @@ use super::StoredSeat;
 use crate::at::{At, SeatReply};
 use crate::message_places::MessagePlaces;
 use iox_wire_locals::Entry;
-use std::alloc::AllocError;
 
 impl StoredSeat {
-    ghost use Rattle.std.specs.Prelude.{◌≡◌, ◌+◌, ◌<◌, ◌^◌, OnErr, OnOk};
+    ghost use Rattle.std.specs.Prelude.{◌≡◌, ◌+◌, ◌<◌, ◌≤◌, ◌^◌};
     ghost use Rattle.iox_wire_locals.specs.Tables.{Setting};
     ghost use Rattle.iox_wire_locals.specs.Begins.{reads};
     ghost use Rattle.iox_wire_seats.specs.Aims.{Answers, AreInMemory, GoesOn, IsAimed, IsReading};
-    ghost use Rattle.iox_wire_seats.specs.Aims.{KeepsRoom, StandAt, StaysAimed};
+    ghost use Rattle.iox_wire_seats.specs.Aims.{HasSameRooms, KeepsRoom, StandAt, StaysAimed};
 
-    /// Begins to read the message of a handle: so many words, which stand there. It makes room for
-    /// them.
-    pub fn read(
-        &mut self,
-        entry: Entry,
-        message: MessagePlaces,
-        count: usize,
-    ) -> Result<(), AllocError>
-        requires { AreInMemory message count }
+    /// Begins to read the message of a handle: so many words, which stand there, and for which
+    /// there is room.
+    pub fn read(&mut self, entry: Entry, message: MessagePlaces, count: usize)
+        requires memory { AreInMemory message count }
+        requires fits { count ≤ self.old.words_room }
         ensures begun { (p : Setting) → StandAt p entry message count
-            → OnOk result (self.new.seat ≡ reads p self.old.seat entry) }
-        ensures aimed { (p : Setting) → StandAt p entry message count
-            → OnOk result (IsAimed p self.new) }
+            → self.new.seat ≡ reads p self.old.seat entry }
+        ensures aimed { (p : Setting) → StandAt p entry message count → IsAimed p self.new }
         ensures accesses { self.new.seat.accesses ≡ self.old.seat.accesses }
         ensures room { self.new.room ≡ self.old.room }
-        ensures unchanged { OnErr result (self.new ≡ self.old) }
+        ensures rooms { HasSameRooms self.old self.new }
     {
-        if self.words.capacity() < count {
-            self.words.reserve(count)?;
-        }
         self.words.clear();
         self.entry = entry;
         self.message = message;
@@ -43,7 +34,6 @@ impl StoredSeat {
         } else {
             At::Reads
         };
-        Ok(())
     }
 
     /// A word of the message is loaded.

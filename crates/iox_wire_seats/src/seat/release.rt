@@ -31,7 +31,7 @@ impl StoredSeat {
     ghost use Rattle.iox_wire_locals.specs.Tables.{Setting};
     ghost use Rattle.iox_wire_locals.specs.ReceiveCourses.{releasing};
     ghost use Rattle.iox_wire_seats.specs.Aims.{Answers, GoesOn, IsAimed, IsReleasing, KeepsRoom};
-    ghost use Rattle.iox_wire_seats.specs.Aims.{StaysAimed};
+    ghost use Rattle.iox_wire_seats.specs.Aims.{HasSameRooms, StaysAimed};
     ghost use Rattle.iox_wire_seats.specs.Seats.{Agrees};
 
     /// Begins the release of a response, of the ports at these indexes.
@@ -45,6 +45,7 @@ impl StoredSeat {
         ensures aimed { (p : Setting) → Agrees p map.now → IsAimed p self.new }
         ensures accesses { self.new.seat.accesses ≡ self.old.seat.accesses }
         ensures room { self.new.room ≡ self.old.room }
+        ensures rooms { HasSameRooms self.old self.new }
     {
         let lane = entry.lane as usize;
         let way = WayIndex::Responses {
@@ -75,6 +76,7 @@ impl StoredSeat {
         ensures aimed { (p : Setting) → Agrees p map.now → IsAimed p self.new }
         ensures accesses { self.new.seat.accesses ≡ self.old.seat.accesses }
         ensures room { self.new.room ≡ self.old.room }
+        ensures rooms { HasSameRooms self.old self.new }
     {
         let way = WayIndex::Requests { client, server };
         let node = node_at(map, client);

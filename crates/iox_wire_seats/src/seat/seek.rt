@@ -5,27 +5,27 @@ use super::StoredSeat;
 use crate::at::{At, SeatReply};
 use crate::stops::Stop;
 use iox_steps::{QueueEvent, Site};
-use std::alloc::AllocError;
 
 impl StoredSeat {
-    ghost use Rattle.std.specs.Prelude.{◌≡◌, ◌+◌, ◌<◌, ◌^◌, OnErr, OnOk};
+    ghost use Rattle.std.specs.Prelude.{◌≡◌, ◌+◌, ◌<◌, ◌≤◌, ◌^◌, length};
     ghost use Rattle.iox_wire_locals.specs.Tables.{Setting};
     ghost use Rattle.iox_wire_locals.specs.ReceiveCourses.{seeking};
     ghost use Rattle.iox_wire_seats.specs.Aims.{Answers, AreQueues, GoesOn, IsAimed};
-    ghost use Rattle.iox_wire_seats.specs.Aims.{IsSeeking, KeepsRoom, QueuesInMemory, StaysAimed};
+    ghost use Rattle.iox_wire_seats.specs.Aims.{HasSameRooms, IsSeeking, KeepsRoom, QueuesInMemory, StaysAimed};
     ghost use Rattle.iox_wire_seats.specs.Seats.{ways_of};
 
     /// Begins to look for a message that waits on these ways, in queues like that one.
-    pub fn seek(&mut self, queue: Site, stops: &[Stop]) -> Result<(), AllocError>
-        requires { QueuesInMemory queue.kind queue.capacity stops.now }
-        ensures begun { OnOk result (self.new.seat ≡ seeking self.old.seat (ways_of stops.now)) }
+    pub fn seek(&mut self, queue: Site, stops: &[Stop])
+        requires fits { length stops.now ≤ self.old.ways_room }
+        requires within { QueuesInMemory queue.kind queue.capacity stops.now }
+        ensures begun { self.new.seat ≡ seeking self.old.seat (ways_of stops.now) }
         ensures aimed { (p : Setting) → AreQueues p queue.kind queue.capacity stops.now
-            → OnOk result (IsAimed p self.new) }
+            → IsAimed p self.new }
         ensures accesses { self.new.seat.accesses ≡ self.old.seat.accesses }
         ensures room { self.new.room ≡ self.old.room }
-        ensures unchanged { OnErr result (self.new ≡ self.old) }
+        ensures rooms { HasSameRooms self.old self.new }
     {
-        self.left.fill(stops)?;
+        self.left.fill(stops);
         match self.left.next() {
             Some(stop) => {
                 self.way = stop.way;
@@ -41,7 +41,6 @@ impl StoredSeat {
                 self.at = At::TellsAnswer;
             }
         }
-        Ok(())
     }
 
     /// An access of a look at emptiness.

@@ -11,13 +11,14 @@ impl StoredSeat {
     ghost use Rattle.iox_wire_locals.specs.Courses.{ended};
     ghost use Rattle.iox_wire_locals.specs.Tables.{Setting};
     ghost use Rattle.iox_wire_seats.specs.Aims.{Answers, GoesOn, IsAimed, IsTelling, KeepsRoom};
-    ghost use Rattle.iox_wire_seats.specs.Aims.{StaysAimed};
+    ghost use Rattle.iox_wire_seats.specs.Aims.{HasSameRooms, StaysAimed};
 
     /// Begins a call that is refused.
     pub fn refuse(&mut self, refusal: CallRefusal)
         ensures begun { self.new.seat ≡ ended self.old.seat (Refuses refusal) }
         ensures aimed { (p : Setting) → IsAimed p self.new }
         ensures room { self.new.room ≡ self.old.room }
+        ensures rooms { HasSameRooms self.old self.new }
     {
         self.refusal = refusal;
         self.at = At::Refuses;

@@ -1,47 +1,36 @@
 //! The write of a payload.
-ghost use Rattle.std.specs.Prelude.{◌≡◌, ◌<◌, length, vec_capacity};
+ghost use Rattle.std.specs.Bool.{OnTrue};
+ghost use Rattle.std.specs.Option.{option_map_or};
+ghost use Rattle.std.specs.Prelude.{◌≡◌, ◌==◌, ◌<◌, Some, false};
 
 use super::{NO_PLACES, StoredSeat};
 use crate::at::{At, SeatReply};
 use crate::message_places::MessagePlaces;
 use iox_wire_locals::{CallRefusal, Entry};
-use std::alloc::AllocError;
 
 impl StoredSeat {
-    ghost use Rattle.std.specs.Prelude.{◌≡◌, ◌+◌, ◌<◌, ◌^◌, OnErr, OnOk, length};
+    ghost use Rattle.std.specs.Prelude.{◌≡◌, ◌+◌, ◌<◌, ◌≤◌, ◌^◌, Some, length};
     ghost use Rattle.iox_wire_locals.specs.Tables.{Setting};
     ghost use Rattle.iox_wire_locals.specs.Begins.{writes};
     ghost use Rattle.iox_wire_seats.specs.Aims.{Answers, GoesOn, IsAimed, IsPayloadAt, IsWriting};
-    ghost use Rattle.iox_wire_seats.specs.Aims.{KeepsRoom, StaysAimed};
+    ghost use Rattle.iox_wire_seats.specs.Aims.{HasSameRooms, KeepsRoom, StaysAimed};
 
     /// Begins to write the payload of a loan, which begins with that word. It is refused if the
-    /// words are not those of as many elements as the loan has.
-    pub fn write(
-        &mut self,
-        loan: Entry,
-        payload: usize,
-        elements: Option<u64>,
-        words: &[u64],
-    ) -> Result<(), AllocError>
-        requires { payload + length words.now < 2 ^ 64 }
-        ensures begun { OnOk result (self.new.seat ≡ writes self.old.seat loan elements words.now) }
+    /// words are not those of as many elements as the loan has; else there is room for them.
+    pub fn write(&mut self, loan: Entry, payload: usize, elements: Option<u64>, words: &[u64])
+        requires memory { elements ≡ Some loan.elements → payload + length words.now < 2 ^ 64 }
+        requires fits { elements ≡ Some loan.elements → length words.now ≤ self.old.words_room }
+        ensures begun { self.new.seat ≡ writes self.old.seat loan elements words.now }
         ensures aimed { (p : Setting) → IsPayloadAt p loan payload (length words.now)
-            → OnOk result (IsAimed p self.new) }
+            → IsAimed p self.new }
         ensures accesses { self.new.seat.accesses ≡ self.old.seat.accesses }
         ensures room { self.new.room ≡ self.old.room }
-        ensures unchanged { OnErr result (self.new ≡ self.old) }
+        ensures rooms { HasSameRooms self.old self.new }
     {
-        let fits = match elements {
-            Some(count) => count == loan.elements,
-            None => false,
-        };
-        if !fits {
+        if !is_as_many(elements, loan.elements) {
             self.refusal = CallRefusal::WrongLength;
             self.at = At::Refuses;
-            return Ok(());
-        }
-        if self.words.capacity() < words.len() {
-            self.words.reserve(words.len())?;
+            return;
         }
         self.words.clear();
         if self.words.extend_from_slice(words).is_err() {
@@ -59,7 +48,6 @@ impl StoredSeat {
         } else {
             At::Writes
         };
-        Ok(())
     }
 
     /// A word of the payload is stored.
@@ -80,5 +68,16 @@ impl StoredSeat {
         }
         self.at = At::Idle;
         Some(SeatReply::Done)
+    }
+}
+
+/// Whether so many elements are told, and they are that many.
+fn is_as_many(elements: Option<u64>, count: u64) -> bool
+    ensures many { OnTrue result (elements ≡ Some count) }
+    ensures told { result ≡ option_map_or (λ k. k == count) elements false }
+{
+    match elements {
+        Some(told) => told == count,
+        None => false,
     }
 }

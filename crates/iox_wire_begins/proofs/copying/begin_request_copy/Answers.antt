@@ -1,7 +1,7 @@
 use Rattle.std.proofs.Common.{◌≡◌, ℕ, ◌≤◌, List, ap, sym, subst, ◌∙◌}
 use Rattle.iox_model.specs.declared.kind.Role.TheVariants.{Client}
 use Rattle.iox_model.specs.Loans.{request_ways}
-use Rattle.iox_wire_handle_calls.specs.Plans.{number_at}
+use Rattle.iox_wire_handle_calls.specs.Plans.{most_ways, number_at}
 use Rattle.iox_wire_handle_calls.specs.Copies.{ArePayloads}
 use Rattle.iox_wire_handle_calls.specs.SlotPlaces.{SlotPlaces}
 use Rattle.iox_wire_handle_calls.specs.Lenders.{AreReturning}
@@ -11,6 +11,9 @@ use Rattle.iox_wire_handle_calls.specs.CopyCalls.{KnowsServersOnLane}
 use Rattle.iox_wire_handle_calls.specs.Stop.{Stop}
 use Rattle.iox_wire_handle_calls.specs.Seats.{ways_of}
 use Rattle.iox_wire_begins.proofs.TermLemmas.{has_slot}
+use Rattle.iox_wire_handle_calls.specs.Copies.{CopyLoan}
+use Rattle.iox_wire_begins.specs.ListRooms.{HasRoomToCopy}
+use Rattle.iox_wire_begins.proofs.RoomLemmas.{list_fits, slots_fit}
 use Rattle.iox_wire_begins.proofs.copying.begin_request_copy.Goals as goal
 
 pub make_lender-lender-requires-clause-slot : goal.make_lender-lender-requires-clause-slot
@@ -38,5 +41,20 @@ returns-clause-aimed c p with next of_slot =
     (subst (λ (n : ℕ). KnowsServersOnLane p c.args.seat.now.seat n (first_lane c.make_lender-lender.result.pool (free_lanes c.args.seat.now.seat n)) c.tell_servers.new.copying.sends) (sym port)
     (subst (λ (n : ℕ). KnowsServersOnLane p c.args.seat.now.seat (number_at c.args.map.now c.args.client)
     (first_lane n (free_lanes c.args.seat.now.seat (number_at c.args.map.now c.args.client))) c.tell_servers.new.copying.sends) (sym c.make_lender-lender.ensures.pool)
-    (c.in_ok-tell_servers.ensures.knows p with)))
+    (c.tell_servers.ensures.knows p with)))
     of_slot
+
+pub begin-requires-clause-ways : goal.begin-requires-clause-ways
+begin-requires-clause-ways c =
+    let rooms : HasRoomToCopy c.args.map.now c.tell_servers.new.copying.lends = subst (λ (r : CopyLoan). HasRoomToCopy c.args.map.now r) (sym c.tell_servers.ensures.lends) c.requires.rooms in
+    list_fits c.deref.result.now c.list_request_returns-room.new.stops.items (most_ways c.args.map.now) c.tell_servers.new.copying.lends.lending.ways_room c.deref.ensures.value c.list_request_returns-room.ensures.few rooms.lending.ways
+
+pub begin-requires-clause-words : goal.begin-requires-clause-words
+begin-requires-clause-words c =
+    let rooms : HasRoomToCopy c.args.map.now c.tell_servers.new.copying.lends = subst (λ (r : CopyLoan). HasRoomToCopy c.args.map.now r) (sym c.tell_servers.ensures.lends) c.requires.rooms in
+    slots_fit c.args.map.now c.args.client c.make_lender-lender.result.places c.tell_servers.new.copying.lends.lending.words_room c.make_lender-lender.ensures.places rooms.lending.words
+
+pub begin-requires-clause-payload : goal.begin-requires-clause-payload
+begin-requires-clause-payload c =
+    let rooms : HasRoomToCopy c.args.map.now c.tell_servers.new.copying.lends = subst (λ (r : CopyLoan). HasRoomToCopy c.args.map.now r) (sym c.tell_servers.ensures.lends) c.requires.rooms in
+    slots_fit c.args.map.now c.args.client c.make_lender-lender.result.places c.tell_servers.new.copying.lends.payload_room c.make_lender-lender.ensures.places rooms.payload

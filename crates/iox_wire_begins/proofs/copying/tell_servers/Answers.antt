@@ -3,7 +3,7 @@ use Rattle.std.specs.Prelude.{get_or}
 use Rattle.iox_model.specs.declared.kind.Role.TheVariants.{Client}
 use Rattle.iox_wire_handle_calls.specs.Programs.{WireLayout}
 use Rattle.iox_wire_handle_calls.specs.WirePlan.{WirePlan}
-use Rattle.iox_wire_handle_calls.specs.Plans.{number_at}
+use Rattle.iox_wire_handle_calls.specs.Plans.{most_ways, number_at}
 use Rattle.iox_wire_handle_calls.specs.Known.{free_lanes}
 use Rattle.iox_wire_handle_calls.specs.Lendings.{first_lane}
 use Rattle.iox_wire_handle_calls.specs.Target.{Target}
@@ -11,6 +11,7 @@ use Rattle.iox_wire_handle_calls.specs.Targets.{AreTargets, servers_of}
 use Rattle.iox_wire_handle_calls.specs.Visits.{pool_of}
 use Rattle.iox_wire_handle_calls.proofs.HeaderLemmas.{PortFacts, port_facts}
 use Rattle.iox_wire_begins.proofs.TermLemmas.{has_lane, knows_servers, port_below, told_alike}
+use Rattle.iox_wire_begins.proofs.RoomLemmas.{list_fits}
 use Rattle.iox_wire_begins.proofs.copying.tell_servers.Goals as goal
 
 pub list_targets-told-requires-clause-lane : goal.list_targets-told-requires-clause-lane
@@ -42,9 +43,13 @@ returns-clause-knows c p with low =
     let lane : c.first_lane-lane.result ≡ first_lane (pool_of c.args.map.now (number_at c.args.map.now c.args.client)) (free_lanes c.args.seat.now.seat (number_at c.args.map.now c.args.client)) =
     c.first_lane-lane.ensures ∙ ap₂ (λ a b. first_lane a (free_lanes c.args.seat.now.seat b)) facts.pool facts.number in
     knows_servers p c.args.seat.now.seat (number_at c.args.map.now c.args.client) (first_lane (pool_of c.args.map.now (number_at c.args.map.now c.args.client)) (free_lanes c.args.seat.now.seat (number_at c.args.map.now c.args.client)))
-    c.prepare.new.self.sends c.list_targets-told.result c.deref.result.now c.in_ok-prepare.ensures.terms c.in_ok-prepare.ensures.targets
+    c.prepare.new.self.sends c.list_targets-told.result c.deref.result.now c.prepare.ensures.terms c.prepare.ensures.targets
     (λ loan at. told_alike p loan c.request_terms-own.result c.list_targets-told.result c.list_targets-told.ensures.rest (c.request_terms-own.ensures p loan with at))
     (λ loan at on.
     subst (λ (ts : List Target). AreTargets p c.list_targets-told.result loan ts) (sym c.deref.ensures.value)
     (c.list_targets-told.ensures.targets p loan with.setting at (on ∙ sym lane)))
     (ap servers_of c.deref.ensures.value ∙ c.list_targets-told.ensures.servers p with.setting)
+
+pub prepare-requires-clause-fits : goal.prepare-requires-clause-fits
+prepare-requires-clause-fits c =
+    list_fits c.deref.result.now c.list_targets-told.new.targets.items (most_ways c.args.map.now) c.args.copying.now.sends.room c.deref.ensures.value c.list_targets-told.ensures.few c.requires.room

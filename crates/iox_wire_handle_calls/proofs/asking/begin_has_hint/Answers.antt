@@ -26,11 +26,6 @@ returns-in_err-entry-clause-refused c p setting =
     c.in_err-entry.ensures.refused p none setting tt in
     search (rules, known)
 
-pub returns-in_err-check-clause-refused : goal.returns-in_err-check-clause-refused
-returns-in_err-check-clause-refused c p setting =
-    let known : refusal_at p c.args.seat.now.seat (Port (HasHint c.args.number)) ≡ None = c.in_ok-entry.ensures.allowed p none setting tt in
-    search (rules, known)
-
 pub list_states_of-requires-clause-states : goal.list_states_of-requires-clause-states
 list_states_of-requires-clause-states c =
     subst (λ (o : Option Entry). IfSome o (HasStates c.args.map.now)) c.in_ok-entry.ensures.found c.requires.states
@@ -45,10 +40,10 @@ list_states_of-requires-clause-kind c = ap (λ (b : Bool). same_kind c.in_ok-ent
 pub returns-clause-begun : goal.returns-clause-begun
 returns-clause-begun c p setting = record {
   allowed = c.in_ok-entry.ensures.allowed p none setting tt;
-  begun = c.in_ok-check.ensures.begun
+  begun = c.check.ensures.begun
       ∙ ap (λ (ws : List Way). checking c.args.seat.now.seat c.in_ok-entry.entry true ws) (ap ways_of c.deref.ensures.value ∙ c.list_states_of.ensures.ways p setting)
       ∙ sym (c.in_ok-entry.ensures.begins p none setting);
-  aimed = c.in_ok-check.ensures.aimed p (subst (AreStates p) (sym c.deref.ensures.value) (c.list_states_of.ensures.places p setting));
+  aimed = c.check.ensures.aimed p (subst (AreStates p) (sym c.deref.ensures.value) (c.list_states_of.ensures.places p setting));
 }
 
 pub returns-clause-allowed : goal.returns-clause-allowed

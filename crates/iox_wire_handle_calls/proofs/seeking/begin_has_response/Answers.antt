@@ -39,21 +39,16 @@ returns-in_err-pending-clause-refused c p setting =
     c.in_err-pending.ensures.refused p none setting tt in
     search (rules, known)
 
-pub returns-in_err-seek-clause-refused : goal.returns-in_err-seek-clause-refused
-returns-in_err-seek-clause-refused c p setting =
-    let known : refusal_at p c.args.seat.now.seat (Port (HasResponse c.args.number)) ≡ None = c.in_ok-pending.ensures.allowed p none setting tt in
-    search (rules, known)
-
 pub returns-clause-begun : goal.returns-clause-begun
 returns-clause-begun c p setting = record {
   allowed = c.in_ok-pending.ensures.allowed p none setting tt;
-  begun = c.in_ok-seek.ensures.begun
+  begun = c.seek.ensures.begun
       ∙ ap (λ (ws : List Way). seeking c.args.seat.now.seat ws)
       (ap ways_of c.deref.ensures.value
       ∙ c.list_waiting_responses-queue.ensures.ways p c.args.seat.now.seat setting
       ∙ ap (λ (n : ℕ). map (response_way n c.in_ok-pending.pending.lane) (ports_of_role (known p c.args.seat.now.seat) Server)) c.client_place-client.ensures.number)
       ∙ sym (c.in_ok-pending.ensures.begins p none setting);
-  aimed = c.in_ok-seek.ensures.aimed p (subst (AreQueues p c.list_waiting_responses-queue.result.kind c.list_waiting_responses-queue.result.capacity) (sym c.deref.ensures.value) (c.list_waiting_responses-queue.ensures.queues p setting));
+  aimed = c.seek.ensures.aimed p (subst (AreQueues p c.list_waiting_responses-queue.result.kind c.list_waiting_responses-queue.result.capacity) (sym c.deref.ensures.value) (c.list_waiting_responses-queue.ensures.queues p setting));
 }
 
 pub returns-clause-allowed : goal.returns-clause-allowed

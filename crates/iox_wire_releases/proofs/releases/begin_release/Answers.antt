@@ -1,4 +1,4 @@
-use Rattle.std.proofs.Common.{◌≡◌, OnOk, ap, subst, sym, ◌∙◌}
+use Rattle.std.proofs.Common.{◌≡◌, ap, subst, sym, ◌∙◌}
 use Rattle.iox_model.specs.declared.call.Call.TheVariants.{Release}
 use Rattle.iox_model.specs.Peers.{port_at}
 use Rattle.iox_wire_locals.specs.declared.seat.Seat.{Seat}
@@ -16,7 +16,7 @@ returns-then-is_some-clause-begun c p setting =
 
 pub returns-in-Some-clause-begun : goal.returns-in-Some-clause-begun
 returns-in-Some-clause-begun c p setting =
-    subst (λ (y : Seat). OnOk c.release.result (c.release.new.seat.seat ≡ y))
+    subst (λ (y : Seat). c.release.new.seat.seat ≡ y)
     (a_handle_begins c.args.map.now p c.args.seat.now.seat c.args.number setting c.place_of.result c.in-Some.entry
     c.place_of.ensures.first (sym c.is_some.ensures ∙ c.if-is_some.false)
     ∙ ap (begins_at p c.args.seat.now.seat (Release c.args.number) (port_at (known p c.args.seat.now.seat) c.args.number)) (sym c.in-Some.is ∙ c.entry.ensures))

@@ -1,7 +1,8 @@
 use Rattle.std.proofs.Common.{◌≡◌, ◌<◌, ◌++◌, List, length, ap, sym, subst, ◌∙◌, arith}
 use Rattle.iox_model.specs.declared.kind.Role.TheVariants.{Client, Server}
 use Rattle.iox_steps.specs.declared.site.QueueKind.TheVariants.{Index}
-use Rattle.iox_wire_ways.specs.Plans.{number_at, returning_room}
+use Rattle.std.proofs.lemmas.List.Sums.{sum_by-take-le}
+use Rattle.iox_wire_ways.specs.Plans.{number_at, port_ways, returning_room}
 use Rattle.iox_wire_ways.specs.Lenders.{AreReturning}
 use Rattle.iox_wire_ways.specs.Aims.{QueuesInMemory}
 use Rattle.iox_wire_ways.specs.Seats.{ways_of}
@@ -56,3 +57,9 @@ loop-index-preserved c =
       below = omega (arith, c.loop-index-test.true);
       size = c.loop-index.invariant.size;
     }
+
+pub returns-clause-few : goal.returns-clause-few
+returns-clause-few c =
+    let many = c.loop-index.invariant.many in let len = c.loop-index.stops.ok.0 in
+    let all = sum_by-take-le port_ways c.args.map.now.ports.items c.loop-index.index in
+    omega (arith, many, len, all)

@@ -1,4 +1,4 @@
-use Rattle.std.proofs.Common.{arith, ap, ◌∙◌, subst, sym}
+use Rattle.std.proofs.Common.{arith, ap, length, ◌∙◌, subst, sym}
 use Rattle.iox_model.specs.declared.kind.Role.TheVariants.{Client}
 use Rattle.iox_wire_ways.specs.Stored.{header_length}
 use Rattle.iox_wire_ways.specs.Sources as sources
@@ -6,6 +6,8 @@ use Rattle.iox_wire_ways.specs.Sources.{AreSources, AreWithin}
 use Rattle.iox_wire_ways.specs.Seats.{ways_of}
 use Rattle.iox_wire_ways.proofs.WayCounts.{ports_fit}
 use Rattle.iox_wire_stops.proofs.WaitingLemmas.{are_told, same_ways, told_in_memory}
+use Rattle.iox_wire_stops.specs.Waiting.{stop_of}
+use Rattle.std.proofs.lemmas.List.{length-map}
 use Rattle.iox_wire_stops.proofs.waiting.list_waiting_requests.Goals as goal
 
 pub returns-clause-ways : goal.returns-clause-ways
@@ -30,3 +32,9 @@ list_queues-requires c =
     let many = c.list_request_sources-terms.ensures.many in let size = c.deref.ensures.len in
     let fit = ports_fit c.args.map.now in let asked = c.requires.stops in
     omega (arith, many, size, fit, asked)
+
+pub returns-clause-few : goal.returns-clause-few
+returns-clause-few c =
+    let many = c.list_request_sources-terms.ensures.many in let size = c.deref.ensures.len in let fit = ports_fit c.args.map.now in
+    let all = ap length c.list_queues.ensures.stops ∙ length-map c.deref.result.now stop_of in
+    omega (arith, many, size, fit, all)

@@ -30,3 +30,9 @@ push_reserved-requires c =
     let few = c.loop-index.invariant.few in let same = c.loop-index.invariant.list in let asked = c.requires.list in
     let low = c.loop-index-test.true in let size = c.loop-index.invariant.size in let fit = ports_fit c.args.map.now in
     omega (arith, few, same, asked, low, size, fit)
+
+pub returns-clause-few : goal.returns-clause-few
+returns-clause-few c =
+    let few = c.loop-index.invariant.few in let below = c.loop-index.invariant.below in let size = c.loop-index.invariant.size in
+    let fit = ports_fit c.args.map.now in let len = c.loop-index.targets.ok.0 in
+    omega (arith, few, below, size, fit, len)

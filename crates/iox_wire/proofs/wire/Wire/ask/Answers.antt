@@ -1,4 +1,4 @@
-use Rattle.iox_wire.proofs.Playing.{begin_allowed, begin_told, left_told}
+use Rattle.iox_wire.proofs.Playing.{begin_allowed, begin_full, begin_told, left_told}
 use Rattle.iox_wire.proofs.wire.Wire.ask.Goals as goal
 
 pub returns-clause-asked : goal.returns-clause-asked
@@ -13,3 +13,7 @@ returns-clause-allowed c =
 
 pub returns-clause-unchanged : goal.returns-clause-unchanged
 returns-clause-unchanged c = left_told _ c.begin-told.result c.want_of.result c.begin-told.ensures.unchanged c.want_of.ensures.done
+
+pub returns-clause-full : goal.returns-clause-full
+returns-clause-full c =
+    begin_full c.args.self.now c.args.node c.args.call c.begin-told.result c.want_of.result c.begin-told.ensures.full c.want_of.ensures.done c.want_of.ensures.memory

@@ -4,8 +4,8 @@ use Rattle.iox_model.specs.declared.call.WireCall.TheVariants.{Port}
 use Rattle.iox_wire_weaves.specs.Asking.{BeginsCall, IsBeginRefusal}
 use Rattle.iox_wire_weaves.specs.Calls.{call_in}
 use Rattle.iox_wire_weaves.specs.Wires.{Shows, WireData, living_refusal}
-use Rattle.iox_wire.specs.Begun.{IsLeft}
-use Rattle.iox_wire.proofs.Begun.{begun, left, may_begin, may_lend_there, refused, set_there, shown_begun, shown_refused}
+use Rattle.iox_wire.specs.Kept.{IsShown}
+use Rattle.iox_wire.proofs.Begun.{as_it_was, begun, lacks_room, may_begin, may_lend_there, refused, set_there, shown_begun}
 use Rattle.iox_wire.proofs.Recorded.{count, events_by}
 use Rattle.iox_wire.proofs.WireSteps.{there}
 use Rattle.iox_wire.proofs.wire.Wire.begin.Goals as goal
@@ -30,12 +30,18 @@ begin-told-requires-clause-lends c rests room p setting =
     let alive : living_refusal w.nodes c.args.node ≡ None = ap (λ (v : WireData). living_refusal v.nodes c.args.node) c.self.view_is ∙ c.in_ok-place.ensures.alive in
     may_lend_there w c.args.node c.in_ok-place.place c.index_mut-member.result.now first c.index_mut-member.ensures.value c.self.invariant.1 alive rests room p setting
 
+pub begin-told-requires-clause-rooms : goal.begin-told-requires-clause-rooms
+begin-told-requires-clause-rooms c =
+    let first = ap (λ (v : WireData). position (λ x. x.number == c.args.node) v.nodes) c.self.view_is ∙ c.in_ok-place.ensures.first in
+    let w : WireData = record { plan = c.self.inside.places; terms = c.self.inside.terms; words = c.self.inside.words.items; nodes = c.self.inside.members.items; replies = c.self.inside.replies.finished; events = events_by c.self.inside.events.items; room = c.self.inside.room } in
+    c.self.invariant.1.rooms c.args.node c.index_mut-member.result.now (there w c.args.node c.in_ok-place.place c.index_mut-member.result.now first c.index_mut-member.ensures.value)
+
 pub invariant_of-self : goal.invariant_of-self
 invariant_of-self c = (
   c.begin-told.ensures.lists,
   let first = ap (λ (v : WireData). position (λ x. x.number == c.args.node) v.nodes) c.self.view_is ∙ c.in_ok-place.ensures.first in
       let w : WireData = record { plan = c.self.inside.places; terms = c.self.inside.terms; words = c.self.inside.words.items; nodes = c.self.inside.members.items; replies = c.self.inside.replies.finished; events = events_by c.self.inside.events.items; room = c.self.inside.room } in
-      shown_refused w c.args.node c.in_ok-place.place c.index_mut-member.result.now first c.index_mut-member.ensures.value c.args.call c.begin-told.new.self c.in-Err.ensures.unchanged c.self.invariant.1,
+      subst IsShown (sym (as_it_was w c.args.node c.in_ok-place.place c.index_mut-member.result.now first c.index_mut-member.ensures.value c.begin-told.new.self c.in-Err.ensures.unchanged)) c.self.invariant.1,
   c.self.invariant.2,
 )
 
@@ -44,15 +50,20 @@ returns-in-Err-clause-refused c =
     let first = ap (λ (v : WireData). position (λ x. x.number == c.args.node) v.nodes) c.self.view_is ∙ c.in_ok-place.ensures.first in
     let w : WireData = record { plan = c.self.inside.places; terms = c.self.inside.terms; words = c.self.inside.words.items; nodes = c.self.inside.members.items; replies = c.self.inside.replies.finished; events = events_by c.self.inside.events.items; room = c.self.inside.room } in
     let alive : living_refusal w.nodes c.args.node ≡ None = ap (λ (v : WireData). living_refusal v.nodes c.args.node) c.self.view_is ∙ c.in_ok-place.ensures.alive in
-    subst (λ (v : WireData). IsBeginRefusal v c.args.node c.args.call c.refusal_of.result) c.self.view_is
-    (refused w c.args.node c.in_ok-place.place c.index_mut-member.result.now first c.index_mut-member.ensures.value c.args.call c.in-Err.error c.refusal_of.result alive c.in-Err.ensures.refused c.refusal_of.ensures)
+    subst (λ (v : WireData). IsBeginRefusal v c.args.node c.args.call c.in-Err.refusal) c.self.view_is
+    (refused w c.args.node c.in_ok-place.place c.index_mut-member.result.now first c.index_mut-member.ensures.value c.args.call c.in-Err.refusal alive c.in-Err.ensures.refused)
+
+pub returns-in-Err-clause-full : goal.returns-in-Err-clause-full
+returns-in-Err-clause-full c want =
+    let first = ap (λ (v : WireData). position (λ x. x.number == c.args.node) v.nodes) c.self.view_is ∙ c.in_ok-place.ensures.first in
+    let w : WireData = record { plan = c.self.inside.places; terms = c.self.inside.terms; words = c.self.inside.words.items; nodes = c.self.inside.members.items; replies = c.self.inside.replies.finished; events = events_by c.self.inside.events.items; room = c.self.inside.room } in
+    lacks_room w c.args.node c.in_ok-place.place c.index_mut-member.result.now first c.index_mut-member.ensures.value c.args.call c.args.self.now c.self.view_is (c.in-Err.ensures.full want)
 
 pub returns-in-Err-clause-unchanged : goal.returns-in-Err-clause-unchanged
 returns-in-Err-clause-unchanged c =
     let first = ap (λ (v : WireData). position (λ x. x.number == c.args.node) v.nodes) c.self.view_is ∙ c.in_ok-place.ensures.first in
     let w : WireData = record { plan = c.self.inside.places; terms = c.self.inside.terms; words = c.self.inside.words.items; nodes = c.self.inside.members.items; replies = c.self.inside.replies.finished; events = events_by c.self.inside.events.items; room = c.self.inside.room } in
-    subst (λ (v : WireData). IsLeft c.args.call v (record { plan = w.plan; terms = w.terms; words = w.words; nodes = slice_set w.nodes c.in_ok-place.place c.begin-told.new.self; replies = w.replies; events = w.events; room = w.room })) c.self.view_is
-    (left w c.args.node c.in_ok-place.place c.index_mut-member.result.now first c.index_mut-member.ensures.value c.args.call c.begin-told.new.self c.in-Err.ensures.unchanged)
+    as_it_was w c.args.node c.in_ok-place.place c.index_mut-member.result.now first c.index_mut-member.ensures.value c.begin-told.new.self c.in-Err.ensures.unchanged ∙ c.self.view_is
 
 pub invariant_of-self-2 : goal.invariant_of-self-2
 invariant_of-self-2 c = (

@@ -1,4 +1,4 @@
-use Rattle.std.specs.Prelude.{IfSome, Option, position, vec_capacity, vec_len}
+use Rattle.std.specs.Prelude.{IfSome, position, vec_capacity, vec_len}
 use Rattle.std.proofs.Common.{◌≡◌, ℕ, ◌+◌, ◌-◌, ◌<◌, ◌≤◌, ◌==◌, ◌++◌, List, None, Some, ap, arith, length, subst, sym, ◌∙◌, slice_set}
 use Rattle.std.proofs.lemmas.List.{length-map}
 use Rattle.iox_wire_weaves.specs.Nodes.{answered_at}
@@ -85,7 +85,7 @@ invariant_of-self c = (
       let replied = nothing_replied w.replies c.go_on.new.self.number c.go_on.new.self c.go_on.new.self.node.seat.words (length (events_by c.note.new.events.items)) in
       stepping.shown_now w c.args.node c.args.place c.index-member.result.now c.index_mut-member.result.now first c.index-member.ensures c.index_mut-member.ensures.value c.self.invariant.1 goes
       c.make_access-seen.result c.make_access-seen.new.words.items c.event-told.result c.make_access-seen.ensures.seen c.make_access-seen.ensures.words (λ q aimed. c.event-told.ensures q aimed)
-      None c.go_on.new.self c.go_on.new.self c.in_default.ensures.made c.in_default.ensures.number c.in_default.ensures.lives c.in_default.ensures.call (goes_on c.go_on.new.self)
+      None c.go_on.new.self c.go_on.new.self c.in_default.ensures.made c.in_default.ensures.number c.in_default.ensures.lives c.in_default.ensures.call c.in_default.ensures.rooms (goes_on c.go_on.new.self)
       c.self.inside.replies.finished (events_by c.note.new.events.items) _ noted replied,
   let fit = c.self.invariant.2 in let some : 0 < c.self.inside.room = subst (λ (v : WireData). 0 < v.room) (sym c.self.view_is) c.requires.room in
       record {
@@ -104,7 +104,7 @@ returns-in_default-clause-one_access c p r shows =
     let replied = nothing_replied w.replies c.go_on.new.self.number c.go_on.new.self c.go_on.new.self.node.seat.words (length (events_by c.note.new.events.items)) in
     let s = stepping.woven w c.args.node c.args.place c.index-member.result.now c.index_mut-member.result.now first c.index-member.ensures c.index_mut-member.ensures.value c.self.invariant.1 goes
     c.make_access-seen.result c.make_access-seen.new.words.items c.event-told.result c.make_access-seen.ensures.seen c.make_access-seen.ensures.words (λ q aimed. c.event-told.ensures q aimed)
-    None c.go_on.new.self c.go_on.new.self c.in_default.ensures.made c.in_default.ensures.number c.in_default.ensures.lives c.in_default.ensures.call (goes_on c.go_on.new.self)
+    None c.go_on.new.self c.go_on.new.self c.in_default.ensures.made c.in_default.ensures.number c.in_default.ensures.lives c.in_default.ensures.call c.in_default.ensures.rooms (goes_on c.go_on.new.self)
     c.self.inside.replies.finished (events_by c.note.new.events.items) _ noted replied p r (subst (λ (v : WireData). Shows p v r) (sym c.self.view_is) shows) in
     subst (λ (v : WireData). MakesOneAccess p v c.args.node
     (record { plan = w.plan; terms = w.terms; words = c.make_access-seen.new.words.items; nodes = slice_set w.nodes c.args.place c.go_on.new.self; replies = c.self.inside.replies.finished; events = events_by c.note.new.events.items; room = c.self.inside.room - 1 }))
@@ -119,7 +119,7 @@ returns-in_default-clause-weave c p r shows =
     let replied = nothing_replied w.replies c.go_on.new.self.number c.go_on.new.self c.go_on.new.self.node.seat.words (length (events_by c.note.new.events.items)) in
     let s = stepping.woven w c.args.node c.args.place c.index-member.result.now c.index_mut-member.result.now first c.index-member.ensures c.index_mut-member.ensures.value c.self.invariant.1 goes
     c.make_access-seen.result c.make_access-seen.new.words.items c.event-told.result c.make_access-seen.ensures.seen c.make_access-seen.ensures.words (λ q aimed. c.event-told.ensures q aimed)
-    None c.go_on.new.self c.go_on.new.self c.in_default.ensures.made c.in_default.ensures.number c.in_default.ensures.lives c.in_default.ensures.call (goes_on c.go_on.new.self)
+    None c.go_on.new.self c.go_on.new.self c.in_default.ensures.made c.in_default.ensures.number c.in_default.ensures.lives c.in_default.ensures.call c.in_default.ensures.rooms (goes_on c.go_on.new.self)
     c.self.inside.replies.finished (events_by c.note.new.events.items) _ noted replied p r (subst (λ (v : WireData). Shows p v r) (sym c.self.view_is) shows) in
     (s.1, s.2, s.3, s.4, s.5, s.6)
 
@@ -135,7 +135,7 @@ invariant_of-self-2 c = (
       ∙ ap (λ k. w.replies ++ finished_by c.go_on.new.self.number c.go_on.new.self c.go_on.new.self.node.seat.words k (Some c.in-Some.reply)) ended in
       stepping.shown_now w c.args.node c.args.place c.index-member.result.now c.index_mut-member.result.now first c.index-member.ensures c.index_mut-member.ensures.value c.self.invariant.1 goes
       c.make_access-seen.result c.make_access-seen.new.words.items c.event-told.result c.make_access-seen.ensures.seen c.make_access-seen.ensures.words (λ q aimed. c.event-told.ensures q aimed)
-      (Some c.in-Some.reply) c.go_on.new.self c.tell.new.self c.in-Some.ensures.made c.in-Some.ensures.number c.in-Some.ensures.lives c.in-Some.ensures.call
+      (Some c.in-Some.reply) c.go_on.new.self c.tell.new.self c.in-Some.ensures.made c.in-Some.ensures.number c.in-Some.ensures.lives c.in-Some.ensures.call c.in-Some.ensures.rooms
       (is_over c.in-Some.reply c.go_on.new.self c.tell.new.self c.tell.ensures.over) c.tell.new.replies.finished (events_by c.note.new.events.items) _ noted replied,
   let fit = c.self.invariant.2 in let some : 0 < c.self.inside.room = subst (λ (v : WireData). 0 < v.room) (sym c.self.view_is) c.requires.room in
       record {
@@ -156,7 +156,7 @@ returns-clause-one_access c p r shows =
     ∙ ap (λ k. w.replies ++ finished_by c.go_on.new.self.number c.go_on.new.self c.go_on.new.self.node.seat.words k (Some c.in-Some.reply)) ended in
     let s = stepping.woven w c.args.node c.args.place c.index-member.result.now c.index_mut-member.result.now first c.index-member.ensures c.index_mut-member.ensures.value c.self.invariant.1 goes
     c.make_access-seen.result c.make_access-seen.new.words.items c.event-told.result c.make_access-seen.ensures.seen c.make_access-seen.ensures.words (λ q aimed. c.event-told.ensures q aimed)
-    (Some c.in-Some.reply) c.go_on.new.self c.tell.new.self c.in-Some.ensures.made c.in-Some.ensures.number c.in-Some.ensures.lives c.in-Some.ensures.call
+    (Some c.in-Some.reply) c.go_on.new.self c.tell.new.self c.in-Some.ensures.made c.in-Some.ensures.number c.in-Some.ensures.lives c.in-Some.ensures.call c.in-Some.ensures.rooms
     (is_over c.in-Some.reply c.go_on.new.self c.tell.new.self c.tell.ensures.over) c.tell.new.replies.finished (events_by c.note.new.events.items) _ noted replied p r (subst (λ (v : WireData). Shows p v r) (sym c.self.view_is) shows) in
     subst (λ (v : WireData). MakesOneAccess p v c.args.node
     (record { plan = w.plan; terms = w.terms; words = c.make_access-seen.new.words.items; nodes = slice_set w.nodes c.args.place c.tell.new.self; replies = c.tell.new.replies.finished; events = events_by c.note.new.events.items; room = c.self.inside.room - 1 }))
@@ -173,7 +173,7 @@ returns-clause-weave c p r shows =
     ∙ ap (λ k. w.replies ++ finished_by c.go_on.new.self.number c.go_on.new.self c.go_on.new.self.node.seat.words k (Some c.in-Some.reply)) ended in
     let s = stepping.woven w c.args.node c.args.place c.index-member.result.now c.index_mut-member.result.now first c.index-member.ensures c.index_mut-member.ensures.value c.self.invariant.1 goes
     c.make_access-seen.result c.make_access-seen.new.words.items c.event-told.result c.make_access-seen.ensures.seen c.make_access-seen.ensures.words (λ q aimed. c.event-told.ensures q aimed)
-    (Some c.in-Some.reply) c.go_on.new.self c.tell.new.self c.in-Some.ensures.made c.in-Some.ensures.number c.in-Some.ensures.lives c.in-Some.ensures.call
+    (Some c.in-Some.reply) c.go_on.new.self c.tell.new.self c.in-Some.ensures.made c.in-Some.ensures.number c.in-Some.ensures.lives c.in-Some.ensures.call c.in-Some.ensures.rooms
     (is_over c.in-Some.reply c.go_on.new.self c.tell.new.self c.tell.ensures.over) c.tell.new.replies.finished (events_by c.note.new.events.items) _ noted replied p r (subst (λ (v : WireData). Shows p v r) (sym c.self.view_is) shows) in
     (s.1, s.2, s.3, s.4, s.5, s.6)
 

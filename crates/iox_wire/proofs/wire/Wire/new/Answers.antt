@@ -1,8 +1,8 @@
 use Rattle.std.specs.Prelude.{replicate}
-use Rattle.std.proofs.Common.{arith, ap, length, refl, subst, ◌<◌, ◌^◌, ◌∙◌}
+use Rattle.std.proofs.Common.{arith, ap, length, refl, subst, sym, ◌<◌, ◌^◌, ◌∙◌}
 use Rattle.iox_word_map.specs.WordMaps.{total_words}
 use Rattle.iox_wire_weaves.specs.WirePlan.{WirePlan}
-use Rattle.iox_wire_weaves.specs.Plans.{sizes_of}
+use Rattle.iox_wire_weaves.specs.Plans.{most_ways, sizes_of}
 use Rattle.iox_wire_weaves.specs.Replies.{most_words}
 use Rattle.iox_wire_weaves.specs.Wires.{WireData}
 use Rattle.iox_wire.specs.Replies.{FinishedCalls}
@@ -10,7 +10,12 @@ use Rattle.iox_wire.specs.Kept.{AreOpened}
 use Rattle.iox_wire.proofs.Members.{opened_node}
 use Rattle.iox_wire.proofs.Fresh.{fresh, shown_opened, shows_opened}
 use Rattle.iox_wire.proofs.Recorded.{events_by}
+use Rattle.iox_wire.proofs.Roomy.{fits_is}
 use Rattle.iox_wire.proofs.wire.Wire.new.Goals as goal
+
+pub open_members-requires-clause-ways : goal.open_members-requires-clause-ways
+open_members-requires-clause-ways c =
+    fits_is (most_ways c.in_ok-places.places) c.in-Some.ways c.in-Some.ensures ∙ ap most_ways (sym c.plan.ensures.value)
 
 pub invariant_of-result : goal.invariant_of-result
 invariant_of-result c = (

@@ -1,7 +1,7 @@
-use Rattle.std.specs.Prelude.{OnErr, OnOk}
+use Rattle.std.specs.Prelude.{OnOk}
 use Rattle.std.proofs.Common.{subst, sym}
 use Rattle.iox_wire.specs.declared.entry.WireEntry.{WireEntry}
-use Rattle.iox_wire.specs.Schedules.{IsEntered, WantsMemory}
+use Rattle.iox_wire.specs.Schedules.{IsEntered}
 use Rattle.iox_wire.proofs.wire.Wire.play.Goals as goal
 
 pub returns-in-Begin-clause-played : goal.returns-in-Begin-clause-played

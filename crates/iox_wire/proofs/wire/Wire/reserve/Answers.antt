@@ -1,5 +1,5 @@
 use Rattle.std.specs.Prelude.{max}
-use Rattle.std.proofs.Common.{◌≡◌, ℕ, ◌+◌, ◌≤◌, List, ap, ap₂, arith, subst, sym, ◌∙◌}
+use Rattle.std.proofs.Common.{◌≡◌, ℕ, ◌≤◌, List, ap, arith, subst, sym, ◌∙◌}
 use Rattle.iox_model.specs.Schedules.{Finished}
 use Rattle.iox_model.specs.declared.event.Event.{Event}
 use Rattle.iox_wire_weaves.specs.Wires.{WireData}

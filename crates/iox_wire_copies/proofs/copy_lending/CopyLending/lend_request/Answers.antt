@@ -11,13 +11,13 @@ use Rattle.iox_wire_copies.proofs.copy_lending.CopyLending.lend_request.Goals as
 pub returns-clause-begun : goal.returns-clause-begun
 returns-clause-begun c p lender client number ways =
     let begun : placed c.lend_request.new.seat.seat c.lend_request.new.self.local ≡ lends_request p c.args.seat.now.seat (p.port c.args.lender.now.port) c.args.elements [] false =
-    c.in_ok-lend_request.ensures.begun p lender client number ways in
+    c.lend_request.ensures.begun p lender client number ways in
     let whole : lends_request p c.args.seat.now.seat (p.port c.args.lender.now.port) c.args.elements c.replace.new.payload.items true
     ≡ lends_request p c.args.seat.now.seat (p.port c.args.lender.now.port) c.args.elements c.args.words.now true =
     elim c.if-elements-lender.branch [
-      | then-elements-lender w ↦ kept_whole (λ (ws : List ℕ). lends_request p c.args.seat.now.seat (p.port c.args.lender.now.port) c.args.elements ws true) c.args.words.now c.replace.new.payload.items c.if-elements-lender.kept c.replace.ensures w.kept-is
+      | then-elements-lender w ↦ kept_whole (λ (ws : List ℕ). lends_request p c.args.seat.now.seat (p.port c.args.lender.now.port) c.args.elements ws true) c.args.words.now c.replace.new.payload.items c.if-elements-lender.kept c.replace.ensures.items w.kept-is
       | else-elements-lender w ↦ kept_none (λ (ws : List ℕ). lends_request p c.args.seat.now.seat (p.port c.args.lender.now.port) c.args.elements ws true) c.args.words.now c.replace.new.payload.items c.if-elements-lender.kept
-          (too_long p c.args.seat.now.seat c.args.lender.now c.args.elements c.args.words.now lender client (lt-leb c.args.elements c.args.lender.now.longest w.if-elements-lender.false)) c.replace.ensures w.kept-is
+          (too_long p c.args.seat.now.seat c.args.lender.now c.args.elements c.args.words.now lender client (lt-leb c.args.elements c.args.lender.now.longest w.if-elements-lender.false)) c.replace.ensures.items w.kept-is
     ] in
     ap (copied c.replace.new.payload.items) begun
     ∙ sym (begins_copied p c.args.seat.now.seat (p.port c.args.lender.now.port) c.args.elements c.replace.new.payload.items)
@@ -27,5 +27,5 @@ pub returns-clause-peers : goal.returns-clause-peers
 returns-clause-peers c p lender client number ways =
     let peers : HasSamePeers c.args.seat.now.seat (placed c.lend_request.new.seat.seat c.lend_request.new.self.local) =
     begins_peers p c.args.seat.now.seat (placed c.lend_request.new.seat.seat c.lend_request.new.self.local) (p.port c.args.lender.now.port) c.args.elements
-    (c.in_ok-lend_request.ensures.begun p lender client number ways) in
+    (c.lend_request.ensures.begun p lender client number ways) in
     record { node = peers.node; forgot = peers.forgot }

@@ -10,13 +10,13 @@ use Rattle.iox_wire_copies.proofs.copy_lending.CopyLending.lend_response.Goals a
 pub returns-clause-begun : goal.returns-clause-begun
 returns-clause-begun c p lender server port number ways =
     let begun : placed c.lend_response.new.seat.seat c.lend_response.new.self.local ≡ lends_response p c.args.seat.now.seat c.args.request c.args.elements [] false =
-    c.in_ok-lend_response.ensures.begun p lender server port number ways in
+    c.lend_response.ensures.begun p lender server port number ways in
     let whole : lends_response p c.args.seat.now.seat c.args.request c.args.elements c.replace.new.payload.items true
     ≡ lends_response p c.args.seat.now.seat c.args.request c.args.elements c.args.words.now true =
     elim c.if-elements-lender.branch [
-      | then-elements-lender w ↦ kept_whole (λ (ws : List ℕ). lends_response p c.args.seat.now.seat c.args.request c.args.elements ws true) c.args.words.now c.replace.new.payload.items c.if-elements-lender.kept c.replace.ensures w.kept-is
+      | then-elements-lender w ↦ kept_whole (λ (ws : List ℕ). lends_response p c.args.seat.now.seat c.args.request c.args.elements ws true) c.args.words.now c.replace.new.payload.items c.if-elements-lender.kept c.replace.ensures.items w.kept-is
       | else-elements-lender w ↦ kept_none (λ (ws : List ℕ). lends_response p c.args.seat.now.seat c.args.request c.args.elements ws true) c.args.words.now c.replace.new.payload.items c.if-elements-lender.kept
-          (too_long_response p c.args.seat.now.seat c.args.lender.now c.args.request c.args.elements c.args.words.now lender server port (lt-leb c.args.elements c.args.lender.now.longest w.if-elements-lender.false)) c.replace.ensures w.kept-is
+          (too_long_response p c.args.seat.now.seat c.args.lender.now c.args.request c.args.elements c.args.words.now lender server port (lt-leb c.args.elements c.args.lender.now.longest w.if-elements-lender.false)) c.replace.ensures.items w.kept-is
     ] in
     ap (copied c.replace.new.payload.items) begun
     ∙ sym (responds_copied p c.args.seat.now.seat c.args.request c.args.elements c.replace.new.payload.items)

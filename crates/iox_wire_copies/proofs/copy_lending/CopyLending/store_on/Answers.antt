@@ -40,7 +40,7 @@ returns-clause-next c seen =
     let lends : Lends (the_view c.self.inside) = record { at = at'; local = ap (λ (a : CopyAt). local_of a c.self.inside.lending c.self.inside.payload.items c.self.inside.loan.slot c.self.inside.next) at' } in
     let loan : IsLoanAt c.self.inside.lending.order c.self.inside.lending.local = subst (λ (r : CopyLoan). IsLoanAt r.lending.order r.lending.local) (sym c.self.view_is) c.requires.loan in
     let ahead : StoresAhead c.self.inside.lending.local (length c.self.inside.lending.words) (Some c.in-Some.loan) c.store_ahead.new.self.local = subst (λ (o : Option Entry). StoresAhead c.self.inside.lending.local (length c.self.inside.lending.words) o c.store_ahead.new.self.local) c.in-Some.is c.store_ahead.ensures.next in
-    let new : CopyLoan = record { at = at.Writes; local = local_of at.Writes c.store_ahead.new.self c.self.inside.payload.items c.in-Some.loan.slot 0; lending = c.store_ahead.new.self; payload = c.self.inside.payload.items; slots = c.self.inside.slots; places = c.self.inside.places; loan = c.in-Some.loan; place = c.place-self-inside.result } in
+    let new : CopyLoan = record { at = at.Writes; local = local_of at.Writes c.store_ahead.new.self c.self.inside.payload.items c.in-Some.loan.slot 0; lending = c.store_ahead.new.self; payload = c.self.inside.payload.items; slots = c.self.inside.slots; places = c.self.inside.places; loan = c.in-Some.loan; place = c.place-self-inside.result; payload_room = c.self.inside.longest } in
     let some : 0 < length c.self.inside.payload.items = omega (arith, c.len.ensures, c.if-len-eq0.false) in
     subst (λ (r : CopyLoan). GoesOn c.args.seat.now r seen c.count_access.new.self new None) c.self.view_is
     (copy_writes c.args.seat.now c.count_access.new.self (the_view c.self.inside) new seen c.store_ahead.new.self.local c.in-Some.loan lends c.count_access.ensures
@@ -52,7 +52,7 @@ returns-clause-aimed c =
     let lends : Lends (the_view c.self.inside) = record { at = at'; local = ap (λ (a : CopyAt). local_of a c.self.inside.lending c.self.inside.payload.items c.self.inside.loan.slot c.self.inside.next) at' } in
     let loan : IsLoanAt c.self.inside.lending.order c.self.inside.lending.local = subst (λ (r : CopyLoan). IsLoanAt r.lending.order r.lending.local) (sym c.self.view_is) c.requires.loan in
     let ahead : StoresAhead c.self.inside.lending.local (length c.self.inside.lending.words) (Some c.in-Some.loan) c.store_ahead.new.self.local = subst (λ (o : Option Entry). StoresAhead c.self.inside.lending.local (length c.self.inside.lending.words) o c.store_ahead.new.self.local) c.in-Some.is c.store_ahead.ensures.next in
-    let new : CopyLoan = record { at = at.Writes; local = local_of at.Writes c.store_ahead.new.self c.self.inside.payload.items c.in-Some.loan.slot 0; lending = c.store_ahead.new.self; payload = c.self.inside.payload.items; slots = c.self.inside.slots; places = c.self.inside.places; loan = c.in-Some.loan; place = c.place-self-inside.result } in
+    let new : CopyLoan = record { at = at.Writes; local = local_of at.Writes c.store_ahead.new.self c.self.inside.payload.items c.in-Some.loan.slot 0; lending = c.store_ahead.new.self; payload = c.self.inside.payload.items; slots = c.self.inside.slots; places = c.self.inside.places; loan = c.in-Some.loan; place = c.place-self-inside.result; payload_room = c.self.inside.longest } in
     subst (λ (r : CopyLoan). StaysAimed c.args.seat.now r c.count_access.new.self new) c.self.view_is
     (copy_aimed c.args.seat.now c.count_access.new.self (the_view c.self.inside) new c.store_ahead.new.self.local c.in-Some.loan lends c.count_access.ensures
     refl refl refl c.store_ahead.ensures.same loan ahead refl

@@ -5,8 +5,8 @@ use Rattle.iox_wire_copies.proofs.copying_server.CopyingServer.begin.Goals as go
 
 pub returns-clause-aimed : goal.returns-clause-aimed
 returns-clause-aimed c p lender server port number returning payloads knows of_slot = (
-  c.in_ok-lend_response.ensures.aimed p lender server number returning payloads of_slot,
+  c.lend_response.ensures.aimed p lender server number returning payloads of_slot,
   λ loan there.
       subst (IsToldOf p loan) (sym c.prepare.ensures.terms)
-      (knows loan (there ∙ answers_there c.lend_response.new.self.lending.order c.args.request c.args.lender.now.port c.in_ok-lend_response.ensures.response c.in_ok-lend_response.ensures.ordered.1 port)),
+      (knows loan (there ∙ answers_there c.lend_response.new.self.lending.order c.args.request c.args.lender.now.port c.lend_response.ensures.response c.lend_response.ensures.ordered.1 port)),
 )

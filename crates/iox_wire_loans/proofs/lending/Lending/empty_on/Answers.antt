@@ -36,28 +36,28 @@ returns-in-SeesEmpty-clause-may c =
 
 pub returns-in-SeesEmpty-clause-next : goal.returns-in-SeesEmpty-clause-next
 returns-in-SeesEmpty-clause-next c p aim =
-    let local : (the_view c.self.inside).local ≡ LendEmpties (loan_of c.self.inside.order) c.self.inside.way c.self.inside.popper (ways_of c.self.inside.left) =
+    let local : (the_view c.self.inside).local ≡ LendEmpties (loan_of c.self.inside.order) c.self.inside.way c.self.inside.popper (ways_of c.self.inside.left.left) =
     it_empties c.self.inside.at _ (subst (λ (r : Loaned). IsEmptying r.local) (sym c.self.view_is) c.requires.there) in
-    let aimed : AreAimed p c.args.seat.now.seat (LendEmpties (loan_of c.self.inside.order) c.self.inside.way c.self.inside.popper (ways_of c.self.inside.left)) (the_view c.self.inside) =
+    let aimed : AreAimed p c.args.seat.now.seat (LendEmpties (loan_of c.self.inside.order) c.self.inside.way c.self.inside.popper (ways_of c.self.inside.left.left)) (the_view c.self.inside) =
     subst (λ (l : Local). AreAimed p c.args.seat.now.seat l (the_view c.self.inside)) local
     (subst (IsAimed p c.args.seat.now.seat) (sym c.self.view_is) aim) in
     c.empty_next.ensures.next p
-    ∙ ap (λ (y : Placed). after p (loaning y.seat (loan_of c.self.inside.order) (ways_of c.self.inside.left))) c.count_access.ensures
-    ∙ emptied_next p c.args.seat.now.seat (loan_of c.self.inside.order) c.self.inside.way c.self.inside.popper (ways_of c.self.inside.left) c.args.seen
+    ∙ ap (λ (y : Placed). after p (loaning y.seat (loan_of c.self.inside.order) (ways_of c.self.inside.left.left))) c.count_access.ensures
+    ∙ emptied_next p c.args.seat.now.seat (loan_of c.self.inside.order) c.self.inside.way c.self.inside.popper (ways_of c.self.inside.left.left) c.args.seen
     (ap (λ (s : Site). popping_event s c.self.inside.popper c.args.seen) (sym aimed.1) ∙ sym c.advance.ensures.event ∙ c.in-SeesEmpty.is)
     ∙ ap (λ (l : Local). next p (placed c.args.seat.now.seat l) c.args.seen) (sym local ∙ ap (λ (r : Loaned). r.local) c.self.view_is)
 
 pub returns-in-SeesEmpty-clause-over : goal.returns-in-SeesEmpty-clause-over
 returns-in-SeesEmpty-clause-over c p aim =
-    let local : (the_view c.self.inside).local ≡ LendEmpties (loan_of c.self.inside.order) c.self.inside.way c.self.inside.popper (ways_of c.self.inside.left) =
+    let local : (the_view c.self.inside).local ≡ LendEmpties (loan_of c.self.inside.order) c.self.inside.way c.self.inside.popper (ways_of c.self.inside.left.left) =
     it_empties c.self.inside.at _ (subst (λ (r : Loaned). IsEmptying r.local) (sym c.self.view_is) c.requires.there) in
-    let aimed : AreAimed p c.args.seat.now.seat (LendEmpties (loan_of c.self.inside.order) c.self.inside.way c.self.inside.popper (ways_of c.self.inside.left)) (the_view c.self.inside) =
+    let aimed : AreAimed p c.args.seat.now.seat (LendEmpties (loan_of c.self.inside.order) c.self.inside.way c.self.inside.popper (ways_of c.self.inside.left.left)) (the_view c.self.inside) =
     subst (λ (l : Local). AreAimed p c.args.seat.now.seat l (the_view c.self.inside)) local
     (subst (IsAimed p c.args.seat.now.seat) (sym c.self.view_is) aim) in
     ap (λ (l : Local). tells p (placed c.args.seat.now.seat l) c.args.seen) (ap (λ (r : Loaned). r.local) (sym c.self.view_is) ∙ local)
-    ∙ emptied_tells p c.args.seat.now.seat (loan_of c.self.inside.order) c.self.inside.way c.self.inside.popper (ways_of c.self.inside.left) c.args.seen
+    ∙ emptied_tells p c.args.seat.now.seat (loan_of c.self.inside.order) c.self.inside.way c.self.inside.popper (ways_of c.self.inside.left.left) c.args.seen
     (ap (λ (s : Site). popping_event s c.self.inside.popper c.args.seen) (sym aimed.1) ∙ sym c.advance.ensures.event ∙ c.in-SeesEmpty.is)
-    ∙ ap (λ (y : Placed). answered p (loaning y.seat (loan_of c.self.inside.order) (ways_of c.self.inside.left))) (sym c.count_access.ensures)
+    ∙ ap (λ (y : Placed). answered p (loaning y.seat (loan_of c.self.inside.order) (ways_of c.self.inside.left.left))) (sym c.count_access.ensures)
     ∙ c.empty_next.ensures.over p
 
 pub returns-in_default-clause-may : goal.returns-in_default-clause-may

@@ -15,7 +15,7 @@ use Rattle.iox_wire_loans.proofs.lending.Lending.take_slot.Goals as goal
 pub invariant_of-self : goal.invariant_of-self
 invariant_of-self c =
     let fits : FitsSlots c.self.inside.words.items c.self.inside.places = subst (λ (r : Loaned). FitsSlots r.words r.places) (sym c.self.view_is) c.requires.fits in
-    (c.self.invariant.0, tt, fits, (omega (arith, fits.0, fits.1.header), c.header_place-self-inside.ensures.within, c.user_place-self-inside.ensures.within))
+    (c.self.invariant.0, tt, fits, (omega (arith, fits.0, fits.1.header), c.header_place-self-inside.ensures.within, c.user_place-self-inside.ensures.within), c.self.invariant.4)
 
 pub returns-clause-aimed : goal.returns-clause-aimed
 returns-clause-aimed c p known_so of_pool =

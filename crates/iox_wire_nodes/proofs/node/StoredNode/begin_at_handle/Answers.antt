@@ -7,9 +7,11 @@ use Rattle.iox_wire_nodes.specs.declared.node_call.NodeCall.{NodeCall}
 use Rattle.iox_wire_nodes.specs.Begins.{IsUnderWay}
 use Rattle.iox_wire_nodes.specs.Calls.{IsKeptAt, call_in, call_in_words}
 use Rattle.iox_wire_nodes.specs.Nodes.{seat_in}
-use Rattle.iox_wire_nodes.proofs.BesideLemmas.{is_under_way}
+use Rattle.iox_wire_nodes.proofs.BesideLemmas.{is_under_way, stands_so}
 use Rattle.iox_wire_nodes.proofs.CallLemmas.{handle_kept, none}
 use Rattle.iox_wire_nodes.proofs.NameLemmas.{elements_planned}
+use Rattle.iox_wire_begins.specs.PlacedHandles.{IsWritableAs}
+use Rattle.iox_wire_begins.specs.Tables.{entry_at}
 use Rattle.iox_wire_nodes.proofs.node.StoredNode.begin_at_handle.Goals as goal
 
 pub begin_on_handle-requires-clause-header : goal.begin_on_handle-requires-clause-header
@@ -32,3 +34,8 @@ pub returns-in_ok-begin_on_handle-in-Handle-clause-at : goal.returns-in_ok-begin
 returns-in_ok-begin_on_handle-in-Handle-clause-at c =
     subst (λ (k : NodeCall). IsKeptAt (call_in_words k) c.begin_on_handle.new.self.at) (sym c.in-Handle.is)
     (handle_kept c.in-Handle.call c.in-Handle.number c.begin_on_handle.new.self.at c.in_ok-begin_on_handle-in-Handle.ensures.at)
+
+pub begin_write-requires-clause-writable : goal.begin_write-requires-clause-writable
+begin_write-requires-clause-writable c =
+    stands_so c.args.map.now c.args.self.now.seat.seat.desks (IsWritableAs c.args.map.now c.in-Write.payload.role) (λ e stands. stands.writable c.in-Write.payload.role)
+    (entry_at c.in-Write.number c.args.self.now.seat.seat.table) (c.requires.may.handles c.in-Write.number)

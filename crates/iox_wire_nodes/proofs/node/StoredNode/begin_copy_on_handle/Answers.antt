@@ -17,6 +17,7 @@ use Rattle.iox_wire_nodes.proofs.BesideLemmas.{copied_response_beside, next_numb
 use Rattle.iox_wire_nodes.proofs.NameLemmas.{copies_to_request, elements_planned, role_there_is}
 use Rattle.iox_wire_begins.specs.Lendings.{copies_response}
 use Rattle.iox_wire_nodes.proofs.ReadyLemmas.{ready_to_copy_response}
+use Rattle.iox_wire_nodes.proofs.RoomsKept.{keeps_response_copies}
 use Rattle.iox_wire_nodes.proofs.node.StoredNode.begin_copy_on_handle.Goals as goal
 
 -- a payload of that role
@@ -56,19 +57,17 @@ returns-in_err-request-clause-refused c p with =
     c.in_err-request.ensures.refused p (payload_with p c.args.role c.args.words.now) with.setting refl in
     search (rules, known)
 
-pub returns-in_err-begin_response_copy-clause-refused : goal.returns-in_err-begin_response_copy-clause-refused
-returns-in_err-begin_response_copy-clause-refused c p with =
-    let known : refusal_at p (seat_in c.args.self.now) (Port (SendCopy c.args.number (payload_with p c.args.role c.args.words.now))) ≡ None = c.in_ok-request.ensures.allowed p (payload_with p c.args.role c.args.words.now) with.setting refl in
-    search (rules, known)
-
 pub returns-clause-begun : goal.returns-clause-begun
 returns-clause-begun c p with =
     copied_response_beside p (Port (SendCopy c.args.number (payload_with p c.args.role c.args.words.now))) (λ x. begins_at_entry p x (SendCopy c.args.number (payload_with p c.args.role c.args.words.now)) c.in_ok-request.request)
     c.self.view_is c.in_ok-request.ensures.own (c.in_ok-request.ensures.allowed p (payload_with p c.args.role c.args.words.now) with.setting refl) (c.in_ok-request.ensures.begins p (payload_with p c.args.role c.args.words.now) with.setting)
     c.begin_response_copy.new.seat c.begin_response_copy.new.copying
-    (c.in_ok-begin_response_copy.ensures.begun p with (c.next_number-next.ensures ∙ next_number_is c.args.terms.now p c.self.view_is with.first_number)
+    (c.begin_response_copy.ensures.begun p with (c.next_number-next.ensures ∙ next_number_is c.args.terms.now p c.self.view_is with.first_number)
     ∙ ap (λ e. copies_response p c.self.inside.seat.seat c.in_ok-request.request e c.args.words.now)
     (c.elements_in-elements.ensures.elements ∙ elements_planned c.args.map.now c.args.terms.now p with c.args.role c.args.words.now))
-    (λ of_slot. c.in_ok-begin_response_copy.ensures.aimed p with (c.next_number-next.ensures ∙ next_number_is c.args.terms.now p c.self.view_is with.first_number) of_slot)
+    (λ of_slot. c.begin_response_copy.ensures.aimed p with (c.next_number-next.ensures ∙ next_number_is c.args.terms.now p c.self.view_is with.first_number) of_slot)
     (ready_to_copy_response p _ c.begin_response_copy.new.seat c.begin_response_copy.new.copying c.next_number-next.result (number_at c.args.map.now c.server_place-server.result)
-    c.begin_response_copy.ensures.leaves c.in_ok-begin_response_copy.ensures.may (c.next_number-next.ensures ∙ next_number_is c.args.terms.now p c.self.view_is with.first_number))
+    c.begin_response_copy.ensures.leaves c.begin_response_copy.ensures.may (c.next_number-next.ensures ∙ next_number_is c.args.terms.now p c.self.view_is with.first_number))
+
+pub returns-clause-rooms : goal.returns-clause-rooms
+returns-clause-rooms c = keeps_response_copies c.self.view_is c.begin_response_copy.new.seat c.begin_response_copy.new.copying c.begin_response_copy.ensures.leaves.room.rooms c.begin_response_copy.ensures.rooms

@@ -12,6 +12,7 @@ use Rattle.iox_wire_nodes.specs.Nodes.{seat_in}
 use Rattle.iox_wire_nodes.proofs.BesideLemmas.{lent_beside, next_number_is, stands_at}
 use Rattle.iox_wire_nodes.proofs.NameLemmas.{lends_to_request}
 use Rattle.iox_wire_nodes.proofs.ReadyLemmas.{ready_to_lend}
+use Rattle.iox_wire_nodes.proofs.RoomsKept.{keeps_lends}
 use Rattle.iox_wire_nodes.proofs.node.StoredNode.begin_loan_on_handle.Goals as goal
 
 -- no payload is asked
@@ -29,11 +30,6 @@ returns-in_err-request-clause-refused c p with =
     let known : refusal_at p (seat_in c.args.self.now) (Port (Loan c.args.number c.args.elements)) ≡ refusal_in c.in_err-request.field-0.0 = c.in_err-request.ensures.refused p none with.setting tt in
     search (rules, known)
 
-pub returns-in_err-begin_response_loan-clause-refused : goal.returns-in_err-begin_response_loan-clause-refused
-returns-in_err-begin_response_loan-clause-refused c p with =
-    let known : refusal_at p (seat_in c.args.self.now) (Port (Loan c.args.number c.args.elements)) ≡ None = c.in_ok-request.ensures.allowed p none with.setting tt in
-    search (rules, known)
-
 pub begin_response_loan-requires-clause-own : goal.begin_response_loan-requires-clause-own
 begin_response_loan-requires-clause-own c = sym c.server_place-server.ensures.number
 
@@ -42,7 +38,10 @@ returns-clause-begun c p with =
     lent_beside p (Port (Loan c.args.number c.args.elements)) (λ x. begins_at_entry p x (Loan c.args.number c.args.elements) c.in_ok-request.request)
     c.self.view_is c.in_ok-request.ensures.own (c.in_ok-request.ensures.allowed p none with.setting tt) (c.in_ok-request.ensures.begins p none with.setting)
     c.begin_response_loan.new.seat c.begin_response_loan.new.lending
-    (c.in_ok-begin_response_loan.ensures.begun p c.args.number with (c.next_number-next.ensures ∙ next_number_is c.args.terms.now p c.self.view_is with.first_number))
-    (λ of_slot. c.in_ok-begin_response_loan.ensures.aimed p with (c.next_number-next.ensures ∙ next_number_is c.args.terms.now p c.self.view_is with.first_number) of_slot)
-    (ready_to_lend p _ c.begin_response_loan.new.seat c.begin_response_loan.new.lending _ _ c.begin_response_loan.ensures.leaves c.in_ok-begin_response_loan.ensures.ordered
+    (c.begin_response_loan.ensures.begun p c.args.number with (c.next_number-next.ensures ∙ next_number_is c.args.terms.now p c.self.view_is with.first_number))
+    (λ of_slot. c.begin_response_loan.ensures.aimed p with (c.next_number-next.ensures ∙ next_number_is c.args.terms.now p c.self.view_is with.first_number) of_slot)
+    (ready_to_lend p _ c.begin_response_loan.new.seat c.begin_response_loan.new.lending _ _ c.begin_response_loan.ensures.leaves c.begin_response_loan.ensures.ordered
     (c.next_number-next.ensures ∙ next_number_is c.args.terms.now p c.self.view_is with.first_number))
+
+pub returns-clause-rooms : goal.returns-clause-rooms
+returns-clause-rooms c = keeps_lends c.self.view_is c.begin_response_loan.new.seat c.begin_response_loan.new.lending c.begin_response_loan.ensures.leaves.room.rooms c.begin_response_loan.ensures.rooms

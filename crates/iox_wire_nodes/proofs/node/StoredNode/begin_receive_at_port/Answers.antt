@@ -8,6 +8,7 @@ use Rattle.iox_wire_begins.specs.HandleCalls.{refusal_in}
 use Rattle.iox_wire_begins.specs.Begins.{begins_at_port, refusal_at}
 use Rattle.iox_wire_nodes.specs.Nodes.{seat_in}
 use Rattle.iox_wire_nodes.proofs.RestLemmas.{is_server, next_alike, received_at, refusal_alike}
+use Rattle.iox_wire_nodes.proofs.RoomsKept.{keeps_receives}
 use Rattle.iox_wire_nodes.proofs.node.StoredNode.begin_receive_at_port.Goals as goal
 
 -- no payload is asked
@@ -26,21 +27,17 @@ begin_request_receive-requires-clause-server c =
     is_server c.args.map.now c.plan-plan.ensures.plan c.args.port c.args.number (one_of c.args.map.now.ports.items c.args.port c.requires.within)
     c.requires.within c.requires.there (c.in_ok-name_port.ensures.kind c.args.number none tt)
 
-pub returns-in_err-begin_request_receive-clause-refused : goal.returns-in_err-begin_request_receive-clause-refused
-returns-in_err-begin_request_receive-clause-refused c p setting held =
-    let known : refusal_at p (seat_in c.args.self.now) (Port (Receive c.args.number)) ≡ None =
-    refusal_alike p (Port (Receive c.args.number)) c.self.view_is c.self.invariant.0 (sym c.is_busy.ensures ∙ c.if-is_busy.false)
-    ∙ c.in_ok-name_port.ensures.allowed p none setting held tt in
-    search (rules, known)
-
 pub returns-clause-begun : goal.returns-clause-begun
 returns-clause-begun c p setting held told next =
     received_at p c.args.number c.begin_request_receive.new.receiving c.self.view_is c.self.invariant.0 (sym c.is_busy.ensures ∙ c.if-is_busy.false)
     (c.in_ok-name_port.ensures.allowed p none setting held tt)
-    (c.in_ok-begin_request_receive.ensures.begun p c.args.number setting told
+    (c.begin_request_receive.ensures.begun p c.args.number setting told
     ∙ ap (λ k. begins_at_port p c.self.inside.seat.seat (Receive c.args.number) (p.port k)) c.requires.there
     ∙ sym (c.in_ok-name_port.ensures.begins p none setting))
-    (c.in_ok-begin_request_receive.ensures.aimed p setting told
+    (c.begin_request_receive.ensures.aimed p setting told
     (next ∙ next_alike p c.self.view_is c.self.invariant.0 (sym c.is_busy.ensures ∙ c.if-is_busy.false)))
-    (c.in_ok-begin_request_receive.ensures.number ∙ next ∙ next_alike p c.self.view_is c.self.invariant.0 (sym c.is_busy.ensures ∙ c.if-is_busy.false))
-    c.in_ok-begin_request_receive.ensures.counts
+    (c.begin_request_receive.ensures.number ∙ next ∙ next_alike p c.self.view_is c.self.invariant.0 (sym c.is_busy.ensures ∙ c.if-is_busy.false))
+    c.begin_request_receive.ensures.counts
+
+pub returns-clause-rooms : goal.returns-clause-rooms
+returns-clause-rooms c = keeps_receives c.self.view_is c.begin_request_receive.new.receiving c.begin_request_receive.ensures.room

@@ -10,6 +10,7 @@ use Rattle.iox_wire_nodes.specs.Nodes.{seat_in}
 use Rattle.iox_wire_nodes.proofs.BesideLemmas.{next_number_is, received_beside, stands_at}
 use Rattle.iox_wire_nodes.proofs.NameLemmas.{receives_as_pending}
 use Rattle.iox_wire_nodes.proofs.RestLemmas.{ready_to_receive}
+use Rattle.iox_wire_nodes.proofs.RoomsKept.{keeps_receives}
 use Rattle.iox_wire_nodes.proofs.node.StoredNode.begin_receive_on_handle.Goals as goal
 
 -- no payload is asked
@@ -34,18 +35,16 @@ returns-in_err-pending-clause-refused c p with =
     let known : refusal_at p (seat_in c.args.self.now) (Port (Receive c.args.number)) ≡ refusal_in c.in_err-pending.field-0.0 = c.in_err-pending.ensures.refused p none with.setting tt in
     search (rules, known)
 
-pub returns-in_err-begin_response_receive-clause-refused : goal.returns-in_err-begin_response_receive-clause-refused
-returns-in_err-begin_response_receive-clause-refused c p with =
-    let known : refusal_at p (seat_in c.args.self.now) (Port (Receive c.args.number)) ≡ None = c.in_ok-pending.ensures.allowed p none with.setting tt in
-    search (rules, known)
-
 pub returns-clause-begun : goal.returns-clause-begun
 returns-clause-begun c p with =
     received_beside p (Port (Receive c.args.number)) (λ x. begins_at_entry p x (Receive c.args.number) c.in_ok-pending.pending)
     c.self.view_is c.in_ok-pending.ensures.own (c.in_ok-pending.ensures.allowed p none with.setting tt) (c.in_ok-pending.ensures.begins p none with.setting)
     c.begin_response_receive.new.receiving
-    (c.in_ok-begin_response_receive.ensures.begun p c.args.number with.setting)
-    (c.in_ok-begin_response_receive.ensures.aimed p with.setting with.fire_and_forget (c.next_number-next.ensures ∙ next_number_is c.args.terms.now p c.self.view_is with.first_number))
+    (c.begin_response_receive.ensures.begun p c.args.number with.setting)
+    (c.begin_response_receive.ensures.aimed p with.setting with.fire_and_forget (c.next_number-next.ensures ∙ next_number_is c.args.terms.now p c.self.view_is with.first_number))
     (ready_to_receive p _ c.begin_response_receive.new.receiving
-    (c.in_ok-begin_response_receive.ensures.number ∙ c.next_number-next.ensures ∙ next_number_is c.args.terms.now p c.self.view_is with.first_number)
-    c.in_ok-begin_response_receive.ensures.counts)
+    (c.begin_response_receive.ensures.number ∙ c.next_number-next.ensures ∙ next_number_is c.args.terms.now p c.self.view_is with.first_number)
+    c.begin_response_receive.ensures.counts)
+
+pub returns-clause-rooms : goal.returns-clause-rooms
+returns-clause-rooms c = keeps_receives c.self.view_is c.begin_response_receive.new.receiving c.begin_response_receive.ensures.room

@@ -29,18 +29,12 @@ returns-in_err-loan-clause-refused c p with =
     let known : refusal_at p (seat_in c.args.self.now) (Port (Send c.args.number)) ≡ refusal_in c.in_err-loan.field-0.0 = c.in_err-loan.ensures.refused p none with.setting tt in
     search (rules, known)
 
-pub returns-in_err-send_request-clause-refused : goal.returns-in_err-send_request-clause-refused
-returns-in_err-send_request-clause-refused c p with =
-    let known : refusal_at p (seat_in c.args.self.now) (Port (Send c.args.number)) ≡ refusal_in c.in_err-send_request.field-0.0 =
-    c.in_ok-loan.ensures.allowed p none with.setting tt ∙ sym c.in_err-send_request.ensures.memory in
-    search (rules, known)
-
 pub returns-then-is_request-clause-begun : goal.returns-then-is_request-clause-begun
 returns-then-is_request-clause-begun c p with = record {
   allowed = c.in_ok-loan.ensures.allowed p none with.setting tt;
-  begun = (c.in_ok-send_request.ensures.begun p with).begun ∙ sym (c.in_ok-loan.ensures.begins p none with.setting);
-  aimed = λ of_pools. (c.in_ok-send_request.ensures.begun p with).aimed;
-  ready = (c.in_ok-send_request.ensures.begun p with).ready;
+  begun = (c.send_request.ensures.begun p with).begun ∙ sym (c.in_ok-loan.ensures.begins p none with.setting);
+  aimed = λ of_pools. (c.send_request.ensures.begun p with).aimed;
+  ready = (c.send_request.ensures.begun p with).ready;
 }
 
 pub returns-clause-begun : goal.returns-clause-begun

@@ -4,6 +4,7 @@ use Rattle.iox_model.specs.Messages.{response_way}
 use Rattle.iox_wire_begins.specs.Begins.{begins_at_entry}
 use Rattle.iox_wire_nodes.proofs.BesideLemmas.{own_seat}
 use Rattle.iox_wire_nodes.proofs.ReadyLemmas.{ready_to_send_response, sent_so}
+use Rattle.iox_wire_nodes.proofs.RoomsKept.{keeps_responds}
 use Rattle.iox_wire_nodes.proofs.node.StoredNode.send_response.Goals as goal
 
 pub client_place-client-requires-clause-client : goal.client_place-client-requires-clause-client
@@ -25,3 +26,6 @@ returns-clause-begun c p with = record {
   aimed = c.begin_response_send.ensures.aimed p with;
   ready = sent_so p c.self.view_is (ready_to_send_response p _ c.begin_response_send.new.responding c.begin_response_send.ensures.own);
 }
+
+pub returns-clause-rooms : goal.returns-clause-rooms
+returns-clause-rooms c = keeps_responds c.self.view_is c.begin_response_send.new.responding

@@ -17,14 +17,9 @@ returns-in_err-named-clause-refused c p setting =
     c.in_err-named.ensures.refused p none setting tt in
     search (rules, known)
 
-pub returns-in_err-begin_release-clause-refused : goal.returns-in_err-begin_release-clause-refused
-returns-in_err-begin_release-clause-refused c p setting =
-    let known : refusal_at p c.args.seat.now.seat (Port (Release c.args.number)) ≡ None = c.in_ok-named.ensures.allowed p none setting tt in
-    search (rules, known)
-
 pub returns-clause-begun : goal.returns-clause-begun
 returns-clause-begun c p setting = record {
   allowed = c.in_ok-named.ensures.allowed p none setting tt;
-  begun = c.in_ok-begin_release.ensures.begun p setting;
-  aimed = c.in_ok-begin_release.ensures.aimed p setting;
+  begun = c.begin_release.ensures.begun p setting;
+  aimed = c.begin_release.ensures.aimed p setting;
 }

@@ -22,9 +22,9 @@ use Rattle.iox_wire_receives.proofs.receiving.Receiving.load_on.Goals as goal
 pub returns-then-has_forgotten-clause-next : goal.returns-then-has_forgotten-clause-next
 returns-then-has_forgotten-clause-next c p aim =
     let there : IsLoading (the_view c.self.inside).local = subst (λ (r : Receipt). IsLoading r.local) (sym c.self.view_is) c.requires.there in
-    let local : (the_view c.self.inside).local ≡ ReceiveLoads c.self.inside.visit c.self.inside.source.way c.self.inside.slot c.self.inside.header.items (ways_of c.self.inside.left) c.self.inside.waiting =
+    let local : (the_view c.self.inside).local ≡ ReceiveLoads c.self.inside.visit c.self.inside.source.way c.self.inside.slot c.self.inside.header.items (ways_of c.self.inside.left.left) c.self.inside.waiting =
     it_loads c.self.inside.at _ there in
-    let aimed : AreAimed p c.args.seat.now.seat (ReceiveLoads c.self.inside.visit c.self.inside.source.way c.self.inside.slot c.self.inside.header.items (ways_of c.self.inside.left) c.self.inside.waiting) (the_view c.self.inside) =
+    let aimed : AreAimed p c.args.seat.now.seat (ReceiveLoads c.self.inside.visit c.self.inside.source.way c.self.inside.slot c.self.inside.header.items (ways_of c.self.inside.left.left) c.self.inside.waiting) (the_view c.self.inside) =
     subst (λ (l : Local). AreAimed p c.args.seat.now.seat l (the_view c.self.inside)) local
     (subst (IsAimed p c.args.seat.now.seat) (sym c.self.view_is) aim) in
     let less : length c.self.inside.header.items < received_length c.self.inside.visit =
@@ -39,16 +39,16 @@ returns-then-has_forgotten-clause-next c p aim =
     ∙ ap (λ (y : Placed). has_number c.self.inside.source.node y.seat.forgot) (sym c.count_access.ensures)
     ∙ sym c.has_forgotten.ensures ∙ c.if-has_forgotten.true in
     ap₂ (λ (y : Placed) (l : Local). placed y.seat l) c.count_access.ensures c.pop_again.ensures.local
-    ∙ stale_next p c.args.seat.now.seat c.self.inside.visit c.self.inside.source.way c.self.inside.slot c.self.inside.header.items (ways_of c.self.inside.left) c.self.inside.waiting c.args.seen true
+    ∙ stale_next p c.args.seat.now.seat c.self.inside.visit c.self.inside.source.way c.self.inside.slot c.self.inside.header.items (ways_of c.self.inside.left.left) c.self.inside.waiting c.args.seen true
     whole (ap is_client c.in-Client.is) fits forgot
     ∙ ap (λ (l : Local). next p (placed c.args.seat.now.seat l) c.args.seen) (sym local ∙ ap (λ (r : Receipt). r.local) c.self.view_is)
 
 pub returns-else-has_forgotten-clause-next : goal.returns-else-has_forgotten-clause-next
 returns-else-has_forgotten-clause-next c p aim =
     let there : IsLoading (the_view c.self.inside).local = subst (λ (r : Receipt). IsLoading r.local) (sym c.self.view_is) c.requires.there in
-    let local : (the_view c.self.inside).local ≡ ReceiveLoads c.self.inside.visit c.self.inside.source.way c.self.inside.slot c.self.inside.header.items (ways_of c.self.inside.left) c.self.inside.waiting =
+    let local : (the_view c.self.inside).local ≡ ReceiveLoads c.self.inside.visit c.self.inside.source.way c.self.inside.slot c.self.inside.header.items (ways_of c.self.inside.left.left) c.self.inside.waiting =
     it_loads c.self.inside.at _ there in
-    let aimed : AreAimed p c.args.seat.now.seat (ReceiveLoads c.self.inside.visit c.self.inside.source.way c.self.inside.slot c.self.inside.header.items (ways_of c.self.inside.left) c.self.inside.waiting) (the_view c.self.inside) =
+    let aimed : AreAimed p c.args.seat.now.seat (ReceiveLoads c.self.inside.visit c.self.inside.source.way c.self.inside.slot c.self.inside.header.items (ways_of c.self.inside.left.left) c.self.inside.waiting) (the_view c.self.inside) =
     subst (λ (l : Local). AreAimed p c.args.seat.now.seat l (the_view c.self.inside)) local
     (subst (IsAimed p c.args.seat.now.seat) (sym c.self.view_is) aim) in
     let less : length c.self.inside.header.items < received_length c.self.inside.visit =
@@ -63,6 +63,6 @@ returns-else-has_forgotten-clause-next c p aim =
     ∙ ap (λ (y : Placed). has_number c.self.inside.source.node y.seat.forgot) (sym c.count_access.ensures)
     ∙ sym c.has_forgotten.ensures ∙ c.if-has_forgotten.false in
     ap₂ (λ (y : Placed) (l : Local). placed y.seat l) c.count_access.ensures c.give_back.ensures.local
-    ∙ stale_next p c.args.seat.now.seat c.self.inside.visit c.self.inside.source.way c.self.inside.slot c.self.inside.header.items (ways_of c.self.inside.left) c.self.inside.waiting c.args.seen false
+    ∙ stale_next p c.args.seat.now.seat c.self.inside.visit c.self.inside.source.way c.self.inside.slot c.self.inside.header.items (ways_of c.self.inside.left.left) c.self.inside.waiting c.args.seen false
     whole (ap is_client c.in-Client.is) fits forgot
     ∙ ap (λ (l : Local). next p (placed c.args.seat.now.seat l) c.args.seen) (sym local ∙ ap (λ (r : Receipt). r.local) c.self.view_is)

@@ -26,6 +26,7 @@ invariant_of-self c =
       omega (arith, same, c.self.invariant.5),
       seen_less c.self.inside.at _ _ _ _ _ c.next_with_room.ensures.shorter same c.self.invariant.6,
       count_less c.self.inside.at _ _ _ _ _ c.next_with_room.ensures.shorter same c.self.invariant.7,
+      let room : c.next_with_room.new.self.room ≡ c.self.inside.targets.room = c.next_with_room.ensures.room in omega (arith, room, c.self.invariant.8),
     )
 
 pub invariant_of-self-2 : goal.invariant_of-self-2
@@ -42,6 +43,7 @@ invariant_of-self-2 c =
       omega (arith, same, c.self.invariant.5),
       tt,
       omega (arith, same, count, c.in-Some.ensures.fewer),
+      let room : c.next_with_room.new.self.room ≡ c.self.inside.targets.room = c.next_with_room.ensures.room in omega (arith, room, c.self.invariant.8),
     )
 
 pub returns-clause-next : goal.returns-clause-next

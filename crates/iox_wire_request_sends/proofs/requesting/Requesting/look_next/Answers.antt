@@ -48,8 +48,8 @@ pub returns-in_default-clause-next : goal.returns-in_default-clause-next
 returns-in_default-clause-next c p knew =
     let k : Knows p c.args.seat.now.seat (the_view c.self.inside) = subst (Knows p c.args.seat.now.seat) (sym c.self.view_is) knew in
     let none : c.self.inside.targets.left ≡ [] = c.in_default.ensures.none refl in
-    let round : c.restart.new.self ≡ record { all = c.self.inside.targets.all; left = c.self.inside.targets.all } =
-    c.restart.ensures ∙ ap (λ (ts : List Target). record { all = ts; left = ts }) c.next.ensures.all in
+    let round : c.restart.new.self ≡ record { all = c.self.inside.targets.all; left = c.self.inside.targets.all; room = c.next.new.self.room } =
+    c.restart.ensures ∙ ap (λ (ts : List Target). record { all = ts; left = ts; room = c.next.new.self.room }) c.next.ensures.all in
     leads_as p _ _ _ _ _
     (sym (ap (λ (r : RequestDispatch). looking p c.args.seat.now.seat (delivery_to r.loan r.copied r.targets) (ways_to r.loan.port r.left) (full_ways r.loan.port r.full)) c.self.view_is)
     ∙ ap (λ (ts : List Target). looking p c.args.seat.now.seat (delivery_to c.self.inside.loan c.self.inside.copied c.self.inside.targets.all) (ways_to c.self.inside.loan.port ts) (full_ways c.self.inside.loan.port c.self.inside.full.items)) none

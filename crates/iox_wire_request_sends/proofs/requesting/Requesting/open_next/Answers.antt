@@ -28,8 +28,8 @@ returns-clause-next c p knew =
 pub returns-in_default-clause-next : goal.returns-in_default-clause-next
 returns-in_default-clause-next c p knew =
     let k : Knows p c.args.seat.now.seat (the_view c.self.inside) = subst (Knows p c.args.seat.now.seat) (sym c.self.view_is) knew in
-    let round : c.restart.new.self ≡ record { all = c.self.inside.targets.all; left = c.self.inside.targets.all } =
-    c.restart.ensures ∙ ap (λ (ts : List Target). record { all = ts; left = ts }) c.next.ensures.all in
+    let round : c.restart.new.self ≡ record { all = c.self.inside.targets.all; left = c.self.inside.targets.all; room = c.next.new.self.room } =
+    c.restart.ensures ∙ ap (λ (ts : List Target). record { all = ts; left = ts; room = c.next.new.self.room }) c.next.ensures.all in
     let none : c.self.inside.targets.left ≡ [] = c.in_default.ensures.none refl in
     leads_as p _ _ _ _ _
     (sym (ap (λ (r : RequestDispatch). opening p c.args.seat.now.seat (delivery_to r.loan r.copied r.targets) (states_to r.loan.port r.loan.lane r.left) (full_ways r.loan.port r.full)) c.self.view_is)

@@ -23,6 +23,7 @@ pub loop-target-preserved : goal.loop-target-preserved
 loop-target-preserved c =
     let full : has_number c.in-Some.target.server c.args.full.now ≡ true = sym c.is_full.ensures ∙ c.if-not-is_full.false in record {
       all = c.next.ensures.all ∙ c.loop-target.invariant.all;
+      room = c.next.ensures.room ∙ c.loop-target.invariant.room;
       same = refl;
       left = c.loop-target.invariant.left ∙ ap (with_room c.args.full.now) c.in-Some.ensures.taken
           ∙ ap (λ (b : Bool). cond (not b) (c.in-Some.target ∷ with_room c.args.full.now c.next.new.self.left) (with_room c.args.full.now c.next.new.self.left)) full;

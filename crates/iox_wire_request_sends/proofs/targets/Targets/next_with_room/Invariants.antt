@@ -9,6 +9,7 @@ use Rattle.iox_wire_request_sends.proofs.targets.Targets.next_with_room.Given as
 abbrev pub invariant-loop-target : goal.invariant-loop-target
 invariant-loop-target l = record {
   all : l.self.all ≡ l.fn.self.all;
+  room : l.self.room ≡ l.fn.self.room;
   same : l.full ≡ l.fn.full;
   left : with_room l.fn.full l.fn.self.left ≡ with_room l.fn.full l.self.left;
   shorter : length l.self.left ≤ length l.fn.self.left;
