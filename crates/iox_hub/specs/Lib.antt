@@ -9,6 +9,7 @@ pub mod Making
 pub mod Sending
 pub mod Releases
 pub mod Lending
+pub mod Growing
 pub mod Keeping
 pub mod Listings
 pub mod Cleaning

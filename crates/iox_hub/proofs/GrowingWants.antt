@@ -1,0 +1,50 @@
+-- A loan, or a copy, that wants memory is a whole call of a hub, and changes nothing.
+use Rattle.std.specs.Prelude.{◌≡◌, ℕ, Bool, List, Option, Some, refl}
+use Rattle.std.proofs.Common.{sym, ap, subst}
+use Rattle.iox_model.specs.declared.call.Call.TheVariants.{SendCopy}
+use Rattle.iox_model.specs.declared.kind.Role.TheVariants.{Client, Server}
+use Rattle.iox_model.specs.declared.reply.Refusal.TheVariants.{WantOfMemory}
+use Rattle.iox_model.specs.declared.reply.Reply.TheVariants.{Refused}
+use Rattle.iox_model.specs.Settings.{Shape, shape_of}
+use Rattle.iox_model.specs.WholeCalls.{IsWholeCall}
+use Rattle.iox_tables.specs.HubStates.States.{Given, limits_of}
+use Rattle.iox_tables.specs.HubLoans.Lenders.{IsActive, IsClient, lender_of_request, lender_of_response, shape_in}
+use Rattle.iox_tables.specs.HubLoans.Loans.{loan_call}
+use Rattle.iox_control_lending.specs.Lends.{IsAskedOf}
+use Rattle.iox_control_lending.proofs.Wanting.{active_wants, client_wants}
+use Rattle.iox_control_lending.proofs.WantingCopies.{active_copy_wants, client_copy_wants}
+use Rattle.iox_hub.specs.Growing.{WantsRoom}
+use Rattle.iox_hub.specs.Hubs.{HubState, IsHub, given_by, state_of_hub}
+use Rattle.iox_hub.specs.Lending.{payload_of}
+
+module _ {h : HubState} (hub : IsHub h) (node n k : ℕ) (ws : List ℕ) (x : Given) where
+  module _ (client : IsClient h.control.tables node n) (wants : WantsRoom h (lender_of_request client.port 0) h.request k) where
+    of_client : IsAskedOf (shape_in (given_by x h) h.control.tables client.port) wants.loan.asked
+    of_client =
+        subst (λ (z : Shape). IsAskedOf z wants.loan.asked) (sym (ap (shape_of (limits_of (given_by x h) h.control.tables)) client.client)) wants.loan.of
+
+    pub request_wants : (uninit : Bool) → IsWholeCall (state_of_hub x h) node (loan_call uninit n k) (Refused WantOfMemory) (state_of_hub x h)
+    request_wants uninit =
+        subst (λ m. IsWholeCall (state_of_hub x h) node (loan_call uninit n m) (Refused WantOfMemory) (state_of_hub x h)) wants.loan.count
+        (client_wants (given_by x h) h.control node n wants.loan.asked uninit hub.control.order client of_client wants.loan.made)
+
+    pub request_copy_wants : IsWholeCall (state_of_hub x h) node (SendCopy n (payload_of Client k ws)) (Refused WantOfMemory) (state_of_hub x h)
+    request_copy_wants =
+        client_copy_wants (given_by x h) h.control node n (payload_of Client k ws) wants.loan.asked hub.control.order client refl
+        (ap (λ m. Some m) (sym wants.loan.count)) of_client wants.loan.made
+
+  module _ (active : IsActive h.control.tables node n)
+      (wants : WantsRoom h (lender_of_response h.control.tables active.handle active.port) h.response k) where
+    of_active : IsAskedOf (shape_in (given_by x h) h.control.tables active.port) wants.loan.asked
+    of_active =
+        subst (λ (z : Shape). IsAskedOf z wants.loan.asked) (sym (ap (shape_of (limits_of (given_by x h) h.control.tables)) active.server)) wants.loan.of
+
+    pub response_wants : (uninit : Bool) → IsWholeCall (state_of_hub x h) node (loan_call uninit n k) (Refused WantOfMemory) (state_of_hub x h)
+    response_wants uninit =
+        subst (λ m. IsWholeCall (state_of_hub x h) node (loan_call uninit n m) (Refused WantOfMemory) (state_of_hub x h)) wants.loan.count
+        (active_wants (given_by x h) h.control node n wants.loan.asked uninit hub.control.order active of_active wants.loan.made)
+
+    pub response_copy_wants : IsWholeCall (state_of_hub x h) node (SendCopy n (payload_of Server k ws)) (Refused WantOfMemory) (state_of_hub x h)
+    response_copy_wants =
+        active_copy_wants (given_by x h) h.control node n (payload_of Server k ws) wants.loan.asked hub.control.order active refl
+        (ap (λ m. Some m) (sym wants.loan.count)) of_active wants.loan.made
