@@ -50,15 +50,15 @@ reply_of_request_copy (Err error) = unasked_reply error
 
 -- ---- what is left
 
--- What a loan that is refused for a copy leaves: a test, and want of memory, leave all as it is, and
--- want of messages the words.
+-- What a loan that is refused for a copy leaves: a test leaves all as it is, and want of messages
+-- the words. Memory is never wanted.
 abbrev pub LeavesUnloaned : HubState → LoanError → HubState → Type 0
 LeavesUnloaned old loan_errors.CallsSpent new = new ≡ old
 LeavesUnloaned old loan_errors.WrongLength new = new ≡ old
 LeavesUnloaned old loan_errors.ExceedsMaxLoanSize new = new ≡ old
 LeavesUnloaned old loan_errors.ExceedsMaxLoans new = new ≡ old
 LeavesUnloaned old loan_errors.OutOfMemory new = new ≡ with_control old new.control
-LeavesUnloaned old loan_errors.WantOfMemory new = new ≡ old
+LeavesUnloaned old loan_errors.WantOfMemory new = ⊥
 
 -- What a response that is not sent leaves: the words are as they were. No connection ever fails.
 abbrev pub LeavesUnsent : HubState → SendError → HubState → Type 0

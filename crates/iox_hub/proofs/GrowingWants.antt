@@ -1,5 +1,5 @@
 -- A loan, or a copy, that wants memory is a whole call of a hub, and changes nothing.
-use Rattle.std.specs.Prelude.{◌≡◌, ℕ, Bool, List, Option, Some, refl}
+use Rattle.std.specs.Prelude.{◌≡◌, ℕ, Bool, false, List, Option, Some, None, refl}
 use Rattle.std.proofs.Common.{sym, ap, subst}
 use Rattle.iox_model.specs.declared.call.Call.TheVariants.{SendCopy}
 use Rattle.iox_model.specs.declared.kind.Role.TheVariants.{Client, Server}
@@ -8,14 +8,28 @@ use Rattle.iox_model.specs.declared.reply.Reply.TheVariants.{Refused}
 use Rattle.iox_model.specs.Settings.{Shape, shape_of}
 use Rattle.iox_model.specs.WholeCalls.{IsWholeCall}
 use Rattle.iox_tables.specs.HubStates.States.{Given, limits_of}
-use Rattle.iox_tables.specs.HubLoans.Lenders.{IsActive, IsClient, lender_of_request, lender_of_response, shape_in}
+use Rattle.iox_tables.specs.HubLoans.Lenders.{IsActive, IsClient, Lender, is_pool_to_be_dry, lender_of_request, lender_of_response, loan_refusal, shape_in}
 use Rattle.iox_tables.specs.HubLoans.Loans.{loan_call}
 use Rattle.iox_control_lending.specs.Lends.{IsAskedOf}
-use Rattle.iox_control_lending.proofs.Wanting.{active_wants, client_wants}
+use Rattle.iox_control_lending.proofs.Wanting.{active_wants, client_wants, not_dry, passes_so}
 use Rattle.iox_control_lending.proofs.WantingCopies.{active_copy_wants, client_copy_wants}
 use Rattle.iox_hub.specs.Growing.{WantsRoom}
 use Rattle.iox_hub.specs.Hubs.{HubState, IsHub, given_by, state_of_hub}
 use Rattle.iox_hub.specs.Lending.{payload_of}
+
+-- no test refuses such a loan, and its pool will have a message
+pub record Passes (x : Given) (h : HubState) (y : Lender) (k : ℕ) : Type 0 where
+  pub tests : loan_refusal (given_by x h) h.control.tables y k ≡ None
+  pub pool : is_pool_to_be_dry (given_by x h) h.control.tables y.port ≡ false
+
+pub would_pass : {h : HubState} → IsHub h → (y : Lender) (shape : Shape) (k : ℕ) (x : Given) → shape_in (given_by x h) h.control.tables y.port ≡ shape
+    → WantsRoom h y shape k → Passes x h y k
+would_pass {h} hub y shape k x is wants =
+    let asked : IsAskedOf (shape_in (given_by x h) h.control.tables y.port) wants.loan.asked = subst (λ (z : Shape). IsAskedOf z wants.loan.asked) (sym is) wants.loan.of in record {
+      tests = subst (λ m. loan_refusal (given_by x h) h.control.tables y m ≡ None) wants.loan.count
+          (passes_so (given_by x h) h.control wants.loan.asked hub.control.order y asked wants.loan.made);
+      pool = not_dry (given_by x h) h.control wants.loan.asked hub.control.order y asked wants.loan.made;
+    }
 
 module _ {h : HubState} (hub : IsHub h) (node n k : ℕ) (ws : List ℕ) (x : Given) where
   module _ (client : IsClient h.control.tables node n) (wants : WantsRoom h (lender_of_request client.port 0) h.request k) where

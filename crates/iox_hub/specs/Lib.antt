@@ -34,3 +34,4 @@ pub use Rattle.iox_control_request_copies.specs.Sendings
 pub use Rattle.iox_control_request_copies.specs.Answered
 pub use Rattle.iox_control_request_copies.specs.Answers
 pub use Rattle.iox_control_request_copies.specs.Copies
+pub use Rattle.iox_control_request_copies.specs.declared.copied.Copied

@@ -168,6 +168,7 @@ impl<Q: Payload, QH: Words, P: Payload, PH: Words> Hub<Q, QH, P, PH> {
             (requests.reply_of_copy result) (state_of_hub x self.new) }
         ensures has { HasCopied self.new node (length values.now)
             (flat_map Q.Element.words values.now) result }
+        ensures keeps { KeepsAll self.old self.new }
         ensures memory { result ≡ copied.Refused WantOfMemory → (p : PortState)
             → port_in self.old.control.tables.ports client ≡ Some p
             → WantsRoom self.old (lender_of_request p 0) self.old.request (length values.now) }
@@ -203,6 +204,7 @@ impl<Q: Payload, QH: Words, P: Payload, PH: Words> Hub<Q, QH, P, PH> {
             (SendCopy number (payload_of roles.Server (length values.now)
             (flat_map P.Element.words values.now)))
             (responses.reply_of_copy result) (state_of_hub x self.new) }
+        ensures keeps { KeepsAll self.old self.new }
         ensures memory { result ≡ answered.Refused WantOfMemory → (h : HandleState)
             (p : PortState) → handle_in self.old.control.tables.handles node number ≡ Some h
             → port_in self.old.control.tables.ports h.port ≡ Some p

@@ -59,22 +59,22 @@ answer_of h y k = loan_answer (given_by (nothing_given h) h) h.control.tables y 
 
 -- The loan came to this answer. Or it would be made, but its message has to grow, and there is no
 -- memory for it.
-abbrev pub AnswersAs : PortState → ℕ → Reply → Lent → Type 0
-AnswersAs p k answer (lents.Refused WantOfMemory) = GrowsPast p k × ((n : ℕ) × (answer ≡ Handle n))
-AnswersAs p k answer lent = reply_of_loan lent ≡ answer
+abbrev pub LoanAnswers : PortState → ℕ → Reply → Lent → Type 0
+LoanAnswers p k answer (lents.Refused WantOfMemory) = GrowsPast p k × ((n : ℕ) × (answer ≡ Handle n))
+LoanAnswers p k answer lent = reply_of_loan lent ≡ answer
 
 -- the client's loan answers that; which lane it takes does not matter
 abbrev pub AnswersOfClient : HubState → ℕ → ℕ → Lent → Type 0
 AnswersOfClient h client k lent =
     (p : PortState) → port_in h.control.tables.ports client ≡ Some p
-    → AnswersAs p k (answer_of h (lender_of_request p 0) k) lent
+    → LoanAnswers p k (answer_of h (lender_of_request p 0) k) lent
 
 -- the loan to that active request answers that
 abbrev pub AnswersOfRequest : HubState → ℕ → ℕ → ℕ → Lent → Type 0
 AnswersOfRequest h node number k lent =
     (a : HandleState) → handle_in h.control.tables.handles node number ≡ Some a
     → (p : PortState) → port_in h.control.tables.ports a.port ≡ Some p
-    → AnswersAs p k (answer_of h (lender_of_response h.control.tables a p) k) lent
+    → LoanAnswers p k (answer_of h (lender_of_response h.control.tables a p) k) lent
 
 -- no pool of the node's ports has fewer messages than its port may ever need
 abbrev pub HasFullPools : HubState → ℕ → Type 0
