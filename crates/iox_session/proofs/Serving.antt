@@ -55,7 +55,7 @@ wants_so s (Join id asked) c asks may = tt
 wants_so s (Port (ports.Client node id o)) c asks may = tt
 wants_so s (Port (ports.Server node id o)) c asks may = tt
 wants_so s (Port (ports.Read node n)) c asks may = tt
-wants_so s (Port (ports.SendCopy node n words)) c asks may = absurd (lacks s c _ asks may)
+wants_so s (Port (ports.SendCopy node n words)) c asks may = tt
 wants_so s (Port (ports.Receive node n)) c asks may = absurd (lacks s c _ asks may)
 wants_so s command c asks may = absurd (none-some c (sym asks))
 
