@@ -13,7 +13,7 @@ use Rattle.iox_model.specs.Commands.{Cause, Command, Reply}
 use Rattle.iox_model.specs.Services.{IsCommand}
 use Rattle.iox_model.specs.States.{State}
 use Rattle.iox_port_commands.specs.Asking.{is_making, takes_memory}
-use Rattle.iox_port_commands.specs.Memory.{HadMemory}
+use Rattle.iox_port_commands.specs.Memory.{HadMemory, HasGrowing}
 use Rattle.iox_port_commands.specs.declared.elements.Elements.{Elements}
 use Rattle.iox_nodes.specs.Given.{command_given, reply_given}
 
@@ -44,7 +44,8 @@ is_wanting (Err WantOfMemory) = true
 is_wanting answer = false
 
 -- Memory may be missing for the command: it is a listing, or a join, the making of a port, a read,
--- a loan or a copy that the machine may refuse for that. No other command takes memory.
+-- a loan or a copy that the machine may refuse for that. For loans and copies it is missing only
+-- where the messages of some port grow. No other command takes memory.
 abbrev pub MayLackMemory : State → Command → Type 0
 MayLackMemory s (Join id asked) = IsCommand s (Join id asked) (Refused WantOfMemory) s
 MayLackMemory s (Port (Client node id o)) =
@@ -53,9 +54,9 @@ MayLackMemory s (Port (Server node id o)) =
     IsCommand s (Port (Server node id o)) (Refused UnableToCreateDataSegment) s
 MayLackMemory s (Port (Read node n)) = IsCommand s (Port (Read node n)) (Refused WantOfMemory) s
 MayLackMemory s (Port (Loan node n k)) =
-    IsCommand s (Port (Loan node n k)) (Refused WantOfMemory) s
+    IsCommand s (Port (Loan node n k)) (Refused WantOfMemory) s × HasGrowing s
 MayLackMemory s (Port (SendCopy node n payload)) =
-    IsCommand s (Port (SendCopy node n payload)) (Refused WantOfMemory) s
+    IsCommand s (Port (SendCopy node n payload)) (Refused WantOfMemory) s × HasGrowing s
 MayLackMemory s ListNodes = ⊤
 MayLackMemory s ListClients = ⊤
 MayLackMemory s ListServers = ⊤

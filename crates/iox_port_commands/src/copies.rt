@@ -4,7 +4,7 @@ ghost use Rattle.iox_model.specs.declared.call.Call.TheVariants.{SendCopy};
 ghost use Rattle.iox_model.specs.declared.kind.Role.TheVariants as roles;
 ghost use Rattle.iox_model.specs.Commands.{Use};
 ghost use Rattle.iox_hub.specs.Lending.{payload_of};
-ghost use Rattle.iox_port_commands.specs.Applying.{IsCalled, LacksMemory};
+ghost use Rattle.iox_port_commands.specs.Applying.{HasGrowingPort, IsCalled, LacksMemory};
 ghost use Rattle.iox_port_commands.specs.Asking.{payload_for};
 ghost use Rattle.iox_port_commands.specs.Telling.{tells_want};
 
@@ -33,8 +33,10 @@ pub fn copy_request<Q: Payload, QH: Words, P: Payload, PH: Words, C>(
     ensures wanting { OnErr result (LacksMemory hub.old node
         (Use (SendCopy number (payload_of roles.Client (length values.now)
         (flat_map Q.Element.words values.now)))) hub.new) }
+    ensures grows { OnErr result (HasGrowingPort hub.old) }
     ensures unchanged { OnErr result (hub.new ≡ hub.old) }
 {
+    hub.is_in_order();
     match begin(
         hub,
         node,
@@ -64,8 +66,10 @@ pub fn copy_response<Q: Payload, QH: Words, P: Payload, PH: Words, C>(
     ensures wanting { OnErr result (LacksMemory hub.old node
         (Use (SendCopy number (payload_of roles.Server (length values.now)
         (flat_map P.Element.words values.now)))) hub.new) }
+    ensures grows { OnErr result (HasGrowingPort hub.old) }
     ensures unchanged { OnErr result (hub.new ≡ hub.old) }
 {
+    hub.is_in_order();
     match begin(
         hub,
         node,
@@ -93,6 +97,7 @@ pub(crate) fn send_copy<Q: Payload, QH: Words, P: Payload, PH: Words, C>(
     ensures memory { IfOk result (λ reply. tells_want reply ≡ false) }
     ensures wanting { OnErr result (LacksMemory hub.old node
         (Use (SendCopy number (payload_for Q.Element.words P.Element.words payload.now))) hub.new) }
+    ensures grows { OnErr result (HasGrowingPort hub.old) }
     ensures unchanged { OnErr result (hub.new ≡ hub.old) }
 {
     match payload {

@@ -49,13 +49,11 @@ IsSaid (Set key value) = ⊤
 IsSaid (Create name id) = ⊤
 IsSaid (Service command) = IsAsked command
 
--- the service may find no memory for it: a node or a port is made, a message is copied, or words are
--- shown
+-- the service may find no memory for it: a node or a port is made, or words are shown
 abbrev pub WantsMemory : ServiceCommand → Type 0
 WantsMemory (Join id asked) = ⊤
 WantsMemory (Port (Client node id options)) = ⊤
 WantsMemory (Port (Server node id options)) = ⊤
-WantsMemory (Port (SendCopy node number words)) = ⊤
 WantsMemory (Port (Read node number)) = ⊤
 WantsMemory _ = ⊥
 

@@ -25,3 +25,18 @@ returns-in-SendCopy-clause-wanting g c = rw c.in-SendCopy.is c.send_copy.ensures
 pub returns-in-SendCopy-clause-unchanged : goal.returns-in-SendCopy-clause-unchanged
 returns-in-SendCopy-clause-unchanged g c =
     on_err c.send_copy.result (c.send_copy.new.hub ≡ c.args.hub.now) (StaysAs c.args.hub.now c.send_copy.new.hub) (same_stays c.args.hub.now c.send_copy.new.hub) c.send_copy.ensures.unchanged
+
+pub returns-in-Loan-clause-grows : goal.returns-in-Loan-clause-grows
+returns-in-Loan-clause-grows g c = rw c.in-Loan.is c.loan.ensures.grows
+
+pub returns-in-SendCopy-clause-grows : goal.returns-in-SendCopy-clause-grows
+returns-in-SendCopy-clause-grows g c = rw c.in-SendCopy.is c.send_copy.ensures.grows
+
+pub returns-in-Client-clause-grows : goal.returns-in-Client-clause-grows
+returns-in-Client-clause-grows g c = rw c.in-Client.is (on_err c.make.result _ (Unit {0}) (λ e. tt) c.make.ensures.unchanged)
+
+pub returns-in-Server-clause-grows : goal.returns-in-Server-clause-grows
+returns-in-Server-clause-grows g c = rw c.in-Server.is (on_err c.make-in-Server.result _ (Unit {0}) (λ e. tt) c.make-in-Server.ensures.unchanged)
+
+pub returns-in-Read-clause-grows : goal.returns-in-Read-clause-grows
+returns-in-Read-clause-grows g c = rw c.in-Read.is (on_err c.read.result _ (Unit {0}) (λ e. tt) c.read.ensures.unchanged)

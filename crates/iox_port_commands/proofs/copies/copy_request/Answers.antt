@@ -1,5 +1,5 @@
 use Rattle.std.specs.Prelude.{◌≡◌, flat_map, length}
-use Rattle.std.proofs.Common.{ap}
+use Rattle.std.proofs.Common.{ap, subst}
 use Rattle.iox_model.specs.declared.call.Call.TheVariants.{SendCopy}
 use Rattle.iox_model.specs.declared.kind.Role.TheVariants as roles
 use Rattle.iox_model.specs.declared.reply.Refusal.TheVariants as refusals
@@ -9,6 +9,10 @@ use Rattle.iox_hub.specs.Copied.{Copied}
 use Rattle.iox_hub.specs.Copied.TheVariants.{Refused}
 use Rattle.iox_hub.specs.LoanRefusal.TheVariants.{WantOfMemory}
 use Rattle.iox_hub.specs.Lending.{payload_of}
+use Rattle.iox_model.specs.declared.kind.Kind.{Kind}
+use Rattle.iox_hub.specs.Hubs.{HasValue}
+use Rattle.iox_port_commands.specs.Applying.{HasGrowingPort}
+use Rattle.iox_port_commands.proofs.Growing.{client_grows}
 use Rattle.iox_port_commands.proofs.Calling.{called_if, lacking_if, on_err, request_stays}
 use Rattle.iox_port_commands.proofs.copies.copy_request.Goals as goal
 
@@ -29,3 +33,10 @@ pub returns-in-Ok-Client-clause-unchanged : goal.returns-in-Ok-Client-clause-unc
 returns-in-Ok-Client-clause-unchanged g c =
     on_err c.copied.result (c.copy_request.result ≡ Refused WantOfMemory) (c.copy_request.new.self ≡ c.args.hub.now)
     (request_stays c.args.hub.now c.copy_request.new.self _ _ c.copy_request.result c.copy_request.ensures.left) c.copied.ensures.wanting
+
+pub returns-in-Ok-Client-clause-grows : goal.returns-in-Ok-Client-clause-grows
+returns-in-Ok-Client-clause-grows g c =
+    on_err c.copied.result (c.copy_request.result ≡ Refused WantOfMemory) (HasGrowingPort c.args.hub.now)
+    (λ e. client_grows c.args.hub.now c.is_in_order.ensures c.args.node c.args.number (length c.args.values.now)
+    (subst (λ (kind : Kind). HasValue c.args.hub.now c.args.node c.args.number kind) c.in-Ok-Client.field-0-is c.in-Ok-Client.ensures.has)
+    (c.copy_request.ensures.memory e)) c.copied.ensures.wanting

@@ -1,5 +1,5 @@
 use Rattle.std.specs.Prelude.{◌≡◌, flat_map, length}
-use Rattle.std.proofs.Common.{ap}
+use Rattle.std.proofs.Common.{ap, subst}
 use Rattle.iox_model.specs.declared.call.Call.TheVariants.{SendCopy}
 use Rattle.iox_model.specs.declared.kind.Role.TheVariants as roles
 use Rattle.iox_model.specs.declared.reply.Refusal.TheVariants as refusals
@@ -9,6 +9,10 @@ use Rattle.iox_hub.specs.Answered.{Answered}
 use Rattle.iox_hub.specs.Answered.TheVariants.{Refused}
 use Rattle.iox_hub.specs.LoanRefusal.TheVariants.{WantOfMemory}
 use Rattle.iox_hub.specs.Lending.{payload_of}
+use Rattle.iox_model.specs.declared.kind.Kind.{Kind}
+use Rattle.iox_hub.specs.Hubs.{HasValue}
+use Rattle.iox_port_commands.specs.Applying.{HasGrowingPort}
+use Rattle.iox_port_commands.proofs.Growing.{active_grows}
 use Rattle.iox_port_commands.proofs.Calling.{called_if, lacking_if, on_err, response_stays}
 use Rattle.iox_port_commands.proofs.copies.copy_response.Goals as goal
 
@@ -29,3 +33,10 @@ pub returns-in-Ok-ActiveRequest-clause-unchanged : goal.returns-in-Ok-ActiveRequ
 returns-in-Ok-ActiveRequest-clause-unchanged g c =
     on_err c.answered.result (c.copy_response.result ≡ Refused WantOfMemory) (c.copy_response.new.self ≡ c.args.hub.now)
     (response_stays c.args.hub.now c.copy_response.new.self _ _ c.copy_response.result c.copy_response.ensures.left) c.answered.ensures.wanting
+
+pub returns-in-Ok-ActiveRequest-clause-grows : goal.returns-in-Ok-ActiveRequest-clause-grows
+returns-in-Ok-ActiveRequest-clause-grows g c =
+    on_err c.answered.result (c.copy_response.result ≡ Refused WantOfMemory) (HasGrowingPort c.args.hub.now)
+    (λ e. active_grows c.args.hub.now c.is_in_order.ensures c.args.node c.args.number (length c.args.values.now)
+    (subst (λ (kind : Kind). HasValue c.args.hub.now c.args.node c.args.number kind) c.in-Ok-ActiveRequest.field-0-is c.in-Ok-ActiveRequest.ensures.has)
+    (c.copy_response.ensures.memory e)) c.answered.ensures.wanting
