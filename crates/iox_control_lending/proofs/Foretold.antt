@@ -239,6 +239,9 @@ module _ (t : HubTables) (order : AreInOrder t) (info : PortInfo) (said : info_i
   pub left_more : (slot left : ℕ) → ((k : ℕ) → k < slot → 1 ≤ left_by_info k) → left ≡ left_by_info slot → (left ≡ 0 → ⊥) → (k : ℕ) → k < slot + 1 → 1 ≤ left_by_info k
   left_more slot left before is some k low = step (k == slot) refl
     where
+      below : (i j : ℕ) → i < j + 1 → (i ≡ j → ⊥) → i < j
+      below i j near other = omega (arith, near, other)
+
       step : (b : Bool) → (k == slot) ≡ b → 1 ≤ left_by_info k
       step true e = subst (λ i. 1 ≤ left_by_info i) (sym (eqb-true k slot e)) (positive left is)
         where
@@ -246,9 +249,6 @@ module _ (t : HubTables) (order : AreInOrder t) (info : PortInfo) (said : info_i
           positive zero same = absurd (some (is ∙ sym same))
           positive (suc n) same = omega (arith, same)
       step false e = before k (below k slot low (λ same. true≢false (sym (ap (λ i. k == i) (sym same) ∙ eqb-refl k) ∙ e)))
-
-      below : (i j : ℕ) → i < j + 1 → (i ≡ j → ⊥) → i < j
-      below i j near other = omega (arith, near, other)
 
   module _ (p : PortState) (there : port_in t.ports info.number ≡ Some p) where
     its_info : info_of p ≡ info

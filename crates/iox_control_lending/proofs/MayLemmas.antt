@@ -1,7 +1,7 @@
 -- Whether a loan would be made, by what is told.
 use Rattle.std.specs.Prelude.{◌≡◌, ℕ, Bool, true, false, Option, Some, None}
 use Rattle.std.specs.Option.{option_map}
-use Rattle.std.proofs.Common.{absurd, ap, is_some, subst, sym, true≢false, ◌∙◌}
+use Rattle.std.proofs.Common.{ap, is_some, subst, sym, true≢false, ◌∙◌}
 use Rattle.std.proofs.lemmas.Option.{none-some, same_Some}
 use Rattle.iox_tables.specs.HubStates.States.{Given}
 use Rattle.iox_tables.specs.HubBooks.Hubs.{AreInOrder}
@@ -17,14 +17,14 @@ use Rattle.iox_control_lending.proofs.PortLemmas.{there_by}
 
 -- no test refuses
 pub told_none : (t : HubTables) (y : Lender) (a : Asked) (r : Option LoanRefusal) (some : Bool) → some ≡ is_some r → some ≡ false → IsTold t y a (option_map refusal_of r) → IsTold t y a None
-told_none t y a None some is no told = told
-told_none t y a (Some r) some is no told = absurd (true≢false (sym is ∙ no))
+told_none t y a None some is not_some told = told
+told_none t y a (Some r) some is not_some told = absurd (true≢false (sym is ∙ not_some))
 
 -- a test refuses, where messages are those of the shape
 pub told_some : (t : HubTables) (y : Lender) (a : Asked) (r : Option LoanRefusal) (some : Bool) → some ≡ is_some r → some ≡ true
     → IsTold t y a (option_map refusal_of r) → ((x : Given) × IsAskedOf (shape_in x t y.port) a) → IsTold t y a None → ⊥
-told_some t y a None some is yes told x none = true≢false (sym yes ∙ is)
-told_some t y a (Some r) some is yes told x none = none-some (refusal_of r) (sym (none x.0 x.1) ∙ told x.0 x.1)
+told_some t y a None some is has told x none = true≢false (sym has ∙ is)
+told_some t y a (Some r) some is has told x none = none-some (refusal_of r) (sym (none x.0 x.1) ∙ told x.0 x.1)
 
 -- what is told of a lender's port is what it is
 pub port_told : (t : HubTables) (l : Lending) → IsPortOf t l → (p : PortState) → port_in t.ports l.port.number ≡ Some p → l.port ≡ info_of p

@@ -11,7 +11,7 @@ loop-lane-init c = record {
 
 pub loop-lane-preserved : goal.loop-lane-preserved
 loop-lane-preserved c = record {
-  left = lane_more c.args.control.now c.args.sender.now c.requires.order c.requires.from c.args.slot c.args.to.now.number c.loop-lane.lane c.args.holders c.loop-lane.left _ c.loop-lane.invariant.left
+  left = c.saturating_sub-left.ensures ∙ lane_more c.args.control.now c.args.sender.now c.requires.order c.requires.from c.args.slot c.args.to.now.number c.loop-lane.lane c.args.holders c.loop-lane.left _ c.loop-lane.invariant.left
       (c.returned_times_at-times.ensures ∙ times_are c.args.control.now c.args.sender.now c.requires.order c.requires.from c.args.slot c.args.at c.args.to.now.number c.loop-lane.lane c.requires.place);
   within = omega (arith, c.loop-lane-test.true);
   size = c.loop-lane.invariant.size;
@@ -24,5 +24,5 @@ returns-then-is_same_role c =
 pub returns : goal.returns
 returns c =
     lanes_all c.args.control.now c.args.sender.now c.requires.order c.requires.from c.args.slot c.args.to.now c.loop-lane.lane c.args.holders c.loop-lane.left (sym c.is_same_role.ensures ∙ c.if-is_same_role.false)
-    (let end : c.loop-lane.lane ≡ c.loop-lane.lane-end = omega (arith, c.loop-lane.invariant.within, c.loop-lane-test.false) in end ∙ c.loop-lane.invariant.size)
+    (let end : c.loop-lane.lane ≡ c.lanes_to-lane-end.result = omega (arith, c.loop-lane.invariant.within, c.loop-lane-test.false) in end ∙ c.loop-lane.invariant.size)
     c.loop-lane.invariant.left

@@ -18,18 +18,18 @@ unreachable-requires c =
     info_there c.args.control.now.tables.ports c.loop-at.at (omega (arith, c.loop-at-test.true, c.loop-at.invariant.size))
     (sym (c.in_default.ensures ∙ ap (λ ps. info_at ps c.loop-at.at) c.ports-in-loop-at.ensures.ports))
 
-pub left_by-requires-clause-to : goal.left_by-requires-clause-to
-left_by-requires-clause-to c =
+pub left_by-left-requires-clause-to : goal.left_by-left-requires-clause-to
+left_by-left-requires-clause-to c =
     to_said c.args.control.now.tables.ports c.loop-at.at c.in-Some.to c.loop-at.invariant.apart (c.in-Some.ensures ∙ ap (λ ps. info_at ps c.loop-at.at) c.ports-in-loop-at.ensures.ports)
 
-pub left_by-requires-clause-place : goal.left_by-requires-clause-place
-left_by-requires-clause-place c =
+pub left_by-left-requires-clause-place : goal.left_by-left-requires-clause-place
+left_by-left-requires-clause-place c =
     place_said c.args.control.now.tables.ports c.loop-at.at c.in-Some.to (c.in-Some.ensures ∙ ap (λ ps. info_at ps c.loop-at.at) c.ports-in-loop-at.ensures.ports)
 
 pub loop-at-preserved : goal.loop-at-preserved
 loop-at-preserved c = record {
   left = port_more c.args.control.now c.args.sender.now c.requires.order c.requires.said c.args.slot c.loop-at.at c.args.holders c.loop-at.left _ c.in-Some.to
-      (c.in-Some.ensures ∙ ap (λ ps. info_at ps c.loop-at.at) c.ports-in-loop-at.ensures.ports) c.loop-at.invariant.left c.left_by.ensures;
+      (c.in-Some.ensures ∙ ap (λ ps. info_at ps c.loop-at.at) c.ports-in-loop-at.ensures.ports) c.loop-at.invariant.left c.left_by-left.ensures;
   size = c.loop-at.invariant.size;
   apart = c.loop-at.invariant.apart;
 }

@@ -1,4 +1,4 @@
-use Rattle.std.proofs.Common.{Some, absurd, ap, sym, true≢false, ◌∙◌}
+use Rattle.std.proofs.Common.{Some, ap, sym, true≢false, ◌∙◌}
 use Rattle.std.specs.Option.{option_map}
 use Rattle.iox_hub_ports.specs.Ports.{info_of}
 use Rattle.iox_control_lending.specs.Lends.{lender_of}
