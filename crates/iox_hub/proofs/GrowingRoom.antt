@@ -1,5 +1,5 @@
 -- Room for messages that are lent: their own, or that which is given.
-use Rattle.std.specs.Prelude.{◌≡◌, ℕ, zero, suc, ◌≤◌, nat_le, Bool, true, false, not, ◌&&◌, ◌||◌, List, [], ◌∷◌, Option, Some, None, option_map, slice_set, refl}
+use Rattle.std.specs.Prelude.{◌≡◌, ℕ, zero, suc, ◌*◌, ◌^◌, ◌≤◌, nat_le, Bool, true, false, not, ◌&&◌, ◌||◌, List, [], ◌∷◌, Option, Some, None, option_map, slice_set, refl}
 use Rattle.std.specs.Option.{option_map_or}
 use Rattle.std.proofs.Common.{sym, ap, subst, ◌∙◌, arith, true≢false}
 use Rattle.std.proofs.lemmas.Bool.{leb-true}
@@ -14,6 +14,7 @@ use Rattle.iox_model.specs.Settings.{Shape, has_layout, is_count}
 use Rattle.iox_tables.specs.HubStates.States.{Given}
 use Rattle.iox_tables.specs.HubStates.Tables.{HandleState, HubTables, PortState, port_in}
 use Rattle.iox_tables.specs.HubStates.Wirings.{handle_in}
+use Rattle.iox_tables.specs.HubLoans.Counts.{requests_on_loan, responses_on_loan, responses_to}
 use Rattle.iox_tables.specs.HubLoans.Lenders.{IsActive, IsClient, Lender, calls_refusal, count_refusal_by, lender_of_request, lender_of_response, loan_refusal, shape_in, size_refusal}
 use Rattle.iox_control.specs.Controls.{ControlState}
 use Rattle.iox_control_lending.specs.declared.asked.Asked.{Asked}
@@ -42,7 +43,7 @@ short_enough false true layout e none = refl
 short_enough false false layout e none = absurd (true≢false e)
 
 -- no test says that there is no memory
-is_want : Refusal → Bool
+abbrev is_want : Refusal → Bool
 is_want refusals.WantOfMemory = true
 is_want r = false
 
@@ -57,16 +58,28 @@ neither_wants : (a b : Option Refusal) → wants a ≡ false → wants b ≡ fal
 neither_wants (Some r) b e f = e
 neither_wants None b e f = f
 
+count_never_wants : (role : Role) (t : HubTables) (y : Lender) → wants (count_refusal_by role t y) ≡ false
+count_never_wants Client t y = none_wants (nat_le t.settings.loaned_requests (requests_on_loan t y.port.number)) refusals.ExceedsMaxLoans refl
+count_never_wants Server t y =
+    let a : Bool = nat_le y.port.loaned_responses (responses_to t y.port.number y.client y.request) in
+    let b : Bool = nat_le (y.port.loaned_responses * t.settings.active_requests * t.settings.clients) (responses_on_loan t y.port.number) in
+    neither_wants (refused_if a refusals.ExceedsMaxLoans) (refused_if b refusals.ExceedsMaxLoans) (none_wants a refusals.ExceedsMaxLoans refl)
+    (none_wants b refusals.ExceedsMaxLoans refl)
+
+size_never_wants : (p : PortState) (shape : Shape) (k : ℕ) → wants (size_refusal p shape k) ≡ false
+size_never_wants p shape k =
+    let a : Bool = not (is_count shape k) in
+    let b : Bool = not ((p.grows || nat_le k p.longest) && has_layout shape k) in
+    neither_wants (refused_if a refusals.WrongLength) (refused_if b refusals.ExceedsMaxLoanSize) (none_wants a refusals.WrongLength refl)
+    (none_wants b refusals.ExceedsMaxLoanSize refl)
+
 pub test_never_wants : (x : Given) (t : HubTables) (y : Lender) (k : ℕ) → loan_refusal x t y k ≡ Some refusals.WantOfMemory → ⊥
 test_never_wants x t y k e =
-    true≢false (ap wants (sym e)
-    ∙ neither_wants (calls_refusal t) (or_else (size_refusal y.port (shape_in x t y.port) k) (count_refusal_by y.port.role t y)) (none_wants _ refusals.CallsSpent refl)
-    (neither_wants (size_refusal y.port (shape_in x t y.port) k) (count_refusal_by y.port.role t y)
-    (neither_wants _ _ (none_wants _ refusals.WrongLength refl) (none_wants _ refusals.ExceedsMaxLoanSize refl)) (counts y.port.role)))
-  where
-    counts : (role : Role) → wants (count_refusal_by role t y) ≡ false
-    counts Client = none_wants _ refusals.ExceedsMaxLoans refl
-    counts Server = neither_wants _ _ (none_wants _ refusals.ExceedsMaxLoans refl) (none_wants _ refusals.ExceedsMaxLoans refl)
+    let size : Option Refusal = size_refusal y.port (shape_in x t y.port) k in
+    let count : Option Refusal = count_refusal_by y.port.role t y in
+    true≢false (sym (ap wants e)
+    ∙ neither_wants (calls_refusal t) (or_else size count) (none_wants (nat_le (2 ^ 56) t.calls) refusals.CallsSpent refl)
+    (neither_wants size count (size_never_wants y.port (shape_in x t y.port) k) (count_never_wants y.port.role t y)))
 
 -- ---- a loan that was made has room
 

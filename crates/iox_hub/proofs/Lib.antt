@@ -27,6 +27,7 @@ pub mod LendingGiven
 pub mod LendingFits
 pub mod GrowingRoom
 pub mod GrowingWants
+pub mod GrowingFound
 pub mod LendingMade
 pub mod LendingWrites
 pub mod LendingNamed

@@ -173,6 +173,7 @@ impl<Q: Payload, QH: Words, P: Payload, PH: Words> Hub<Q, QH, P, PH> {
             → port_in self.old.control.tables.ports client ≡ Some p
             → WantsRoom self.old (lender_of_request p 0) self.old.request (length values.now) }
     {
+        self.is_in_order();
         match self.room_for_request(node, client, values.len()) {
             Ok(spare) => self.copy_request_in_room(node, client, values, spare),
             Err(_) => Copied::Refused(LoanRefusal::WantOfMemory),
@@ -211,6 +212,7 @@ impl<Q: Payload, QH: Words, P: Payload, PH: Words> Hub<Q, QH, P, PH> {
             → WantsRoom self.old (lender_of_response self.old.control.tables h p)
             self.old.response (length values.now) }
     {
+        self.is_in_order();
         match self.room_for_response(node, number, hint, values.len()) {
             Ok(spare) => self.copy_response_in_room(node, number, hint, values, spare),
             Err(_) => Answered::Refused(LoanRefusal::WantOfMemory),

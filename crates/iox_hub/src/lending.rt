@@ -144,6 +144,7 @@ impl<Q: Payload, QH: Words, P: Payload, PH: Words> Hub<Q, QH, P, PH> {
             → port_in self.old.control.tables.ports client ≡ Some p
             → WantsRoom self.old (lender_of_request p 0) self.old.request elements }
     {
+        self.is_in_order();
         match self.room_for_request(node, client, elements) {
             Ok(spare) => self.lend_request_in_room(node, client, elements, uninit, spare),
             Err(_) => Lent::Refused(LoanRefusal::WantOfMemory),
@@ -175,6 +176,7 @@ impl<Q: Payload, QH: Words, P: Payload, PH: Words> Hub<Q, QH, P, PH> {
             → WantsRoom self.old (lender_of_response self.old.control.tables h p)
             self.old.response elements }
     {
+        self.is_in_order();
         match self.room_for_response(node, number, hint, elements) {
             Ok(spare) => { self.lend_response_in_room(node, number, hint, elements, uninit, spare) }
             Err(_) => Lent::Refused(LoanRefusal::WantOfMemory),

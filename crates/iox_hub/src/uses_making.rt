@@ -3,6 +3,7 @@ ghost use Rattle.std.specs.Prelude.{◌≡◌, ◌<◌, ◌^◌, IfOk, OnErr, fa
 ghost use Rattle.iox_model.specs.declared.kind.Kind.TheVariants.{Client, Server};
 ghost use Rattle.iox_model.specs.declared.kind.Role.TheVariants as roles;
 ghost use Rattle.iox_hub.specs.Hubs.{HasValue, IsReached};
+ghost use Rattle.iox_hub.specs.Making.{StaysAs};
 
 use crate::{Hub, MessageShape, Options, Part, default_settings};
 use iox_control::Received;
