@@ -126,8 +126,11 @@ module _ {h : HubState} (hub : IsHub h) (k : ℕ) (ws : List ℕ) (node n : ℕ)
     pub copy_within : place.slot < count_in h.words place.pool
     copy_within = lent_within hub h.request a y n c.client.there of asked l loaned sent.lent
 
-    pub copy_room : (spare : Option ℕ) → HasRoomFor h y h.request k spare → k ≤ room_with (longest_in h.words place.pool) spare
-    copy_room spare room = loan_has_room h h.request y n k spare c.client.there room a refl asked l loaned sent.lent
+    pub copy_room : (spare : Option ℕ)
+        → ((p : PortState) → port_in h.control.tables.ports n ≡ Some p → HasRoomFor h (lender_of_request p 0) h.request k spare)
+        → k ≤ room_with (longest_in h.words place.pool) spare
+    copy_room spare room =
+        loan_has_room h h.request y n k spare c.client.there (room c.client.port c.client.there) a refl asked l loaned sent.lent
 
     pub copy_of : are_requests_in h.words place.pool ≡ true
     copy_of = lent_requests hub h.request a y n c.client.there of asked l loaned sent.lent true (ap is_client c.client.client)

@@ -5,6 +5,7 @@ use Rattle.std.proofs.Common.{sym, ap, subst, ◌∙◌, arith, true≢false}
 use Rattle.std.proofs.lemmas.Bool.{leb-true}
 use Rattle.std.proofs.lemmas.Option.{none-some}
 use Rattle.iox_store.specs.Stored.{room_with}
+use Rattle.iox_model.specs.declared.kind.Kind.TheVariants as kinds
 use Rattle.iox_model.specs.declared.kind.Role.{Role}
 use Rattle.iox_model.specs.declared.kind.Role.TheVariants.{Client, Server}
 use Rattle.iox_model.specs.declared.reply.Refusal.TheVariants as refusals
@@ -24,8 +25,9 @@ use Rattle.iox_control_lending.proofs.Foretold.{made_may_be}
 use Rattle.iox_hub.specs.declared.words.PoolWords.{PoolWords}
 use Rattle.iox_hub.specs.Fits.{carried_in, longest_in}
 use Rattle.iox_hub.specs.Growing.{HasRoomFor, WouldLend}
-use Rattle.iox_hub.specs.Hubs.{HubState, IsHub, given_by}
+use Rattle.iox_hub.specs.Hubs.{HasValue, HubState, IsHub, given_by}
 use Rattle.iox_hub.specs.Words.{Carried, all_carried, carried}
+use Rattle.iox_hub.proofs.LendingNamed.{active_of_hub, client_of_hub}
 
 -- ---- tests
 
@@ -93,12 +95,19 @@ loan_has_room h shape y n k spare there room a count of l new is =
 -- ---- as it was met
 
 module _ {h : HubState} (now : HubState) (same : h ≡ now) (node n k : ℕ) (spare : Option ℕ) where
-  pub client_room : (client : IsClient h.control.tables node n)
-      → ((p : PortState) → port_in now.control.tables.ports n ≡ Some p → HasRoomFor now (lender_of_request p 0) now.request k spare)
-      → HasRoomFor h (lender_of_request client.port 0) h.request k spare
-  client_room client room =
+  pub client_rooms : ((p : PortState) → port_in now.control.tables.ports n ≡ Some p → HasRoomFor now (lender_of_request p 0) now.request k spare)
+      → (p : PortState) → port_in h.control.tables.ports n ≡ Some p → HasRoomFor h (lender_of_request p 0) h.request k spare
+  client_rooms room =
       subst (λ (d : HubState). (p : PortState) → port_in d.control.tables.ports n ≡ Some p → HasRoomFor d (lender_of_request p 0) d.request k spare) (sym same) room
-      client.port client.there
+
+  -- the client's message has room, if a loan of it was made
+  module _ (hub : IsHub h) (client : HasValue now node n kinds.Client) (a : Asked) (count : a.elements ≡ k) (of : IsAskedOf h.request a) (l : Loaned) (new : ControlState)
+      (made : (p : PortState) → port_in h.control.tables.ports n ≡ Some p → IsLoaned h.control (lender_of_request p 0) a l new) where
+    pub request_has_room : ((p : PortState) → port_in now.control.tables.ports n ≡ Some p → HasRoomFor now (lender_of_request p 0) now.request k spare)
+        → k ≤ room_with (longest_in h.words l.pool) spare
+    request_has_room room =
+        let c : IsClient h.control.tables node n = client_of_hub hub now same node n client in
+        loan_has_room h h.request (lender_of_request c.port 0) n k spare c.there (client_rooms room c.port c.there) a count of l new (made c.port c.there)
 
   pub active_rooms : ((j : HandleState) (p : PortState) → handle_in now.control.tables.handles node n ≡ Some j → port_in now.control.tables.ports j.port ≡ Some p
       → HasRoomFor now (lender_of_response now.control.tables j p) now.response k spare)
@@ -107,6 +116,19 @@ module _ {h : HubState} (now : HubState) (same : h ≡ now) (node n k : ℕ) (sp
   active_rooms room =
       subst (λ (d : HubState). (j : HandleState) (p : PortState) → handle_in d.control.tables.handles node n ≡ Some j → port_in d.control.tables.ports j.port ≡ Some p
       → HasRoomFor d (lender_of_response d.control.tables j p) d.response k spare) (sym same) room
+
+  -- and so has that of a response
+  module _ (hub : IsHub h) (active : HasValue now node n kinds.ActiveRequest) (a : Asked) (count : a.elements ≡ k) (of : IsAskedOf h.response a) (l : Loaned)
+      (new : ControlState)
+      (made : (j : HandleState) (p : PortState) → handle_in h.control.tables.handles node n ≡ Some j → port_in h.control.tables.ports j.port ≡ Some p
+      → IsLoaned h.control (lender_of_response h.control.tables j p) a l new) where
+    pub response_has_room : ((j : HandleState) (p : PortState) → handle_in now.control.tables.handles node n ≡ Some j → port_in now.control.tables.ports j.port ≡ Some p
+        → HasRoomFor now (lender_of_response now.control.tables j p) now.response k spare)
+        → k ≤ room_with (longest_in h.words l.pool) spare
+    response_has_room room =
+        let c : IsActive h.control.tables node n = active_of_hub hub now same node n active in
+        loan_has_room h h.response (lender_of_response h.control.tables c.handle c.port) c.handle.port k spare c.there
+        (active_rooms room c.handle c.port c.named.there c.there) a count of l new (made c.handle c.port c.named.there c.there)
 
 -- ---- which room there is
 

@@ -23,6 +23,7 @@ ghost use Rattle.iox_hub.specs.Keeping.{KeepsAll};
 ghost use Rattle.iox_hub.specs.Lending.{payload_of};
 
 use crate::copies::{copy_request_in, copy_response_in};
+use crate::growing::let_go;
 use crate::hub::Hub;
 use crate::lending::asked_of;
 use iox_control_request_copies::{
@@ -94,6 +95,8 @@ impl<Q: Payload, QH: Words, P: Payload, PH: Words> Hub<Q, QH, P, PH> {
         {
             let user = self.request.user_header;
             copy_request_in(&mut self.words, place, values, user, spare);
+        } else {
+            let_go(spare);
         }
         copied
     }
@@ -146,6 +149,8 @@ impl<Q: Payload, QH: Words, P: Payload, PH: Words> Hub<Q, QH, P, PH> {
         if let Some(place) = place_of(answered) {
             let user = self.response.user_header;
             copy_response_in(&mut self.words, place, values, user, spare);
+        } else {
+            let_go(spare);
         }
         answered
     }

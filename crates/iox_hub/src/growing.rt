@@ -17,6 +17,10 @@ use iox_store::{Payload, Spare};
 use iox_words::Words;
 use std::alloc::AllocError;
 
+/// Lets room go that no message took.
+#[inline]
+pub(crate) fn let_go<E: Words>(_spare: Option<Spare<E>>) {}
+
 /// Room for a request of so many elements, from the pool in this place. The words that there are
 /// stay.
 fn spare_of_requests<QE: Words, QH: Words, PE: Words, PH: Words>(

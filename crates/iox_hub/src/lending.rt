@@ -17,6 +17,7 @@ ghost use Rattle.iox_hub.specs.Keeping.{IsNewLoan, KeepsAll};
 ghost use Rattle.iox_hub.specs.Lending.{HasLent, IsAskedFor, LeavesLent};
 
 use crate::contents::{lend_request_in, lend_response_in};
+use crate::growing::let_go;
 use crate::hub::Hub;
 use crate::layouts::has_layout;
 use crate::shape::MessageShape;
@@ -82,6 +83,8 @@ impl<Q: Payload, QH: Words, P: Payload, PH: Words> Hub<Q, QH, P, PH> {
                 &self.request,
                 spare,
             );
+        } else {
+            let_go(spare);
         }
         lent
     }
@@ -125,6 +128,8 @@ impl<Q: Payload, QH: Words, P: Payload, PH: Words> Hub<Q, QH, P, PH> {
                 &self.response,
                 spare,
             );
+        } else {
+            let_go(spare);
         }
         lent
     }

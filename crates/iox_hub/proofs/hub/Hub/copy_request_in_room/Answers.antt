@@ -2,7 +2,7 @@ use Rattle.std.specs.Prelude.{flat_map, length}
 use Rattle.iox_control_request_copies.specs.declared.copied.Copied.TheVariants.{To}
 use Rattle.iox_hub.proofs.CopyingRequests.{client_is_there, copy_awaited, copy_call, copy_hub, copy_never_wants, copy_of, copy_room, copy_whole, copy_within, other_has, other_hub, other_left, other_whole}
 use Rattle.iox_hub.proofs.CopyingWords.{asked_is}
-use Rattle.iox_hub.proofs.GrowingRoom.{client_room}
+use Rattle.iox_hub.proofs.GrowingRoom.{client_rooms}
 use Rattle.iox_hub.proofs.KeepingCopies.{other_request_keeps, request_keeps_all}
 use Rattle.iox_hub.proofs.LendingNamed.{client_of_hub}
 use Rattle.iox_hub.proofs.hub.Hub.copy_request_in_room.Goals as goal
@@ -40,8 +40,7 @@ copy_request_in-requires-clause-room g c =
     (client_of_hub c.self.invariant c.args.self.now c.self.view_is c.args.node c.args.client c.requires.has)
     c.in-To.ensures.left c.in-To.ensures.order c.in-To.ensures.whole)
     c.args.spare
-    (client_room c.args.self.now c.self.view_is c.args.node c.args.client (length c.args.values.now) c.args.spare
-    (client_of_hub c.self.invariant c.args.self.now c.self.view_is c.args.node c.args.client c.requires.has) c.requires.room)
+    (client_rooms c.args.self.now c.self.view_is c.args.node c.args.client (length c.args.values.now) c.args.spare c.requires.room)
 
 pub invariant_of-self : goal.invariant_of-self
 invariant_of-self g c =

@@ -1,6 +1,6 @@
 use Rattle.iox_model.specs.declared.kind.Role.TheVariants as roles
-use Rattle.iox_hub.proofs.GrowingRoom.{active_rooms}
-use Rattle.iox_hub.proofs.LendingCalls.{call_fresh, call_hub, call_left, call_never_wants, call_of, call_room, call_whole, call_within, other_has, other_hub, other_left, other_whole, response_call}
+use Rattle.iox_hub.proofs.GrowingRoom.{response_has_room}
+use Rattle.iox_hub.proofs.LendingCalls.{call_fresh, call_hub, call_left, call_never_wants, call_of, call_whole, call_within, other_has, other_hub, other_left, other_whole, response_call}
 use Rattle.iox_hub.proofs.LendingNamed.{active_of_hub}
 use Rattle.iox_hub.proofs.KeepingLoans.{loan_is_new, loan_keeps, other_is_new, other_loan_keeps}
 use Rattle.iox_hub.proofs.hub.Hub.lend_response_in_room.Goals as goal
@@ -26,15 +26,9 @@ lend_response_in-requires-clause-there g c =
 
 pub lend_response_in-requires-clause-room : goal.lend_response_in-requires-clause-room
 lend_response_in-requires-clause-room g c =
-    call_room c.self.invariant roles.Server _ c.args.uninit c.args.elements c.args.node c.args.number c.lend_response-lent.new.control c.in-Handle.l
-    (response_call c.self.invariant c.asked_of-asked.result c.args.elements c.args.uninit c.args.node c.args.number c.lend_response-lent.new.control _
-    c.asked_of-asked.ensures.count c.asked_of-asked.ensures.unfilled c.asked_of-asked.ensures.asked
-    (active_of_hub c.self.invariant c.args.self.now c.self.view_is c.args.node c.args.number c.requires.has)
-    c.in-Handle.ensures.left c.in-Handle.ensures.order c.in-Handle.ensures.whole)
-    c.args.spare
-    (active_rooms c.args.self.now c.self.view_is c.args.node c.args.number c.args.elements c.args.spare c.requires.room _ _
-    (active_of_hub c.self.invariant c.args.self.now c.self.view_is c.args.node c.args.number c.requires.has).named.there
-    (active_of_hub c.self.invariant c.args.self.now c.self.view_is c.args.node c.args.number c.requires.has).there)
+    response_has_room c.args.self.now c.self.view_is c.args.node c.args.number c.args.elements c.args.spare c.self.invariant c.requires.has
+    c.asked_of-asked.result c.asked_of-asked.ensures.count c.asked_of-asked.ensures.asked c.in-Handle.l c.lend_response-lent.new.control c.in-Handle.ensures.left
+    c.requires.room
 
 pub invariant_of-self : goal.invariant_of-self
 invariant_of-self g c =
