@@ -5,8 +5,8 @@ use Rattle.iox_hub.proofs.GrowingFound.{active_has_messages, active_port_is_ther
 use Rattle.iox_hub.proofs.LendingNamed.{active_of_hub}
 use Rattle.iox_hub.proofs.hub.Hub.room_for_response.Goals as goal
 
-pub unreachable-requires-in-Some : goal.unreachable-requires-in-Some
-unreachable-requires-in-Some g c =
+pub unreachable-requires-in_default-find : goal.unreachable-requires-in_default-find
+unreachable-requires-in_default-find g c =
     active_port_is_there c.self.invariant c.args.self.now c.self.view_is c.args.node c.args.number c.requires.has (handle_state c.in-Some.entry)
     c.in-Some.ensures
     (ap (λ ps. info_in ps c.in-Some.entry.port) (sym c.ports.ensures.ports) ∙ sym c.find.ensures ∙ c.in_default-find.is)
