@@ -1,5 +1,6 @@
 -- Where the messages of no port grow, they do so after no command by which none is made that would.
-use Rattle.std.specs.Prelude.{◌≡◌, ℕ, Bool, true, false, not, ◌||◌, if◌then◌else◌, ◌==◌, List, [], ◌∷◌, ◌++◌, filter, list_any, map, unwrap_or, Option, ⊤, refl}
+use Rattle.std.specs.Prelude.{◌≡◌, ℕ, Bool, true, false, not, ◌||◌, if◌then◌else◌, ◌==◌, List, [], ◌∷◌, ◌++◌, filter, map, unwrap_or, Option, ⊤, refl}
+use Rattle.std.specs.List.{list_any}
 use Rattle.std.proofs.Common.{sym, ap, subst, ◌∙◌, true≢false}
 use Rattle.iox_types.specs.declared.identifiers.system_id.UniqueSystemId.{UniqueSystemId}
 use Rattle.iox_model.specs.declared.kind.Role.{Role}

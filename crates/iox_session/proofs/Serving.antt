@@ -1,5 +1,6 @@
 -- What a service is asked by a line, and what it answers.
-use Rattle.std.specs.Prelude.{◌≡◌, ℕ, Bool, true, false, list_any, unwrap_or, Option, Some, None, MatchOption, Result, Ok, Err, IfOk, OnErr, IsTrue}
+use Rattle.std.specs.Prelude.{◌≡◌, ℕ, Bool, true, false, unwrap_or, Option, Some, None, MatchOption, Result, Ok, Err, IfOk, OnErr, IsTrue}
+use Rattle.std.specs.List.{list_any}
 use Rattle.std.specs.declared.convert.Infallible.{Infallible}
 use Rattle.std.specs.declared.vec.Vec.{Vec}
 use Rattle.std.proofs.Common.{ap, subst, sym, true≢false, ◌∙◌}

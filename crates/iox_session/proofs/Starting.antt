@@ -1,5 +1,6 @@
 -- What the creation of a script's service comes to.
-use Rattle.std.specs.Prelude.{◌≡◌, Bool, true, false, not, list_any, Option, Some, None, Result, Ok, Err, refl}
+use Rattle.std.specs.Prelude.{◌≡◌, Bool, true, false, not, Option, Some, None, Result, Ok, Err, refl}
+use Rattle.std.specs.List.{list_any}
 use Rattle.std.specs.declared.convert.Infallible.{Infallible}
 use Rattle.std.proofs.Common.{ap, true≢false}
 use Rattle.std.proofs.lemmas.Option.{same_Some}
