@@ -22,13 +22,14 @@ either_is false b e = e
 any_grows : (f : PortState → Port) → ((p : PortState) → (f p).grows ≡ p.grows) → (ports : List PortState) (n : ℕ) (p : PortState) → port_in ports n ≡ Some p
     → p.grows ≡ true → list_any (λ (q : Port). q.grows) (map f ports) ≡ true
 any_grows f same [] n p at grows = absurd (none-some p at)
-any_grows f same (q ∷ qs) n p at grows = step (q.number == n) at
+any_grows f same (q ∷ qs) n p at grows = step (q.number == n) at (λ e. any_grows f same qs n p e grows)
   where
-    step : (b : Bool) → (if b then Some q else port_in qs n) ≡ Some p → ((f q).grows || list_any (λ (r : Port). r.grows) (map f qs)) ≡ true
-    step true e =
+    step : (b : Bool) → (if b then Some q else port_in qs n) ≡ Some p → (port_in qs n ≡ Some p → list_any (λ (r : Port). r.grows) (map f qs) ≡ true)
+        → ((f q).grows || list_any (λ (r : Port). r.grows) (map f qs)) ≡ true
+    step true e rest =
         ap (λ (b : Bool). b || list_any (λ (r : Port). r.grows) (map f qs))
         (same q ∙ ap (λ (r : PortState). r.grows) (same_Some q p e) ∙ grows)
-    step false e = either_is (f q).grows (list_any (λ (r : Port). r.grows) (map f qs)) (any_grows f same qs n p e grows)
+    step false e rest = either_is (f q).grows (list_any (λ (r : Port). r.grows) (map f qs)) (rest e)
 
 grows_so : (x : Given) (h : HubState) (n : ℕ) (p : PortState) → port_in h.control.tables.ports n ≡ Some p → p.grows ≡ true → HasGrowing (state_of_hub x h)
 grows_so x h n p at grows = any_grows (port_of (given_by x h)) (λ q. refl) h.control.tables.ports n p at grows

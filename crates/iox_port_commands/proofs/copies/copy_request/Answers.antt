@@ -32,7 +32,7 @@ returns-in-Ok-Client-clause-wanting g c =
 pub returns-in-Ok-Client-clause-unchanged : goal.returns-in-Ok-Client-clause-unchanged
 returns-in-Ok-Client-clause-unchanged g c =
     on_err c.copied.result (c.copy_request.result ≡ Refused WantOfMemory) (c.copy_request.new.self ≡ c.args.hub.now)
-    (request_stays c.args.hub.now c.copy_request.new.self _ _ c.copy_request.result c.copy_request.ensures.left) c.copied.ensures.wanting
+    (request_stays c.args.hub.now c.copy_request.new.self (length c.args.values.now) (flat_map g.Q.Element.Words.words c.args.values.now) c.copy_request.result c.copy_request.ensures.left) c.copied.ensures.wanting
 
 pub returns-in-Ok-Client-clause-grows : goal.returns-in-Ok-Client-clause-grows
 returns-in-Ok-Client-clause-grows g c =

@@ -32,7 +32,7 @@ returns-in-Ok-ActiveRequest-clause-wanting g c =
 pub returns-in-Ok-ActiveRequest-clause-unchanged : goal.returns-in-Ok-ActiveRequest-clause-unchanged
 returns-in-Ok-ActiveRequest-clause-unchanged g c =
     on_err c.answered.result (c.copy_response.result ≡ Refused WantOfMemory) (c.copy_response.new.self ≡ c.args.hub.now)
-    (response_stays c.args.hub.now c.copy_response.new.self _ _ c.copy_response.result c.copy_response.ensures.left) c.answered.ensures.wanting
+    (response_stays c.args.hub.now c.copy_response.new.self (length c.args.values.now) (flat_map g.P.Element.Words.words c.args.values.now) c.copy_response.result c.copy_response.ensures.left) c.answered.ensures.wanting
 
 pub returns-in-Ok-ActiveRequest-clause-grows : goal.returns-in-Ok-ActiveRequest-clause-grows
 returns-in-Ok-ActiveRequest-clause-grows g c =

@@ -1,4 +1,4 @@
-use Rattle.std.specs.Prelude.{◌≡◌}
+use Rattle.std.specs.Prelude.{◌≡◌, false}
 use Rattle.std.proofs.Common.{ap, subst}
 use Rattle.iox_model.specs.declared.call.Call.TheVariants.{Loan}
 use Rattle.iox_model.specs.declared.reply.Refusal.TheVariants as refusals
@@ -28,7 +28,7 @@ returns-in-Ok-Client-clause-wanting g c =
 pub returns-in-Ok-Client-clause-unchanged : goal.returns-in-Ok-Client-clause-unchanged
 returns-in-Ok-Client-clause-unchanged g c =
     on_err c.lent.result (c.lend_request.result ≡ Refused WantOfMemory) (c.lend_request.new.self ≡ c.args.hub.now)
-    (loan_stays c.args.hub.now c.lend_request.new.self _ _ _ c.lend_request.result c.lend_request.ensures.left) c.lent.ensures.wanting
+    (loan_stays c.args.hub.now c.lend_request.new.self c.args.hub.now.request false c.args.elements c.lend_request.result c.lend_request.ensures.left) c.lent.ensures.wanting
 
 pub returns-in-Ok-ActiveRequest-clause-whole : goal.returns-in-Ok-ActiveRequest-clause-whole
 returns-in-Ok-ActiveRequest-clause-whole g c =
@@ -44,7 +44,7 @@ returns-in-Ok-ActiveRequest-clause-wanting g c =
 pub returns-in-Ok-ActiveRequest-clause-unchanged : goal.returns-in-Ok-ActiveRequest-clause-unchanged
 returns-in-Ok-ActiveRequest-clause-unchanged g c =
     on_err c.lent-in-Ok-ActiveRequest.result (c.lend_response.result ≡ Refused WantOfMemory) (c.lend_response.new.self ≡ c.args.hub.now)
-    (loan_stays c.args.hub.now c.lend_response.new.self _ _ _ c.lend_response.result c.lend_response.ensures.left) c.lent-in-Ok-ActiveRequest.ensures.wanting
+    (loan_stays c.args.hub.now c.lend_response.new.self c.args.hub.now.response false c.args.elements c.lend_response.result c.lend_response.ensures.left) c.lent-in-Ok-ActiveRequest.ensures.wanting
 
 pub returns-in-Ok-Client-clause-grows : goal.returns-in-Ok-Client-clause-grows
 returns-in-Ok-Client-clause-grows g c =
