@@ -128,7 +128,7 @@ module _ (x : Given) (t : HubTables) (role : Role) (o : Options) (asked : Asked)
         (state_shown (given_made x words t.next_number o.handler) (with_port_made t p (with_one_more t.pools (pool_made new))))) port_is
         ((each_making_is_shown x t node role id o).made true (place_for_one t.pools) words (with_one_more t.pools (pool_made new))
         (refusal_is true ∙ ap (option_map (refusal_of role)) allowed)
-        (order_is_ready_for_ports t order none).takes (free.nobody (free.empty (vacant t.pools)))
+        (order_is_ready_for_ports t order).takes (free.nobody (free.empty (vacant t.pools)))
         (subst (λ (u : HubTables). OthersStay (place_for_one t.pools) x t.pools words u.pools) same others)))
 
 -- where there is no memory, that is why

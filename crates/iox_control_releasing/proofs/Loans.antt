@@ -17,11 +17,12 @@ use Rattle.iox_tables.proofs.HubBooks.Frames.{AreAlike}
 use Rattle.iox_tables.proofs.HubBooks.Going.{same_there}
 use Rattle.iox_tables.proofs.HubBooks.HandleTotals.{handle_changed}
 use Rattle.iox_tables.proofs.HubBooks.Used.{handle_is}
+use Rattle.iox_tables.specs.HubKeeping.Connected.{KeepsNone}
 use Rattle.iox_control_releasing.specs.Goings.{StaysTidy}
 use Rattle.iox_control_releasing.proofs.Kept.{kept_bare}
 use Rattle.iox_control_releasing.proofs.Tidy.{none_more, others_have}
 
-module _ (t u : HubTables) (order : AreInOrder t) (after : AreInOrder u) (alike : AreAlike t.ports u.ports) (same : bare_pools t.pools ≡ bare_pools u.pools) where
+module _ (t u : HubTables) (order : AreInOrder t) (keeps : KeepsNone t.settings) (after : AreInOrder u) (alike : AreAlike t.ports u.ports) (same : bare_pools t.pools ≡ bare_pools u.pools) where
   -- a loan's message is of a pool whose port is connected
   elsewhere : (node n : ℕ) (h : HandleState) → IsHandle t node n h → is_own h.kind ≡ true
       → (place : ℕ) (p : PoolState) → pool_at t.pools place ≡ Some p → is_there t.ports p.port ≡ false → (h.pool == place) ≡ false
@@ -41,14 +42,14 @@ module _ (t u : HubTables) (order : AreInOrder t) (after : AreInOrder u) (alike 
 
   pub loan_ends : (node n : ℕ) (h : HandleState) → IsHandle t node n h → is_own h.kind ≡ true → u.handles ≡ dropped_handles node n t.handles → StaysTidy t u
   loan_ends node n h named own left place =
-      none_more t u place order after (kept_bare t.pools u.pools same) (λ p at there. same_there t.ports u.ports alike p.port ∙ there)
+      none_more t u place order keeps after (kept_bare t.pools u.pools same) (λ p at there. same_there t.ports u.ports alike p.port ∙ there)
       (λ p at gone k.
       subst (λ hs. handle_uses t.handles place k ≤ handle_uses hs place k) (sym left)
       (others_have t h node n place order named (elsewhere node n h named own place p at gone) k))
 
   pub loan_waits : (h : HandleState) (count : ℕ) → IsHandle t h.node h.number h → u.handles ≡ changed_handles (pending_of h count) t.handles → StaysTidy t u
   loan_waits h count named left place =
-      none_more t u place order after (kept_bare t.pools u.pools same) (λ p at there. same_there t.ports u.ports alike p.port ∙ there)
+      none_more t u place order keeps after (kept_bare t.pools u.pools same) (λ p at there. same_there t.ports u.ports alike p.port ∙ there)
       (λ p at gone k.
       subst (λ hs. handle_uses t.handles place k ≤ handle_uses hs place k) (sym left)
       (let all = handle_changed (λ g. if is_at place k g then 1 else 0) t.handles (pending_of h count) h named.there in omega (arith, all)))

@@ -26,6 +26,8 @@ use Rattle.iox_tables.proofs.HubBooks.Release.{handles_apart}
 use Rattle.iox_tables.proofs.HubBooks.Ways.{between, some_lane}
 use Rattle.iox_tables.specs.HubMaking.Disconnections.{ports_without, with_disconnected}
 use Rattle.iox_tables.proofs.HubMaking.Disconnecting.{there_left}
+use Rattle.iox_tables.specs.HubKeeping.Connected.{KeepsNone}
+use Rattle.iox_tables.proofs.HubKeeping.Absent.{sender_there}
 use Rattle.iox_slots.specs.Pools.{with_slot}
 use Rattle.iox_slots.specs.Slots.{is_free, let_go, slot_in}
 use Rattle.iox_slots.proofs.PlaceLemmas.{idle_holders}
@@ -43,14 +45,14 @@ if_first true n some = refl
 if_first false n some = absurd (omega (arith, some))
 
 -- no lane has: lanes are of connected ports
-not_on_lanes : (t : HubTables) (place k : ℕ) → AreInOrder t → is_there t.ports (owner_of t.pools place) ≡ false → on_lanes (lane_count place k) t.ports ≡ 0
-not_on_lanes t place k order gone = step (on_lanes (lane_count place k) t.ports) refl
+not_on_lanes : (t : HubTables) (place k : ℕ) → AreInOrder t → KeepsNone t.settings → is_there t.ports (owner_of t.pools place) ≡ false → on_lanes (lane_count place k) t.ports ≡ 0
+not_on_lanes t place k order keeps gone = step (on_lanes (lane_count place k) t.ports) refl
   where
     step : (n : ℕ) → on_lanes (lane_count place k) t.ports ≡ n → n ≡ 0
     step zero e = refl
     step (suc n) e =
         let lane = some_lane t order (lane_count place k) (omega (arith, e)) in
-        let is = between t order lane.0 lane.1 lane.2 in
+        let is = between t order lane.0 lane.1 lane.2 (sender_there t order keeps lane.0 lane.1 lane.2) in
         let here = eqb-true lane.1.pool place (if_first (lane.1.pool == place) (how_often k (places_on lane.1)) lane.3) in
         absurd (true≢false (sym (ap (λ (o : Option PortState). is_some o) is.from) ∙ ap (is_there t.ports) (sym is.owner ∙ ap (owner_of t.pools) here) ∙ gone))
 
@@ -59,18 +61,18 @@ all_free [] none = refl
 all_free (s ∷ ss) none = ap₂ (λ (a b : Bool). a && b) (eq-eqb s.holders 0 (none 0)) (all_free ss (λ k. none (suc k)))
 
 -- So a pool of a port that is gone is idle once no handle has its messages.
-pub none_more : (t u : HubTables) (place : ℕ) → AreInOrder t → AreInOrder u → KeptPools t.pools u.pools
+pub none_more : (t u : HubTables) (place : ℕ) → AreInOrder t → KeepsNone t.settings → AreInOrder u → KeptPools t.pools u.pools
     → ((p : PoolState) → pool_at t.pools place ≡ Some p → is_there t.ports p.port ≡ true → is_there u.ports p.port ≡ true)
     → ((p : PoolState) → pool_at t.pools place ≡ Some p → is_there t.ports p.port ≡ false → (k : ℕ) → handle_uses t.handles place k ≤ handle_uses u.handles place k)
     → NoLeftPool t place → NoLeftPool u place
-none_more t u place order after kept left handles none q at idle =
+none_more t u place order keeps after kept left handles none q at idle =
     let p = kept place q at in
     ap (is_there u.ports) (sym (ap (λ (r : PoolState). r.port) p.2)) ∙ step p.0 p.1 (is_there t.ports p.0.port) refl
   where
     nobody : (p : PoolState) → pool_at t.pools place ≡ Some p → is_there t.ports p.port ≡ false → (k : ℕ) → (slot_at t.pools place k).holders ≡ 0
     nobody p was gone k =
         let all = order.counted place k in
-        let lanes = not_on_lanes t place k order (ap (is_there t.ports) (ap (λ (o : Option PoolState). option_map_or (λ r. r.port) o 0) was) ∙ gone) in
+        let lanes = not_on_lanes t place k order keeps (ap (is_there t.ports) (ap (λ (o : Option PoolState). option_map_or (λ r. r.port) o 0) was) ∙ gone) in
         let still = handles p was gone k in
         let now = after.counted place k in
         let no = idle_holders u.pools place k idle in omega (arith, all, lanes, still, now, no)
@@ -97,10 +99,10 @@ stays_there t n place order other p at there = there_left n t.ports p.port ∙ s
         absurd (true≢false (sym there ∙ ap (is_there t.ports) (eqb-true p.port n e) ∙ ap (λ (o : Option PortState). is_some o) is))
     step false e o is = there
 
-pub port_goes : (t u : HubTables) (n place : ℕ) → AreInOrder t → AreInOrder u → u ≡ record (with_disconnected t n) { pools = u.pools } → bare_pools t.pools ≡ bare_pools u.pools
+pub port_goes : (t u : HubTables) (n place : ℕ) → AreInOrder t → KeepsNone t.settings → AreInOrder u → u ≡ record (with_disconnected t n) { pools = u.pools } → bare_pools t.pools ≡ bare_pools u.pools
     → ((r : PortState) → port_in t.ports n ≡ Some r → (r.pool == place) ≡ false) → NoLeftPool t place → NoLeftPool u place
-port_goes t u n place order after is same other =
-    none_more t u place order after (kept_bare t.pools u.pools same)
+port_goes t u n place order keeps after is same other =
+    none_more t u place order keeps after (kept_bare t.pools u.pools same)
     (λ p at there. ap (λ (v : HubTables). is_there v.ports p.port) is ∙ stays_there t n place order other p at there)
     (λ p at gone k. subst (λ hs. handle_uses t.handles place k ≤ handle_uses hs place k) (sym (ap (λ (v : HubTables). v.handles) is)) (omega arith))
 
@@ -150,10 +152,10 @@ others_have t h node n place order named other k =
     let none : (if is_at place k h then suc zero else zero) ≡ zero = ap (λ (b : Bool). if b && (h.slot == k) then suc zero else zero) other in
     omega (arith, all, none)
 
-pub handle_ends : (t u : HubTables) (h : HandleState) (place : ℕ) → AreInOrder t → AreInOrder u → IsHandle t h.node h.number h
+pub handle_ends : (t u : HubTables) (h : HandleState) (place : ℕ) → AreInOrder t → KeepsNone t.settings → AreInOrder u → IsHandle t h.node h.number h
     → u ≡ record (with_ended t h) { pools = with_slot let_go t.pools h.pool h.slot } → (h.pool == place) ≡ false → NoLeftPool t place → NoLeftPool u place
-handle_ends t u h place order after named is other =
-    none_more t u place order after
+handle_ends t u h place order keeps after named is other =
+    none_more t u place order keeps after
     (kept_bare t.pools u.pools (let_go_bare t.pools h.pool h.slot ∙ ap (λ (v : HubTables). bare_pools v.pools) (sym is)))
     (λ p at there. ap (λ (v : HubTables). is_there v.ports p.port) is ∙ same_there t.ports (given_up_as h.kind t h).ports (up_alike t h h.kind) p.port ∙ there)
     (λ p at gone k.
@@ -169,10 +171,10 @@ value_goes t n place none q at idle =
 
 -- ---- a release
 
-pub release_tidies : (t end left new : HubTables) (h : HandleState) → AreInOrder t → AreInOrder end → IsHandle t h.node h.number h
+pub release_tidies : (t end left new : HubTables) (h : HandleState) → AreInOrder t → KeepsNone t.settings → AreInOrder end → IsHandle t h.node h.number h
     → end ≡ record (with_ended t h) { pools = with_slot let_go t.pools h.pool h.slot } → StaysTidy end left → StaysTidy left new → NoLeftPool new h.pool → StaysTidy t new
-release_tidies t end left new h order after named is first next gone place none = step (h.pool == place) refl
+release_tidies t end left new h order keeps after named is first next gone place none = step (h.pool == place) refl
   where
     step : (b : Bool) → (h.pool == place) ≡ b → NoLeftPool new place
     step true e = subst (NoLeftPool new) (eqb-true h.pool place e) gone
-    step false e = next place (first place (handle_ends t end h place order after named is e none))
+    step false e = next place (first place (handle_ends t end h place order keeps after named is e none))

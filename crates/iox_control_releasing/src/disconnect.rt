@@ -1,9 +1,8 @@
 //! A port goes of which nothing is left.
-ghost use Rattle.std.specs.Prelude.{◌≡◌, Some, option_map, true};
+ghost use Rattle.std.specs.Prelude.{◌≡◌, None, Some, option_map, true};
 ghost use Rattle.iox_tables.specs.HubStates.States.{Given, state_shown};
 ghost use Rattle.iox_tables.specs.HubStates.Tables.{PortState, port_in};
 ghost use Rattle.iox_tables.specs.HubBooks.Counts.{in_port, lane_count};
-ghost use Rattle.iox_tables.specs.HubBooks.Hubs.{AreInOrder};
 ghost use Rattle.iox_tables.specs.HubKeeping.Keeps.{lost_uses};
 ghost use Rattle.iox_tables.specs.HubLending.Emptying.{HasFewerHolders};
 ghost use Rattle.iox_tables.specs.HubMaking.Disconnections.{is_unused, with_disconnected, with_released};
@@ -21,7 +20,6 @@ use iox_control::Control;
 /// Takes the port of that number out, if there is one, and lets go of all messages that come to it.
 /// It tells the place of the port's pool.
 fn take_out(control: &mut Control, port: u64) -> Option<usize>
-    requires order { AreInOrder control.old.tables }
     ensures pool { result ≡ option_map (λ p. p.pool) (port_in control.old.tables.ports port) }
     ensures left { control.new.tables ≡ record (control.old.tables) {
       ports = without_port control.old.tables.ports port;
@@ -31,6 +29,7 @@ fn take_out(control: &mut Control, port: u64) -> Option<usize>
     ensures fewer { LetsGo control.old.tables.pools control.new.tables.pools
         (λ pool k. option_map_or (in_port (lane_count pool k))
         (port_in control.old.tables.ports port) 0) }
+    ensures unchanged { result ≡ None → control.new ≡ control.old }
 {
     match control.remove_port(port) {
         None => None,
@@ -81,9 +80,13 @@ fn take_port(control: &mut Control, port: u64) -> Option<usize>
     ensures fewer { HasFewerHolders control.old.tables.pools control.new.tables.pools
         (lost_uses control.old.tables port) }
 {
-    let pool = take_out(control, port);
-    cut_all(control, port);
-    pool
+    match take_out(control, port) {
+        None => None,
+        Some(pool) => {
+            cut_all(control, port);
+            Some(pool)
+        }
+    }
 }
 
 /// The port goes if nothing of it is left: neither its own value nor a handle. Its pool goes with

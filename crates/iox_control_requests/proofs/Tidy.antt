@@ -13,6 +13,7 @@ use Rattle.iox_tables.proofs.HubStates.Naming.{handle_node, handle_number}
 use Rattle.iox_tables.specs.HubBooks.Hubs.{AreInOrder}
 use Rattle.iox_tables.specs.HubBooks.Keeps.{bare_pools, delivers}
 use Rattle.iox_tables.proofs.HubBooks.Frames.{AreAlike, bare_ports, lanes_on_bare, states_on_bare}
+use Rattle.iox_tables.specs.HubKeeping.Connected.{KeepsNone}
 use Rattle.iox_control_releasing.specs.Goings.{StaysTidy}
 use Rattle.iox_control_releasing.proofs.Loans.{loan_ends, loan_waits}
 use Rattle.iox_control_requests.specs.declared.requested.Requested.{Requested}
@@ -22,7 +23,7 @@ use Rattle.iox_control_requests.specs.Sendings.{IsRequest, with_request_ended}
 use Rattle.iox_control_requests.specs.Servers.{request_ways}
 use Rattle.iox_tables.proofs.HubBooks.OneGiven.{gives_bare}
 
-module _ (t u : HubTables) (node n : ℕ) (h : HandleState) (order : AreInOrder t) (after : AreInOrder u) (request : IsRequest t node n)
+module _ (t u : HubTables) (node n : ℕ) (h : HandleState) (order : AreInOrder t) (keeps : KeepsNone t.settings) (after : AreInOrder u) (request : IsRequest t node n)
     (found : Some h ≡ handle_in t.handles node n) (same : bare_pools t.pools ≡ bare_pools u.pools)
   where
     abbrev back : HubTables
@@ -53,9 +54,9 @@ module _ (t u : HubTables) (node n : ℕ) (h : HandleState) (order : AreInOrder 
 
     pub offered_tidies : (r : Requested) → u ≡ record (with_request_ended t node n h r) { pools = u.pools } → StaysTidy t u
     offered_tidies (To count) is =
-        loan_waits t u order after (ap (λ (v : HubTables). bare_ports v.ports) is ∙ sent_alike) same h (length (ways_of back h t.settings.request_overflow)) named_itself
+        loan_waits t u order keeps after (ap (λ (v : HubTables). bare_ports v.ports) is ∙ sent_alike) same h (length (ways_of back h t.settings.request_overflow)) named_itself
         (ap (λ (v : HubTables). v.handles) is)
     offered_tidies ExceedsMaxActiveRequests is =
-        loan_ends t u order after (ap (λ (v : HubTables). bare_ports v.ports) is) same node n h named own (ap (λ (v : HubTables). v.handles) is)
+        loan_ends t u order keeps after (ap (λ (v : HubTables). bare_ports v.ports) is) same node n h named own (ap (λ (v : HubTables). v.handles) is)
     offered_tidies UnableToDeliver is =
-        loan_ends t u order after (ap (λ (v : HubTables). bare_ports v.ports) is ∙ back_alike) same node n h named own (ap (λ (v : HubTables). v.handles) is)
+        loan_ends t u order keeps after (ap (λ (v : HubTables). bare_ports v.ports) is ∙ back_alike) same node n h named own (ap (λ (v : HubTables). v.handles) is)

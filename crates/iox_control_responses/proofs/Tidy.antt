@@ -11,6 +11,7 @@ use Rattle.iox_tables.specs.HubBooks.Hubs.{AreInOrder}
 use Rattle.iox_tables.specs.HubBooks.Keeps.{bare_pools, delivers}
 use Rattle.iox_tables.proofs.HubBooks.Frames.{AreAlike, bare_ports, lanes_on_bare}
 use Rattle.iox_tables.specs.HubLoans.Questions.{is_named_by_client}
+use Rattle.iox_tables.specs.HubKeeping.Connected.{KeepsNone}
 use Rattle.iox_control_releasing.specs.Goings.{StaysTidy}
 use Rattle.iox_control_releasing.proofs.Loans.{loan_ends}
 use Rattle.iox_control_responses.specs.Responses.{IsResponse, is_shut, way_to_client, with_response_ended, with_response_offered, with_response_sent, with_way_emptied}
@@ -43,10 +44,10 @@ sent_handles t h = step (is_named_by_client t h false) (is_shut t h)
     step true false = refl
     step false c = refl
 
-pub offered_tidies : (t u : HubTables) (node n : ℕ) (h : HandleState) (fails : Bool) → AreInOrder t → AreInOrder u → IsResponse t node n
+pub offered_tidies : (t u : HubTables) (node n : ℕ) (h : HandleState) (fails : Bool) → AreInOrder t → KeepsNone t.settings → AreInOrder u → IsResponse t node n
     → Some h ≡ handle_in t.handles node n → u ≡ record (with_response_ended t node n h fails) { pools = u.pools } → bare_pools t.pools ≡ bare_pools u.pools → StaysTidy t u
-offered_tidies t u node n h fails order after response found is same =
+offered_tidies t u node n h fails order keeps after response found is same =
     let its : response.handle ≡ h = same_Some response.handle h (sym response.named.there ∙ sym found) in
-    loan_ends t u order after (ap (λ (v : HubTables). bare_ports v.ports) is ∙ sent_alike t h) same node n h
+    loan_ends t u order keeps after (ap (λ (v : HubTables). bare_ports v.ports) is ∙ sent_alike t h) same node n h
     (subst (IsHandle t node n) its response.named) (ap (λ (k : HandleState). is_own k.kind) (sym its) ∙ ap is_own response.kind)
     (ap (λ (v : HubTables). v.handles) is ∙ ap (dropped_handles node n) (sent_handles t h))

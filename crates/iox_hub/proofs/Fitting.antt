@@ -28,10 +28,12 @@ use Rattle.iox_tables.specs.HubStates.Releases.{pending_states, request_of}
 use Rattle.iox_tables.specs.HubStates.Wirings.{IsPending, IsServer, handle_in}
 use Rattle.iox_tables.specs.HubBooks.Hubs.{AreInOrder}
 use Rattle.iox_tables.specs.HubBooks.Keeps.{bare_pool, bare_pools, bare_slot}
+use Rattle.iox_tables.specs.HubKeeping.Connected.{KeepsNone}
 use Rattle.iox_tables.proofs.HubBooks.Frames.{AreAlike, bare_ports, port_before, states_on_bare, visits_bare}
 use Rattle.iox_tables.proofs.HubBooks.Going.{each_last}
 use Rattle.iox_tables.proofs.HubBooks.Sendable.{of_role}
 use Rattle.iox_tables.proofs.HubBooks.Structures.{same_slot}
+use Rattle.iox_tables.proofs.HubKeeping.Ordered.{nothing_is_kept}
 use Rattle.iox_tables.proofs.HubBooks.Visited.{GotFrom, got_is}
 use Rattle.iox_control.specs.Controls.{ControlState, IsButHolders, with_hint, with_tables}
 use Rattle.iox_hub.specs.Fits.{IsOneIfItGrows, SuitsHandle, WordsFit, are_requests_in, count_in, is_full_loan, is_of_request, longest_in, many_by}
@@ -104,12 +106,12 @@ module _ {many : Bool × Bool} (words : List (Option Carried)) (t : HubTables) (
   no_loan Client = refl
   no_loan Server = refl
 
-  module _ (order : AreInOrder t) (node n lane : ℕ) (p : PortState) (there : port_in t.ports n ≡ Some p) (role : Role) (role_is : p.role ≡ role) (wanted : Wanted) where
+  module _ (order : AreInOrder t) (none : KeepsNone t.settings) (node n lane : ℕ) (p : PortState) (there : port_in t.ports n ≡ Some p) (role : Role) (role_is : p.role ≡ role) (wanted : Wanted) where
     suited : (v : Visits) → GotFrom wanted (labels_of t.pools) lane (pipes_of p) v → IsSuited node role n v
     suited (Got s pool k) c =
         let w : Way = record { sender = s; receiver = n; lane = lane } in
         let on_way : lane_on t.ports w ≡ Some c.0 = ap (λ o. slice_get (lanes_from (option_map_or pipes_of o []) s) lane) there ∙ c.1 in
-        let senders : senders_of (pipes_of p) ≡ senders_of p.incoming.pipes = ap (λ (es : List PipeState). senders_of (es ++ p.incoming.pipes)) (order.wired.none_kept n p there) in
+        let senders : senders_of (pipes_of p) ≡ senders_of p.incoming.pipes = ap (λ (es : List PipeState). senders_of (es ++ p.incoming.pipes)) (nothing_is_kept t n p order none there) in
         let q = of_role t order (other_role p.role) s (number-among s _ (sym (ap (has_number s) (senders ∙ (order.wired.each n p there).senders)) ∙ c.4)) in
         record {
           kind = ap (are_requests_in words) (sym c.2 ∙ (order.lanes w c.0 q.0 on_way q.1).of_pool)
@@ -151,16 +153,16 @@ module _ {many : Bool × Bool} (words : List (Option Carried)) (t : HubTables) (
 
 -- ---- the calls
 
-module _ {many : Bool × Bool} (words : List (Option Carried)) (t t' : HubTables) (fit : WordsFit many words t) (order : AreInOrder t) (node n : ℕ) where
+module _ {many : Bool × Bool} (words : List (Option Carried)) (t t' : HubTables) (fit : WordsFit many words t) (order : AreInOrder t) (none : KeepsNone t.settings) (node n : ℕ) where
   pub fits_request : IsServer t node n → IsButHolders (with_request t node n) t' → WordsFit many words t'
   fits_request server is =
-      fits_received words t fit order node n 0 server.port server.there Server server.server (wanted_by_server t.settings.fire_and_forget) t' is
+      fits_received words t fit order none node n 0 server.port server.there Server server.server (wanted_by_server t.settings.fire_and_forget) t' is
 
   pub fits_response : (pending : IsPending t node n) → IsButHolders (with_response t node pending.handle) t' → WordsFit many words t'
   fits_response pending is =
       let h : HandleState = pending.handle in
       let l : Label = labels_of t.pools h.pool h.slot in
-      fits_received words t fit order node h.port l.lane pending.port pending.there Client pending.client (Of l.request) t' is
+      fits_received words t fit order none node h.port l.lane pending.port pending.there Client pending.client (Of l.request) t' is
 
 -- request states alone are others
 pub fits_states : {many : Bool × Bool} (words : List (Option Carried)) (t : HubTables) (g : RequestState → RequestState) (ws : List Way) → WordsFit many words t → WordsFit many words (with_states g t ws)

@@ -57,10 +57,10 @@ pub borrows_hold : {h : HubState} → IsHub h → BorrowsHold h
 borrows_hold {h} hub w = borrows_rest_within (state_of_hub hub.reached.0 h) w hub.reached.1
 
 pub hub_buffers_hold : {h : HubState} → IsHub h → BuffersHold h.control.tables
-hub_buffers_hold {h} hub = buffers_hold h.control.tables hub.control.order (given_by hub.reached.0 h) hub.reached.1
+hub_buffers_hold {h} hub = buffers_hold h.control.tables hub.control.order hub.control.none (given_by hub.reached.0 h) hub.reached.1
 
 pub hub_slots : {h : HubState} → IsHub h → SlotsAreOfHolders h.control.tables
 hub_slots {h} hub = slots_are_of_holders h.control.tables hub.control.order
 
 pub hub_keeps_no_gone : {h : HubState} → IsHub h → KeepsNoGone h.control.tables
-hub_keeps_no_gone {h} hub = keeps_no_gone h.control.tables hub.control.order
+hub_keeps_no_gone {h} hub = keeps_no_gone h.control.tables hub.control.order hub.control.none

@@ -14,16 +14,18 @@ use Rattle.iox_tables.specs.HubStates.States.{Given, fixed_of, message_of, state
 use Rattle.iox_tables.specs.HubStates.Ways.{lane_on}
 use Rattle.iox_tables.specs.HubBooks.Handles.{IsOfPort}
 use Rattle.iox_tables.specs.HubBooks.Hubs.{AreInOrder}
+use Rattle.iox_tables.specs.HubKeeping.Connected.{KeepsNone}
 use Rattle.iox_tables.proofs.HubBooks.Used.{handle_is}
 use Rattle.iox_tables.proofs.HubBooks.Ways.{between}
+use Rattle.iox_tables.proofs.HubKeeping.Absent.{sender_there}
 use Rattle.iox_tables.proofs.HubStates.Fixing.{buffer_is}
 use Rattle.iox_tables.proofs.HubStates.Steps.{connected_is}
 use Rattle.iox_hub_laws.specs.Gone.{IsBetweenPorts, KeepsNoGone}
 use Rattle.iox_hub_laws.specs.Limits.{BuffersHold}
 
-module _ (t : HubTables) (order : AreInOrder t) where
+module _ (t : HubTables) (order : AreInOrder t) (none : KeepsNone t.settings) where
   lane_between : (w : Way) (l : LaneState) → lane_on t.ports w ≡ Some l → IsBetweenPorts t w
-  lane_between w l there = let p = between t order w l there in record { sender = ap is_some p.from; receiver = ap is_some p.to }
+  lane_between w l there = let p = between t order w l there (sender_there t order none w l there) in record { sender = ap is_some p.from; receiver = ap is_some p.to }
 
   pub keeps_no_gone : KeepsNoGone t
   keeps_no_gone = record {

@@ -27,7 +27,7 @@ returns-in-None-clause-tidy c =
     let order : IsControl c.is_unused.new.control = subst (λ (d : ControlState). IsControl d) (sym c.is_unused.ensures.unchanged) c.requires.order in
     rw (← c.is_unused.ensures.unchanged)
     (λ place none.
-    port_goes c.is_unused.new.control.tables c.take_port.new.control.tables c.args.port place order.order c.take_port.ensures.order.order
+    port_goes c.is_unused.new.control.tables c.take_port.new.control.tables c.args.port place order.order order.none c.take_port.ensures.order.order
     c.take_port.ensures.left c.take_port.ensures.fewer.same
     (λ r at. absurd (none-some r.pool (sym c.in-None.is ∙ c.take_port.ensures.pool ∙ ap (option_map (λ (p : PortState). p.pool)) at))) none)
 
@@ -38,7 +38,7 @@ returns-in-Some-clause-tidy c =
     (λ place none.
     pool_goes c.is_unused.new.control.tables c.take_port.new.control c.drop_pool.new.control c.args.port place c.in-Some.pool (sym c.in-Some.is ∙ c.take_port.ensures.pool)
     (λ other.
-    port_goes c.is_unused.new.control.tables c.take_port.new.control.tables c.args.port place order.order c.take_port.ensures.order.order
+    port_goes c.is_unused.new.control.tables c.take_port.new.control.tables c.args.port place order.order order.none c.take_port.ensures.order.order
     c.take_port.ensures.left c.take_port.ensures.fewer.same other none)
     (c.drop_pool.ensures.tidy place) c.drop_pool.ensures.gone)
 
