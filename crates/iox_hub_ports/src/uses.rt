@@ -2,7 +2,7 @@
 ghost use Rattle.std.specs.Prelude.{◌≡◌, ℕ, IfOk, None, Some, true, false};
 ghost use Rattle.iox_model.specs.declared.kind.Role.TheVariants.{Client, Server};
 ghost use Rattle.iox_model.specs.declared.way.RequestState.TheVariants.{Closed, Named};
-ghost use Rattle.iox_tables.specs.Visits.TheVariants.{Got, Nothing};
+ghost use Rattle.iox_tables.specs.Visits.TheVariants.{Got};
 ghost use Rattle.iox_tables.specs.Incomings.{connected, no_pipes};
 ghost use Rattle.iox_tables.specs.Pipes.{new_pipe};
 
@@ -159,29 +159,6 @@ pub fn both_are_kept(
 {
     let mut ports = Ports::new(alloc, 1)?;
     ports.add(one_client(alloc, id, 2)?);
-    ports.connect(1, Pipe::new(alloc, 2, 5, 1, 1, 1, 1)?);
-    ports.connect(1, Pipe::new(alloc, 3, 6, 1, 1, 1, 1)?);
-    ports.deliver(from_server(2), first);
-    ports.deliver(from_server(3), second);
-    ports.expire(1, 2);
-    ports.expire(1, 3);
-    let labels = OneLabel { label };
-    let got = ports.visit(1, 0, Wanted::Any, &labels);
-    Ok((got, ports.visit(1, 0, Wanted::Any, &labels)))
-}
-
-/// With room for one it gets the younger alone.
-pub fn the_older_is_given_up(
-    alloc: Global,
-    id: UniqueSystemId,
-    label: Label,
-    first: u64,
-    second: u64,
-) -> Result<(Visits, Visits), AllocError>
-    ensures { IfOk result (λ r. r ≡ (Got 3 6 second, Nothing)) }
-{
-    let mut ports = Ports::new(alloc, 1)?;
-    ports.add(one_client(alloc, id, 1)?);
     ports.connect(1, Pipe::new(alloc, 2, 5, 1, 1, 1, 1)?);
     ports.connect(1, Pipe::new(alloc, 3, 6, 1, 1, 1, 1)?);
     ports.deliver(from_server(2), first);
