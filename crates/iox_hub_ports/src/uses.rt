@@ -2,7 +2,7 @@
 ghost use Rattle.std.specs.Prelude.{◌≡◌, ℕ, IfOk, None, Some, true, false};
 ghost use Rattle.iox_model.specs.declared.kind.Role.TheVariants.{Client, Server};
 ghost use Rattle.iox_model.specs.declared.way.RequestState.TheVariants.{Closed, Named};
-ghost use Rattle.iox_tables.specs.Visits.TheVariants.{Got, Nothing};
+ghost use Rattle.iox_tables.specs.Visits.TheVariants.{Got};
 ghost use Rattle.iox_tables.specs.Incomings.{connected, no_pipes};
 ghost use Rattle.iox_tables.specs.Pipes.{new_pipe};
 
@@ -133,47 +133,36 @@ pub fn one_client(alloc: Global, id: UniqueSystemId, room: usize) -> Result<Port
         held: true,
         loans: 0,
     };
-    Ok(Port::new(
-        info,
-        Incoming::new(alloc, room)?,
-        Incoming::new(alloc, 2)?,
-    ))
+    Ok(Port::new(info, Incoming::new(alloc, room)?, Incoming::new(alloc, 2)?))
 }
 
-/// Two servers answer a client and go. With room for two it gets both answers, the older first;
-/// with room for one the younger alone; and without room none.
-pub fn two_answer_and_go(
+/// The way of responses from that server to client 1.
+fn from_server(sender: u64) -> Way
+    ensures { result ≡ record { sender = sender; receiver = 1; lane = 0 } }
+{
+    Way {
+        sender,
+        receiver: 1,
+        lane: 0,
+    }
+}
+
+/// Two servers answer a client and go. With room for two it gets both answers, the older first.
+pub fn both_are_kept(
     alloc: Global,
     id: UniqueSystemId,
     label: Label,
-    room: usize,
     first: u64,
     second: u64,
 ) -> Result<(Visits, Visits), AllocError>
-    ensures both { room ≡ 2 → IfOk result (λ r. r ≡ (Got 2 5 first, Got 3 6 second)) }
-    ensures younger { room ≡ 1 → IfOk result (λ r. r ≡ (Got 3 6 second, Nothing)) }
-    ensures none { room ≡ 0 → IfOk result (λ r. r ≡ (Nothing, Nothing)) }
+    ensures { IfOk result (λ r. r ≡ (Got 2 5 first, Got 3 6 second)) }
 {
     let mut ports = Ports::new(alloc, 1)?;
-    ports.add(one_client(alloc, id, room)?);
+    ports.add(one_client(alloc, id, 2)?);
     ports.connect(1, Pipe::new(alloc, 2, 5, 1, 1, 1, 1)?);
     ports.connect(1, Pipe::new(alloc, 3, 6, 1, 1, 1, 1)?);
-    ports.deliver(
-        Way {
-            sender: 2,
-            receiver: 1,
-            lane: 0,
-        },
-        first,
-    );
-    ports.deliver(
-        Way {
-            sender: 3,
-            receiver: 1,
-            lane: 0,
-        },
-        second,
-    );
+    ports.deliver(from_server(2), first);
+    ports.deliver(from_server(3), second);
     ports.expire(1, 2);
     ports.expire(1, 3);
     let labels = OneLabel { label };
