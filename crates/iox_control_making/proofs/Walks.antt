@@ -78,49 +78,46 @@ sizes_more ps p = λ i. record {
   server_kept = server_kept i;
 }
   where
-    abbrev k : ℕ
-    k = length p.expired.pipes
-
-    by_client : (c : ℕ) (r : Role) → (with_both (sizes_among ps) r c k).clients ≡ count_of Client ps + (if same_role r Client then 1 else 0)
+    by_client : (c : ℕ) (r : Role) → (with_both (sizes_among ps) r c (length p.expired.pipes)).clients ≡ count_of Client ps + (if same_role r Client then 1 else 0)
     by_client c Client = refl
     by_client c Server = omega arith
 
-    by_server : (c : ℕ) (r : Role) → (with_both (sizes_among ps) r c k).servers ≡ count_of Server ps + (if same_role r Server then 1 else 0)
+    by_server : (c : ℕ) (r : Role) → (with_both (sizes_among ps) r c (length p.expired.pipes)).servers ≡ count_of Server ps + (if same_role r Server then 1 else 0)
     by_server c Client = omega arith
     by_server c Server = refl
 
-    in_client : (c : ℕ) (r : Role) → (with_both (sizes_among ps) r c k).client_messages ≡ sizes_of Client ps + (if same_role r Client then c else 0)
+    in_client : (c : ℕ) (r : Role) → (with_both (sizes_among ps) r c (length p.expired.pipes)).client_messages ≡ sizes_of Client ps + (if same_role r Client then c else 0)
     in_client c Client = refl
     in_client c Server = omega arith
 
-    in_server : (c : ℕ) (r : Role) → (with_both (sizes_among ps) r c k).server_messages ≡ sizes_of Server ps + (if same_role r Server then c else 0)
+    in_server : (c : ℕ) (r : Role) → (with_both (sizes_among ps) r c (length p.expired.pipes)).server_messages ≡ sizes_of Server ps + (if same_role r Server then c else 0)
     in_server c Client = omega arith
     in_server c Server = refl
 
-    at_client : (c : ℕ) (r : Role) → (with_both (sizes_among ps) r c k).client_kept ≡ kept_of Client ps + (if same_role r Client then k * (if is_client r then c else 1) else 0)
+    at_client : (c : ℕ) (r : Role) → (with_both (sizes_among ps) r c (length p.expired.pipes)).client_kept ≡ kept_of Client ps + (if same_role r Client then length p.expired.pipes * (if is_client r then c else 1) else 0)
     at_client c Client = refl
     at_client c Server = omega arith
 
-    at_server : (c : ℕ) (r : Role) → (with_both (sizes_among ps) r c k).server_kept ≡ kept_of Server ps + (if same_role r Server then k * (if is_client r then c else 1) else 0)
+    at_server : (c : ℕ) (r : Role) → (with_both (sizes_among ps) r c (length p.expired.pipes)).server_kept ≡ kept_of Server ps + (if same_role r Server then length p.expired.pipes * (if is_client r then c else 1) else 0)
     at_server c Client = omega arith
-    at_server c Server = ap (λ n. kept_of Server ps + n) (sym (mul-one k))
+    at_server c Server = ap (λ n. kept_of Server ps + n) (sym (mul-one (length p.expired.pipes)))
 
-    clients : (with_both (sizes_among ps) p.role p.size k).clients ≡ count_of Client (ps ++ p ∷ [])
+    clients : (with_both (sizes_among ps) p.role p.size (length p.expired.pipes)).clients ≡ count_of Client (ps ++ p ∷ [])
     clients = by_client p.size p.role ∙ sym (count_more Client ps p)
 
-    servers : (with_both (sizes_among ps) p.role p.size k).servers ≡ count_of Server (ps ++ p ∷ [])
+    servers : (with_both (sizes_among ps) p.role p.size (length p.expired.pipes)).servers ≡ count_of Server (ps ++ p ∷ [])
     servers = by_server p.size p.role ∙ sym (count_more Server ps p)
 
-    client_messages : (with_both (sizes_among ps) p.role p.size k).client_messages ≡ sizes_of Client (ps ++ p ∷ [])
+    client_messages : (with_both (sizes_among ps) p.role p.size (length p.expired.pipes)).client_messages ≡ sizes_of Client (ps ++ p ∷ [])
     client_messages = in_client p.size p.role ∙ sym (total-last (λ q. if same_role q.role Client then q.size else 0) ps p)
 
-    server_messages : (with_both (sizes_among ps) p.role p.size k).server_messages ≡ sizes_of Server (ps ++ p ∷ [])
+    server_messages : (with_both (sizes_among ps) p.role p.size (length p.expired.pipes)).server_messages ≡ sizes_of Server (ps ++ p ∷ [])
     server_messages = in_server p.size p.role ∙ sym (total-last (λ q. if same_role q.role Server then q.size else 0) ps p)
 
-    client_kept : (with_both (sizes_among ps) p.role p.size k).client_kept ≡ kept_of Client (ps ++ p ∷ [])
+    client_kept : (with_both (sizes_among ps) p.role p.size (length p.expired.pipes)).client_kept ≡ kept_of Client (ps ++ p ∷ [])
     client_kept = at_client p.size p.role ∙ sym (total-last (λ q. if same_role q.role Client then length q.expired.pipes * width_of q else 0) ps p)
 
-    server_kept : (with_both (sizes_among ps) p.role p.size k).server_kept ≡ kept_of Server (ps ++ p ∷ [])
+    server_kept : (with_both (sizes_among ps) p.role p.size (length p.expired.pipes)).server_kept ≡ kept_of Server (ps ++ p ∷ [])
     server_kept = at_server p.size p.role ∙ sym (total-last (λ q. if same_role q.role Server then length q.expired.pipes * width_of q else 0) ps p)
 
 pub sizes_next : (ports : List PortState) (place : ℕ) (info : PortInfo) (s s' s'' : Sizes) (kept : ℕ) → s ≡ sizes_among (take place ports) → Some info ≡ info_at ports place
