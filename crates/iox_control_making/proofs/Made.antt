@@ -1,5 +1,5 @@
 -- A port that is made: the tables with it, and what is so of them.
-use Rattle.std.specs.Prelude.{◌≡◌, ◌⊎◌, ℕ, ◌+◌, ◌<◌, ◌≤◌, ◌^◌, Bool, true, false, ◌||◌, if◌then◌else◌, nat_le, List, [], ◌∷◌, ◌++◌, map, filter, length, Option, Some, None, refl}
+use Rattle.std.specs.Prelude.{◌≡◌, ◌⊎◌, ℕ, ◌+◌, ◌*◌, ◌<◌, ◌≤◌, ◌^◌, Bool, true, false, ◌||◌, if◌then◌else◌, nat_le, List, [], ◌∷◌, ◌++◌, map, filter, length, Option, Some, None, refl}
 use Rattle.std.proofs.Common.{sym, ap, ap₂, subst, ◌∙◌, arith, inl, inr}
 use Rattle.std.proofs.Math.Nat.{mul-le-mul, zero-mul}
 use Rattle.std.proofs.lemmas.Bool.{leb-false, or_parts}
@@ -110,18 +110,15 @@ module _ (settings : HubSettings) (new : PortState) where
       ∙ ap₂ (λ s k. with_kept (with_size s new.role new.size) new.role new.size k) (same_among ps) (ap (λ (es : List PipeState). length es) none)
       ∙ keeps_none (with_size (sizes_among ps) new.role new.size) new.role new.size
 
+times : (a b c d k : ℕ) → a ≤ c → b ≤ d → a * b + k ≤ c * d + k
+times a b c d k p q = let more : a * b ≤ c * d = mul-le-mul p q in omega (arith, more)
+
 -- with one port more there are no fewer lanes
 more_lanes : (s : Sizes) (role : Role) (size : ℕ) → all_lanes s ≤ all_lanes (with_size s role size)
 more_lanes s Client size =
-    more (mul-le-mul {s.servers} {s.client_messages + s.clients} {s.servers} {(s.client_messages + size) + (s.clients + 1)} (omega arith) (omega arith))
-  where
-    more : {a b k : ℕ} → a ≤ b → a + k ≤ b + k
-    more h = omega (arith, h)
+    times s.servers (s.client_messages + s.clients) s.servers ((s.client_messages + size) + (s.clients + 1)) (s.client_kept + s.server_kept) (omega arith) (omega arith)
 more_lanes s Server size =
-    more (mul-le-mul {s.servers} {s.client_messages + s.clients} {s.servers + 1} {s.client_messages + s.clients} (omega arith) (omega arith))
-  where
-    more : {a b k : ℕ} → a ≤ b → a + k ≤ b + k
-    more h = omega (arith, h)
+    times s.servers (s.client_messages + s.clients) (s.servers + 1) (s.client_messages + s.clients) (s.client_kept + s.server_kept) (omega arith) (omega arith)
 
 -- ---- the port is made
 
