@@ -7,7 +7,7 @@ pub loop-place-init : goal.loop-place-init
 loop-place-init c = record {
   sweeps = sweeps_begin c.args.control.now;
   order = c.requires.order;
-  size = ap (λ ps. length ps) (sym c.pools.ensures) ∙ sym c.places.ensures;
+  size = ap (λ ps. length ps) (sym c.pools.ensures) ∙ sym c.places-place-end.ensures;
 }
 
 pub loop-place-preserved : goal.loop-place-preserved
