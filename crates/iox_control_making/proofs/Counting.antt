@@ -95,7 +95,7 @@ first_either (e ∷ es) qs n q at = step (e.sender == n) (first_either es qs n q
     step false rest is = rest is
 
 both_length : {A : Type 0} (xs ys : List A) → length (xs ++ ys) ≡ length xs + length ys
-both_length [] ys = refl
+both_length [] ys = omega arith
 both_length (x ∷ xs) ys = let rest = both_length xs ys in omega (arith, rest)
 
 module _ (t : HubTables) (order : AreInOrder t) (f : LaneState → ℕ) (b : Role → ℕ)
