@@ -125,10 +125,14 @@ module _ {many : Bool × Bool} (words : List (Option Carried)) (t : HubTables) (
         on_way = ap (λ o. slice_get (lanes_from (option_map_or pipes_of o []) s) lane) there ∙ c.1
 
         waits : has_number k (places_on c.0) ≡ true
-        waits = has-append k c.0.waiting (c.0.taken ++ c.0.returned) ∙ first (has_number k c.0.waiting) (has_number k (c.0.taken ++ c.0.returned)) c.3
+        waits =
+            has-append k c.0.returned (c.0.waiting ++ c.0.taken)
+            ∙ second (has_number k c.0.returned) (has_number k (c.0.waiting ++ c.0.taken))
+            (has-append k c.0.waiting c.0.taken ∙ ap (λ (b : Bool). b || has_number k c.0.taken) c.3)
           where
-            first : (a b : Bool) → a ≡ true → (a || b) ≡ true
-            first a b e = ap (λ x. x || b) e
+            second : (a b : Bool) → b ≡ true → (a || b) ≡ true
+            second true b e = refl
+            second false b e = e
 
         used : 1 ≤ (slot_at t.pools pool k).holders
         used =
