@@ -40,7 +40,7 @@ info_none ports i e = step (slice_get ports i) refl e
 -- ---- lists
 
 pub total_append : {A : Type 0} (f : A → ℕ) (xs ys : List A) → total f (xs ++ ys) ≡ total f xs + total f ys
-total_append f [] ys = refl
+total_append f [] ys = omega arith
 total_append f (x ∷ xs) ys = sums (f x) _ _ _ (total_append f xs ys)
   where
     sums : (a b c d : ℕ) → b ≡ c + d → a + b ≡ (a + c) + d

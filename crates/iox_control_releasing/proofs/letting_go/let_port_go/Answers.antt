@@ -16,5 +16,5 @@ returns-clause-fewer c =
     c.let_pipes_go.ensures.fewer c.let_pipes_go-2.ensures.fewer)
     (λ pool k.
     ap₂ (λ (e i : IncomingState). total (in_pipe (lane_count pool k)) e.pipes + total (in_pipe (lane_count pool k)) i.pipes)
-    c.into_pipes.ensures.expired c.into_pipes.ensures.incoming
+    c.into_pipes-expired.ensures.expired c.into_pipes-expired.ensures.incoming
     ∙ sym (total_append (in_pipe (lane_count pool k)) c.args.port.expired.pipes c.args.port.incoming.pipes))
