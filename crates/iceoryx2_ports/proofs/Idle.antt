@@ -103,6 +103,10 @@ module _ (h : HubState) (hub : IsHub h) (w : Way) (away : IsAway h w) where
   abbrev ts : HubTables
   ts = h.control.tables
 
+  none_from : IsNoSender h w → (is_there ts.ports w.sender ≡ true) ⊎ (has_number w.sender (expired_in ts.ports w.receiver) ≡ true) → ⊥
+  none_from is (inl there) = true≢false (sym there ∙ is.there)
+  none_from is (inr kept) = true≢false (sym kept ∙ is.kept)
+
   no_lane : lane_on ts.ports w ≡ None
   no_lane = step (lane_on ts.ports w) refl
     where
@@ -112,10 +116,7 @@ module _ (h : HubState) (hub : IsHub h) (w : Way) (away : IsAway h w) where
           let between : IsToPort ts w = (hub_keeps_few_gone hub).lanes w l e in
           elim away as (λ q. lane_on ts.ports w ≡ None) [
             | inl is ↦ absurd (true≢false (sym between.receiver ∙ is))
-            | inr is ↦ elim (between.sender) as (λ q. lane_on ts.ports w ≡ None) [
-              | inl there ↦ absurd (true≢false (sym there ∙ is.there))
-              | inr kept ↦ absurd (true≢false (sym kept ∙ is.kept))
-            ]
+            | inr is ↦ absurd (none_from is between.sender)
           ]
 
   empty : (shown h).waiting w ≡ []
