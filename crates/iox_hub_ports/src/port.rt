@@ -122,7 +122,7 @@ impl Port {
         ensures changed { self.new ≡ with_lane_from (S.changed step.now) self.old sender lane }
     {
         match self.expired.rank(sender) {
-            Some(rank) => step.step(&mut self.expired, rank, lane), // its own borrows
+            Some(rank) => step.step(&mut self.expired, rank, lane),
             None => match self.incoming.rank(sender) {
                 Some(rank) => step.step(&mut self.incoming, rank, lane),
                 None => step.nothing(),
