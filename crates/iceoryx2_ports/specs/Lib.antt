@@ -32,6 +32,7 @@ pub use Rattle.iox_hub_laws.specs.Histories as HubHistories
 pub use Rattle.iox_hub_laws.specs.Limits as HubLimits
 pub use Rattle.iox_hub_laws.specs.Slots as HubSlots
 pub use Rattle.iox_hub_laws.specs.Gone as HubGone
+pub use Rattle.iox_tables.specs.HubKeeping.Connected as HubConnected
 -- for types of callers: values as words, words in parts, or of values that pass a test, and the
 -- words of std's types
 pub use Rattle.iox_words.specs.WordLists

@@ -22,7 +22,6 @@ use Rattle.iox_tables.proofs.HubMaking.Connecting.{shows_same}
 use Rattle.iox_tables.proofs.HubMaking.Firsts.{has_first}
 use Rattle.iox_tables.proofs.HubMaking.Removing.{new_pipes_have_room}
 use Rattle.iox_tables.proofs.HubMaking.Rooming.{room_always_stays}
-use Rattle.iox_tables.specs.HubKeeping.Connected.{KeepsNone}
 use Rattle.iox_tables.specs.HubKeeping.Keeps.{MayBeMade}
 use Rattle.iox_tables.proofs.HubKeeping.NewHandles.{makings_keep_order}
 use Rattle.iox_tables.proofs.HubKeeping.NewLanes.{new_lanes_are}
@@ -149,7 +148,7 @@ module _ (t : HubTables) (node : ℕ) (role : Role) (id : UniqueSystemId) (asked
     pub not_too_many : nat_le (most_of t.settings role) (count_of role t.ports) ≡ false
     not_too_many = tests.2
 
-    module _ (order : AreInOrder t) (none : KeepsNone t.settings)
+    module _ (order : AreInOrder t)
         (room : HaveRoom t) (counted : AreCounted t) where
       may : MayBeMade t new
       may = record { number = refl; place = (places_become_free t (place_for_one t.pools) order).empty (vacant t.pools); none = refl }
@@ -182,7 +181,6 @@ module _ (t : HubTables) (node : ℕ) (role : Role) (id : UniqueSystemId) (asked
       is_control : HaveBuffers t.settings → (r p : ℕ) → all_handles after t.settings.borrowed_responses t.settings.active_requests ≤ r → all_lanes after + length t.handles + r < 2 ^ 64
           → IsControl (record { tables = left; room = r; port_room = p })
       is_control buffers r p enough holders = record {
-        none = none;
         buffers = buffers;
         order = order_after;
         ports = (room_always_stays t).made new pools room not_too_many refl;
@@ -242,7 +240,6 @@ pub more_room : (c c' : ControlState) (role : Role) (size : ℕ) → IsControl c
 more_room c c' role size order same more either =
     subst (λ u. IsControl (record { tables = u; room = c'.room; port_room = c'.port_room })) (sym same)
     (record {
-      none = order.none;
       buffers = order.buffers;
       order = order.order;
       ports = order.ports;

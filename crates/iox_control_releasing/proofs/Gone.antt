@@ -108,7 +108,6 @@ module _ (c new : ControlState) (n : ℕ) (order : IsControl c) (there : is_ther
 
     pub port_gone : IsControl new
     port_gone = record {
-      none = subst (λ (s : HubTables). Rattle.iox_tables.specs.HubKeeping.Connected.KeepsNone s.settings) (sym is) order.none;
       buffers = subst (λ (s : HubTables). Rattle.iox_control.specs.Controls.HaveBuffers s.settings) (sym is) order.buffers;
       order = subst AreInOrder (sym is) (disconnections_keep_order t n new.tables.pools order.order there unused fewer);
       ports = subst Rattle.iox_tables.specs.HubMaking.OneByOne.HaveRoom (sym is)
@@ -238,7 +237,6 @@ module _ (c : ControlState) (place : ℕ) (order : IsControl c) where
 
   gone_control : IsFreePlace c.tables place → IsControl (with_pools c (without_pool c.tables.pools place))
   gone_control is = record {
-    none = order.none;
     buffers = order.buffers;
     order = pools_may_go c.tables place order.order is;
     ports = room_as c.tables (with_pool_gone c.tables place) refl refl order.ports;

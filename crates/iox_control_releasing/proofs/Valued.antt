@@ -43,7 +43,6 @@ module _ (c : ControlState) (n : ℕ) (order : IsControl c) where
 
   pub value_gone : IsControl (with_tables c u)
   value_gone = record {
-    none = order.none;
     buffers = order.buffers;
     order = values_keep_order t n order.order;
     ports = room_as t u refl (value_seats t.ports n) order.ports;

@@ -10,7 +10,7 @@ ghost use Rattle.iox_hub_ports.specs.Ports.{without_port};
 ghost use Rattle.std.specs.Option.{option_map_or};
 ghost use Rattle.iox_control.specs.Controls.{IsControl, with_pools};
 ghost use Rattle.iox_control_releasing.specs.LettingGo.{LetsGo};
-ghost use Rattle.iox_control_releasing.specs.Goings.{KeptPools, NoLeftPool, StaysTidy, with_left_pool_gone};
+ghost use Rattle.iox_control_releasing.specs.Goings.{IsTidy, KeptPools, NoLeftPool, StaysTidy, with_left_pool_gone};
 
 use crate::cutting::cut_all;
 use crate::letting_go::let_port_go;
@@ -63,14 +63,32 @@ pub fn drop_pool(control: &mut Control, place: usize)
     }
 }
 
-/// The port goes, of which nothing is left: with it go its pipes, and the messages on them. It
-/// tells the place of the port's pool, which stays. It is rare, so it is a call of its own.
+/// Each pool goes whose port is gone and of which nobody has a message. It is rare that ports go, so
+/// it is a call of its own.
 #[cold]
 #[inline(never)]
-fn take_port(control: &mut Control, port: u64) -> Option<usize>
+fn drop_left_pools(control: &mut Control)
+    requires order { IsControl control.old }
+    ensures left { control.new ≡ with_pools control.old control.new.tables.pools }
+    ensures order { IsControl control.new }
+    ensures shown { (x : Given) → state_shown x control.old.tables
+        ≡ state_shown x control.new.tables }
+    ensures pools { KeptPools control.old.tables.pools control.new.tables.pools }
+    ensures tidy { IsTidy control.new.tables }
+{
+    for place in 0..control.pools().places() {
+        drop_pool(control, place);
+    }
+}
+
+/// The port goes, of which nothing is left: with it go its pipes, and the messages on them. What
+/// waits from it is kept by those that keep it. All pools stay. It is rare, so it is a call of its
+/// own.
+#[cold]
+#[inline(never)]
+fn take_port(control: &mut Control, port: u64)
     requires order { IsControl control.old }
     requires unused { is_unused control.old.tables port ≡ true }
-    ensures pool { result ≡ option_map (λ p. p.pool) (port_in control.old.tables.ports port) }
     ensures left { control.new.tables ≡ record (with_disconnected control.old.tables port) {
       pools = control.new.tables.pools;
     } }
@@ -81,16 +99,14 @@ fn take_port(control: &mut Control, port: u64) -> Option<usize>
         (lost_uses control.old.tables port) }
 {
     match take_out(control, port) {
-        None => None,
-        Some(pool) => {
-            cut_all(control, port);
-            Some(pool)
-        }
+        None => {}
+        Some(_) => cut_all(control, port),
     }
 }
 
-/// The port goes if nothing of it is left: neither its own value nor a handle. Its pool goes with
-/// it, unless somebody still has a message of that.
+/// The port goes if nothing of it is left: neither its own value nor a handle. With it go the pools
+/// of ports that are gone of which nobody has a message any more: its own, and those of which
+/// messages were given up.
 #[inline(always)]
 pub fn disconnect_if_unused(control: &mut Control, port: u64)
     requires order { IsControl control.old }
@@ -105,9 +121,7 @@ pub fn disconnect_if_unused(control: &mut Control, port: u64)
     ensures tidy { StaysTidy control.old.tables control.new.tables }
 {
     if is_unused(control, port) {
-        match take_port(control, port) {
-            None => {}
-            Some(pool) => drop_pool(control, pool),
-        }
+        take_port(control, port);
+        drop_left_pools(control);
     }
 }

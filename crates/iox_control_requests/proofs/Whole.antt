@@ -50,7 +50,6 @@ use Rattle.iox_tables.specs.HubBooks.Hubs.{AreInOrder}
 use Rattle.iox_tables.specs.HubBooks.Keeps.{delivers}
 use Rattle.iox_tables.proofs.HubBooks.Held.{each_handle_from}
 use Rattle.iox_tables.proofs.HubBooks.Sendable.{requests_may_be_sent}
-use Rattle.iox_tables.specs.HubKeeping.Connected.{KeepsNone}
 use Rattle.iox_tables.proofs.HubKeeping.Ordered.{handle_may_go}
 use Rattle.iox_tables.specs.HubLoans.Counts.{AreOnNodes, IsOnNode, has_all_active}
 use Rattle.iox_tables.proofs.HubLoans.Counting.{each_count_is_the_same}
@@ -77,7 +76,7 @@ any_same f g client on same (n ∷ ns) acc before =
     step true = ap₂ (λ (a c : Bool). a || c) (same (request_way client n) refl) before
     step false = before
 
-module _ (t : HubTables) (order : AreInOrder t) (keeps : KeepsNone t.settings) (node n : ℕ) (h : HandleState) (named : IsHandle t node n h) (kind : h.kind ≡ RequestMut)
+module _ (t : HubTables) (order : AreInOrder t) (node n : ℕ) (h : HandleState) (named : IsHandle t node n h) (kind : h.kind ≡ RequestMut)
     (few : t.calls < 2 ^ 56) (x : Given)
   where
     abbrev s : m.State

@@ -46,7 +46,6 @@ use Rattle.iox_tables.specs.HubBooks.Keeps.{delivers}
 use Rattle.iox_tables.proofs.HubBooks.Frames.{length_map}
 use Rattle.iox_tables.proofs.HubBooks.Sendable.{responses_may_be_sent}
 use Rattle.iox_tables.proofs.HubBooks.Used.{handle_is}
-use Rattle.iox_tables.specs.HubKeeping.Connected.{KeepsNone}
 use Rattle.iox_tables.proofs.HubKeeping.Ordered.{handle_may_go}
 use Rattle.iox_tables.specs.HubLoans.Questions.{is_named_by_client}
 use Rattle.iox_tables.proofs.HubLoans.Asked.{awaited_are_named}
@@ -57,7 +56,7 @@ use Rattle.iox_hub_ports.specs.Ports.{on_way}
 use Rattle.iox_control.proofs.WholeLemmas.{handle_or, is_whole_of, not_over}
 use Rattle.iox_control_responses.specs.Responses.{way_to_client, with_way_emptied}
 
-module _ (t : HubTables) (order : AreInOrder t) (keeps : KeepsNone t.settings) (node n : ℕ) (h : HandleState) (named : IsHandle t node n h) (kind : h.kind ≡ ResponseMut)
+module _ (t : HubTables) (order : AreInOrder t) (node n : ℕ) (h : HandleState) (named : IsHandle t node n h) (kind : h.kind ≡ ResponseMut)
     (few : t.calls < 2 ^ 56) (x : Given)
   where
     abbrev w : Way

@@ -5,6 +5,7 @@ pub mod StillValues
 pub mod ReceivedValues
 pub mod Starting
 pub mod Shaping
+pub mod GoneFits
 pub mod Fitting
 pub mod Reading
 pub mod LoanReading

@@ -28,14 +28,14 @@ returns-in-Some-clause-shown c x =
     let all = all_go c.args.control.now c.take_out.new.control c.cut_all.new.control c.args.port c.requires.order
     c.take_out.ensures.left c.take_out.ensures.room c.take_out.ensures.fewer c.cut_all.ensures.left c.cut_all.ensures.fewer in
     gone_shown c.args.control.now c.cut_all.new.control c.args.port c.requires.order
-    (was_there c.args.control.now c.args.port c.in-Some.pool (sym c.in-Some.is ∙ c.take_out.ensures.pool)) c.requires.unused all.1.0 all.0 all.1.1 x
+    (was_there c.args.control.now c.args.port c.in-Some.field-0 (sym c.in-Some.is ∙ c.take_out.ensures.pool)) c.requires.unused all.1.0 all.0 all.1.1 x
 
 pub returns-in-Some-clause-order : goal.returns-in-Some-clause-order
 returns-in-Some-clause-order c =
     let all = all_go c.args.control.now c.take_out.new.control c.cut_all.new.control c.args.port c.requires.order
     c.take_out.ensures.left c.take_out.ensures.room c.take_out.ensures.fewer c.cut_all.ensures.left c.cut_all.ensures.fewer in
     port_gone c.args.control.now c.cut_all.new.control c.args.port c.requires.order
-    (was_there c.args.control.now c.args.port c.in-Some.pool (sym c.in-Some.is ∙ c.take_out.ensures.pool)) c.requires.unused all.1.0 all.0 all.1.1
+    (was_there c.args.control.now c.args.port c.in-Some.field-0 (sym c.in-Some.is ∙ c.take_out.ensures.pool)) c.requires.unused all.1.0 all.0 all.1.1
 
 pub returns-in-Some-clause-fewer : goal.returns-in-Some-clause-fewer
 returns-in-Some-clause-fewer c =

@@ -43,19 +43,19 @@ returns-in-UnableToDeliver-clause-pools g c =
 pub returns-in-To-clause-tidy : goal.returns-in-To-clause-tidy
 returns-in-To-clause-tidy g c =
     offered_tidies c.args.control.now.tables c.offer_request-requested.new.control.tables c.args.node c.args.number (handle_state c.in-Some.entry)
-    c.requires.order.order c.requires.order.none c.offer_request-requested.ensures.order.order c.requires.request c.in-Some.ensures c.offer_request-requested.ensures.pools c.offer_request-requested.result
+    c.requires.order.order c.offer_request-requested.ensures.order.order c.requires.request c.in-Some.ensures c.offer_request-requested.ensures.pools c.offer_request-requested.result
     (c.offer_request-requested.ensures.left (handle_state c.in-Some.entry) (sym c.in-Some.ensures))
 
 pub returns-in-ExceedsMaxActiveRequests-clause-tidy : goal.returns-in-ExceedsMaxActiveRequests-clause-tidy
 returns-in-ExceedsMaxActiveRequests-clause-tidy g c place none =
     c.disconnect_if_unused.ensures.tidy place
     (offered_tidies c.args.control.now.tables c.offer_request-requested.new.control.tables c.args.node c.args.number (handle_state c.in-Some.entry)
-    c.requires.order.order c.requires.order.none c.offer_request-requested.ensures.order.order c.requires.request c.in-Some.ensures c.offer_request-requested.ensures.pools c.offer_request-requested.result
+    c.requires.order.order c.offer_request-requested.ensures.order.order c.requires.request c.in-Some.ensures c.offer_request-requested.ensures.pools c.offer_request-requested.result
     (c.offer_request-requested.ensures.left (handle_state c.in-Some.entry) (sym c.in-Some.ensures)) place none)
 
 pub returns-in-UnableToDeliver-clause-tidy : goal.returns-in-UnableToDeliver-clause-tidy
 returns-in-UnableToDeliver-clause-tidy g c place none =
     c.disconnect_if_unused-in-UnableToDeliver.ensures.tidy place
     (offered_tidies c.args.control.now.tables c.offer_request-requested.new.control.tables c.args.node c.args.number (handle_state c.in-Some.entry)
-    c.requires.order.order c.requires.order.none c.offer_request-requested.ensures.order.order c.requires.request c.in-Some.ensures c.offer_request-requested.ensures.pools c.offer_request-requested.result
+    c.requires.order.order c.offer_request-requested.ensures.order.order c.requires.request c.in-Some.ensures c.offer_request-requested.ensures.pools c.offer_request-requested.result
     (c.offer_request-requested.ensures.left (handle_state c.in-Some.entry) (sym c.in-Some.ensures)) place none)

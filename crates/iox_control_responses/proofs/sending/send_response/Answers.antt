@@ -25,5 +25,5 @@ pub returns-clause-tidy : goal.returns-clause-tidy
 returns-clause-tidy c place none =
     c.disconnect_if_unused.ensures.tidy place
     (offered_tidies c.args.control.now.tables c.offer_response-responded.new.control.tables c.args.node c.args.number (handle_state c.in-Some.entry) c.args.fails
-    c.requires.order.order c.requires.order.none c.offer_response-responded.ensures.order.order c.requires.response c.in-Some.ensures
+    c.requires.order.order c.offer_response-responded.ensures.order.order c.requires.response c.in-Some.ensures
     (c.offer_response-responded.ensures.left (handle_state c.in-Some.entry) (sym c.in-Some.ensures)) c.offer_response-responded.ensures.pools place none)

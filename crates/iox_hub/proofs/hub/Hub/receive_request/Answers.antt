@@ -12,7 +12,7 @@ pub invariant_of-self : goal.invariant_of-self
 invariant_of-self g c =
     hub_goes_on _ c.receive_request.new.self c.args.node (Receive c.args.server) (reply_of_receive c.receive_request.result)
     c.self.invariant c.receive_request.ensures.order
-    (fits_request _ c.self.inside.control.tables c.receive_request.new.self.tables c.self.invariant.words c.self.invariant.control.order c.self.invariant.control.none c.args.node c.args.server
+    (fits_request _ c.self.inside.control.tables c.receive_request.new.self.tables c.self.invariant.words c.self.invariant.control.order c.args.node c.args.server
     (server_of_hub c.self.invariant c.args.self.now c.self.view_is c.args.node c.args.server c.requires.has) c.receive_request.ensures.left)
     c.receive_request.ensures.whole
 

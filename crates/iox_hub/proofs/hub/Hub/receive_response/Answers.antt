@@ -14,7 +14,7 @@ pub invariant_of-self : goal.invariant_of-self
 invariant_of-self g c =
     hub_goes_on _ c.receive_response.new.self c.args.node (Receive c.args.number) (reply_of_receive c.receive_response.result)
     c.self.invariant c.receive_response.ensures.order
-    (fits_response _ c.self.inside.control.tables c.receive_response.new.self.tables c.self.invariant.words c.self.invariant.control.order c.self.invariant.control.none c.args.node c.args.number
+    (fits_response _ c.self.inside.control.tables c.receive_response.new.self.tables c.self.invariant.words c.self.invariant.control.order c.args.node c.args.number
     (pending_of_hub c.self.invariant c.args.self.now c.self.view_is c.args.node c.args.number c.requires.has)
     (c.receive_response.ensures.left
     (pending_of_hub c.self.invariant c.args.self.now c.self.view_is c.args.node c.args.number c.requires.has).handle
