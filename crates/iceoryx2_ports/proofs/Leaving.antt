@@ -115,7 +115,7 @@ found_left (p ∷ ps) gone k e =
 any_before : (ps : List m.Port) (gone k : ℕ) → list_any (λ (p : m.Port). p.number == k) (filter (λ (p : m.Port). not (p.number == gone)) ps) ≡ true
     → list_any (λ (p : m.Port). p.number == k) ps ≡ true
 any_before [] gone k there = there
-any_before (p ∷ ps) gone k there = step (not (p.number == gone)) there
+any_before (p ∷ ps) gone k there = step (not (p.number == gone)) (any_before ps gone k) there
   where
     here : (c a b : Bool) → (a ≡ true → b ≡ true) → (c || a) ≡ true → (c || b) ≡ true
     here true a b rest e = refl
@@ -126,13 +126,14 @@ any_before (p ∷ ps) gone k there = step (not (p.number == gone)) there
     behind false b e = e
 
     step : (b : Bool)
+        → (list_any (λ (q : m.Port). q.number == k) (filter (λ (q : m.Port). not (q.number == gone)) ps) ≡ true → list_any (λ (q : m.Port). q.number == k) ps ≡ true)
         → list_any (λ (q : m.Port). q.number == k)
         (if b then p ∷ filter (λ (q : m.Port). not (q.number == gone)) ps else filter (λ (q : m.Port). not (q.number == gone)) ps) ≡ true
         → (p.number == k || list_any (λ (q : m.Port). q.number == k) ps) ≡ true
-    step true e =
+    step true rest e =
         here (p.number == k) (list_any (λ (q : m.Port). q.number == k) (filter (λ (q : m.Port). not (q.number == gone)) ps)) (list_any (λ (q : m.Port). q.number == k) ps)
-        (any_before ps gone k) e
-    step false e = behind (p.number == k) (list_any (λ (q : m.Port). q.number == k) ps) (any_before ps gone k e)
+        rest e
+    step false rest e = behind (p.number == k) (list_any (λ (q : m.Port). q.number == k) ps) (rest e)
 
 disconnected_leaves : (s : m.State) (gone : ℕ) → LeavesLess s (disconnected s gone)
 disconnected_leaves s gone = record {
