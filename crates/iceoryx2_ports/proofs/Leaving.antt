@@ -334,7 +334,7 @@ done_leaves s t node n reply done =
     let same : u.fixed ≡ s.fixed = moved_by-fixed s done.2 in
     subst (LeavesLess s) (sym done.9) (record {
       limits = l.limits ∙ ap (λ (f : m.Fixed). f.limits) same;
-      ports = λ k there. sym (ap (λ (f : m.Fixed). is_connected_port f k) (sym same)) ∙ l.ports k there;
+      ports = λ k there. sym (ap (λ (f : m.Fixed). is_connected_port f k) same) ∙ l.ports k there;
       roles = λ k there. l.roles k there ∙ ap (λ (f : m.Fixed). role_at f k) same;
       waiting = λ w. subst (λ (ms : List Message). length ((settled u node done.6 done.4).waiting w) ≤ length ms) (q.1 w) (l.waiting w);
       borrowed = λ w. subst (λ (f : m.Fixed). (settled u node done.6 done.4).fixed.borrowed w ≤ f.borrowed w) same (l.borrowed w);
