@@ -39,4 +39,4 @@ pub returns-in-Server-clause-grows : goal.returns-in-Server-clause-grows
 returns-in-Server-clause-grows g c = rw c.in-Server.is (on_err c.make-in-Server.result _ (Unit {0}) (λ e. tt) c.make-in-Server.ensures.unchanged)
 
 pub returns-in-Read-clause-grows : goal.returns-in-Read-clause-grows
-returns-in-Read-clause-grows g c = rw c.in-Read.is (on_err c.read.result _ (Unit {0}) (λ e. tt) c.read.ensures.unchanged)
+returns-in-Read-clause-grows g c = rw c.in-Read.is (on_err c.read.result _ (Unit {0}) (λ e. tt) c.read.ensures.wanting)
