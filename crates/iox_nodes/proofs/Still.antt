@@ -6,9 +6,9 @@ use Rattle.iox_types.specs.declared.identifiers.system_id.UniqueSystemId.{Unique
 use Rattle.iox_model.specs.declared.kind.Role.{Role}
 use Rattle.iox_model.specs.Commands.{Call, Create, HubCommand, Options, Refusal, Reply, Use}
 use Rattle.iox_model.specs.Ends.{port_dropped}
-use Rattle.iox_model.specs.Joins.{IsOpening, opening_refusal}
+use Rattle.iox_model.specs.Joins.{IsOpening, not_living, opening_refusal}
 use Rattle.iox_model.specs.Makings.{IsMaking, allocation_of, making_refusal, new_port}
-use Rattle.iox_model.specs.Services.{IsNodeCommand, not_living}
+use Rattle.iox_model.specs.Services.{IsNodeCommand}
 use Rattle.iox_model.specs.Settings.{Limits, is_static}
 use Rattle.iox_model.specs.States.{Port, State}
 use Rattle.iox_model.specs.WholeCalls.{IsWholeCall, moved_by}
