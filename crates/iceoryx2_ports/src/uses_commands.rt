@@ -17,6 +17,7 @@ type Command = PortCommand<Elements<u64, u64>, u64>;
 /// of memory.
 pub fn sends_by_number(
     hub: &mut Hub<One<u64>, (), One<u64>, ()>,
+    alloc: Global,
     node: u64,
     number: u64,
 ) -> PortReply<Vec<u64>, Infallible>
@@ -25,17 +26,18 @@ pub fn sends_by_number(
     ensures memory { wants_memory result ≡ false }
 {
     let command: Command = PortCommand::Send { node, number };
-    hub.apply(Global, command)
+    hub.apply(alloc, command)
 }
 
 /// A typed loan leaves what a command asks of a hub.
 pub fn loans_and_asks(
     client: &Client<One<u64>, (), One<u64>, ()>,
     hub: &mut Hub<One<u64>, (), One<u64>, ()>,
+    alloc: Global,
     server: u64,
 ) -> Result<PortReply<Vec<u64>, Infallible>, LoanError>
-    requires { HasValue hub.old client.now.node client.now.number kinds.Client }
-    requires { HaveDefaults hub.old }
+    requires has { HasValue hub.old client.now.node client.now.number kinds.Client }
+    requires defaults { HaveDefaults hub.old }
     ensures { HaveDefaults hub.new }
 {
     let loan = client.loan(hub)?;
@@ -44,5 +46,5 @@ pub fn loans_and_asks(
         node: 0,
         number: server,
     };
-    Ok(hub.apply(Global, command))
+    Ok(hub.apply(alloc, command))
 }
