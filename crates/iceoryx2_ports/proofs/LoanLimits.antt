@@ -1,7 +1,7 @@
 -- A client that has lent as many requests as it may is lent no more.
-use Rattle.std.specs.Prelude.{◌≡◌, ℕ, ◌+◌, ◌<◌, ◌^◌, Bool, true, false, not, ◌&&◌, ◌||◌, ◌==◌, nat_le, if◌then◌else◌, List, find, Option, None, Some, Result, Ok, Err, option_map, refl}
+use Rattle.std.specs.Prelude.{◌≡◌, ℕ, ◌+◌, ◌<◌, ◌≤◌, ◌^◌, Bool, true, false, not, ◌&&◌, ◌||◌, ◌==◌, nat_le, if◌then◌else◌, List, find, Option, None, Some, Result, Ok, Err, option_map, refl}
 use Rattle.std.specs.Option.{option_map_or}
-use Rattle.std.proofs.Common.{sym, ap, ap₂, ◌∙◌, arith, true≢false}
+use Rattle.std.proofs.Common.{sym, ap, ap₂, subst, ◌∙◌, arith, true≢false}
 use Rattle.std.proofs.lemmas.Bool.{le-leb}
 use Rattle.std.proofs.lemmas.Option.{none-some, same_Some}
 use Rattle.iox_model.specs.declared.call.Call.TheVariants.{Loan, LoanUninit}
@@ -17,6 +17,7 @@ use Rattle.iox_model.specs.Settings.{Limits, Shape, has_layout, is_count, shape_
 use Rattle.iox_model.specs.States as m
 use Rattle.iox_model.specs.WholeCalls.{IsWholeCall}
 use Rattle.iox_hub_laws.specs.Lends.{reply_of_loan}
+use Rattle.iox_hub_laws.specs.LoanRefusal.{LoanRefusal}
 use Rattle.iox_hub_laws.specs.LoanRefusal.TheVariants as tests
 use Rattle.iox_hub_laws.specs.Lent.{Lent}
 use Rattle.iox_hub_laws.specs.Lent.TheVariants as lents
@@ -31,10 +32,10 @@ use Rattle.iox_tables.proofs.HubStates.Fixing.{find_port, first_key}
 use Rattle.iox_tables.proofs.HubStates.Naming.{each_port_is_named}
 use Rattle.iox_hub_laws.specs.Hubs.{HasValue, HubState, IsHub, given_by, nothing_given, state_of_hub}
 use Rattle.iox_hub_laws.proofs.LendingNamed.{client_of_hub}
-use Rattle.iox_hub_laws.specs.Loans.{AnswersOfClient, answer_of}
+use Rattle.iox_hub_laws.specs.Loans.{AnswersOfClient, LoanAnswers, answer_of}
 use Rattle.iox_hub_laws.specs.Shown.{shown}
 use Rattle.iceoryx2_ports.specs.Copies.{error_of_test}
-use Rattle.iceoryx2_ports.specs.LoanLimits.{HasAllLoans, LendsLength, LendsOneMore}
+use Rattle.iceoryx2_ports.specs.LoanLimits.{HasAllLoans, LendsAtMostLongest, LendsLength, LendsOneMore}
 use Rattle.iceoryx2_ports.specs.declared.errors.LoanError.{LoanError}
 use Rattle.iceoryx2_ports.specs.declared.errors.LoanError.TheVariants as loan_errors
 use Rattle.iceoryx2_ports.proofs.Counted.{one_more_on_loan}
@@ -116,20 +117,34 @@ tag (replies.Refused ExceedsMaxLoans) = 1
 tag (replies.Refused r) = 2
 tag r = 3
 
-pub only_full : (lent : Lent) → reply_of_loan lent ≡ replies.Refused ExceedsMaxLoans → result_of lent ≡ Err loan_errors.ExceedsMaxLoans
-only_full (lents.Handle l) e = absurd (omega (arith, ap tag e))
-only_full (lents.Refused tests.CallsSpent) e = absurd (omega (arith, ap tag e))
-only_full (lents.Refused tests.WrongLength) e = absurd (omega (arith, ap tag e))
-only_full (lents.Refused tests.ExceedsMaxLoanSize) e = absurd (omega (arith, ap tag e))
-only_full (lents.Refused tests.ExceedsMaxLoans) e = refl
-only_full lents.OutOfMemory e = absurd (omega (arith, ap tag e))
+pub only_full : (p : PortState) (k : ℕ) (lent : Lent) → LoanAnswers p k (replies.Refused ExceedsMaxLoans) lent → result_of lent ≡ Err loan_errors.ExceedsMaxLoans
+only_full p k (lents.Handle l) e = absurd (omega (arith, ap tag e))
+only_full p k (lents.Refused tests.CallsSpent) e = absurd (omega (arith, ap tag e))
+only_full p k (lents.Refused tests.WrongLength) e = absurd (omega (arith, ap tag e))
+only_full p k (lents.Refused tests.ExceedsMaxLoanSize) e = absurd (omega (arith, ap tag e))
+only_full p k (lents.Refused tests.ExceedsMaxLoans) e = refl
+only_full p k (lents.Refused tests.WantOfMemory) e = absurd (omega (arith, ap tag e.1.1))
+only_full p k lents.OutOfMemory e = absurd (omega (arith, ap tag e))
+
+-- a message of no more elements than it has room for needs no memory
+pub short_never_wants : (p : PortState) (k : ℕ) (answer : Reply) (r : LoanRefusal) → r ≡ tests.WantOfMemory → LoanAnswers p k answer (lents.Refused r) → k ≤ p.longest → ⊥
+short_never_wants p k answer r e answers low =
+    let wants : LoanAnswers p k answer (lents.Refused tests.WantOfMemory) = subst (λ (q : LoanRefusal). LoanAnswers p k answer (lents.Refused q)) e answers in
+    let long : p.longest < k = wants.0.1 in omega (arith, long, low)
 
 -- At its limit a client is refused as such.
 pub refused_at_limit : (h : HubState) → IsHub h → (node client k : ℕ) (lent : Lent) → HasValue h node client kinds.Client → AnswersOfClient h client k lent
     → HasAllLoans h client k → result_of lent ≡ Err loan_errors.ExceedsMaxLoans
 refused_at_limit h hub node client k lent has answers all =
     let c : IsClient h.control.tables node client = is h hub node client k has in
-    only_full lent (answers c.port c.there ∙ full_answer h hub node client k has all)
+    only_full c.port k lent (subst (λ (a : Reply). LoanAnswers c.port k a lent) (full_answer h hub node client k has all) (answers c.port c.there))
+
+-- Up to its greatest length a client's loan never wants memory.
+pub loan_never_wants : (h : HubState) → IsHub h → (node client k : ℕ) (r : LoanRefusal) → r ≡ tests.WantOfMemory → HasValue h node client kinds.Client
+    → AnswersOfClient h client k (lents.Refused r) → LendsAtMostLongest h client k → ⊥
+loan_never_wants h hub node client k r e has answers short =
+    let c : IsClient h.control.tables node client = is h hub node client k has in
+    short_never_wants c.port k (answer_of h (lender_of_request c.port 0) k) r e (answers c.port c.there) (short c.port c.there)
 
 -- ---- one more
 

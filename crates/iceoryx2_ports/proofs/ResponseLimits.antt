@@ -9,7 +9,7 @@ use Rattle.iox_model.specs.declared.kind.Kind.TheVariants.{ActiveRequest}
 use Rattle.iox_model.specs.declared.kind.Role.{Role}
 use Rattle.iox_model.specs.declared.reply.Refusal.TheVariants.{CallsSpent, ExceedsMaxLoans, ExceedsMaxLoanSize, OutOfMemory, WrongLength}
 use Rattle.iox_model.specs.declared.reply.Reply.TheVariants as replies
-use Rattle.iox_model.specs.Commands.{Refusal}
+use Rattle.iox_model.specs.Commands.{Refusal, Reply}
 use Rattle.iox_model.specs.Handles.{handle_at}
 use Rattle.iox_model.specs.Loans.{fits_size, loans_of_request}
 use Rattle.iox_model.specs.Maps.{or_else, refused_if}
@@ -17,7 +17,10 @@ use Rattle.iox_model.specs.Peers.{port_at}
 use Rattle.iox_model.specs.Settings.{Limits, is_count, shape_of}
 use Rattle.iox_model.specs.States as m
 use Rattle.iox_model.specs.WholeCalls.{IsWholeCall}
+use Rattle.iox_hub_laws.specs.LoanRefusal.{LoanRefusal}
+use Rattle.iox_hub_laws.specs.LoanRefusal.TheVariants as tests
 use Rattle.iox_hub_laws.specs.Lent.{Lent}
+use Rattle.iox_hub_laws.specs.Lent.TheVariants as lents
 use Rattle.iox_tables.specs.HubLoans.Counts.{responses_on_loan, responses_to}
 use Rattle.iox_tables.specs.HubLoans.Lenders.{IsActive, Lender, calls_refusal, count_refusal_by, is_pool_to_be_dry, lender_of_response, loan_refusal, shape_in, size_refusal}
 use Rattle.iox_tables.specs.HubLoans.Loans.{loan_call}
@@ -31,12 +34,12 @@ use Rattle.iox_tables.proofs.HubStates.Fixing.{find_handle, find_port, first_key
 use Rattle.iox_tables.proofs.HubStates.Naming.{each_handle_is_named}
 use Rattle.iox_hub_laws.specs.Hubs.{HasValue, HubState, IsHub, given_by, nothing_given, state_of_hub}
 use Rattle.iox_hub_laws.proofs.LendingNamed.{active_of_hub}
-use Rattle.iox_hub_laws.specs.Loans.{AnswersOfRequest, answer_of}
+use Rattle.iox_hub_laws.specs.Loans.{AnswersOfRequest, LoanAnswers, answer_of}
 use Rattle.iox_hub_laws.specs.Shown.{shown}
-use Rattle.iceoryx2_ports.specs.LoanLimits.{HasAllResponses, RespondsLength, RespondsOneMore, most_responses, responses_lent, server_in}
+use Rattle.iceoryx2_ports.specs.LoanLimits.{HasAllResponses, RespondsAtMostLongest, RespondsLength, RespondsOneMore, most_responses, responses_lent, server_in}
 use Rattle.iceoryx2_ports.specs.declared.errors.LoanError.TheVariants as loan_errors
 use Rattle.iceoryx2_ports.proofs.Counted.{one_more_response}
-use Rattle.iceoryx2_ports.proofs.LoanLimits.{a_handle, not_refused, only_full, result_of, second_none}
+use Rattle.iceoryx2_ports.proofs.LoanLimits.{a_handle, not_refused, only_full, result_of, second_none, short_never_wants}
 use Rattle.iceoryx2_ports.proofs.Resting.{RestsSo, whole_rests}
 use Rattle.iceoryx2_ports.proofs.Staying.{whole_extends}
 
@@ -152,7 +155,16 @@ pub response_refused_at_limit : (h : HubState) → IsHub h → (node n k : ℕ) 
     → HasAllResponses h node n k → result_of lent ≡ Err loan_errors.ExceedsMaxLoans
 response_refused_at_limit h hub node n k lent has answers all =
     let a : IsActive h.control.tables node n = is h hub node n k has in
-    only_full lent (answers a.handle a.named.there a.port a.there ∙ full_answer h hub node n k has all)
+    only_full a.port k lent
+    (subst (λ (r : Reply). LoanAnswers a.port k r lent) (full_answer h hub node n k has all) (answers a.handle a.named.there a.port a.there))
+
+-- Up to the greatest length of a server a loan of its never wants memory.
+pub response_never_wants : (h : HubState) → IsHub h → (node n k : ℕ) (r : LoanRefusal) → r ≡ tests.WantOfMemory → HasValue h node n ActiveRequest
+    → AnswersOfRequest h node n k (lents.Refused r) → RespondsAtMostLongest h node n k → ⊥
+response_never_wants h hub node n k r e has answers short =
+    let a : IsActive h.control.tables node n = is h hub node n k has in
+    short_never_wants a.port k (answer_of h (lender_of_response h.control.tables a.handle a.port) k) r e (answers a.handle a.named.there a.port a.there)
+    (short (port_of (given_by (nothing_given h) h) a.port) (server_is h hub node n k has))
 
 -- ---- one more
 

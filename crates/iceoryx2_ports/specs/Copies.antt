@@ -23,6 +23,7 @@ error_of_test tests.CallsSpent = loan_errors.CallsSpent
 error_of_test tests.WrongLength = loan_errors.WrongLength
 error_of_test tests.ExceedsMaxLoanSize = loan_errors.ExceedsMaxLoanSize
 error_of_test tests.ExceedsMaxLoans = loan_errors.ExceedsMaxLoans
+error_of_test tests.WantOfMemory = loan_errors.WantOfMemory
 
 -- why a copy is not sent: no message is loaned for it, or it is not delivered
 abbrev pub copy_reply : SendError → Reply

@@ -14,5 +14,6 @@ pub(crate) fn error_of_test(refusal: LoanRefusal) -> LoanError
         LoanRefusal::WrongLength => LoanError::WrongLength,
         LoanRefusal::ExceedsMaxLoanSize => LoanError::ExceedsMaxLoanSize,
         LoanRefusal::ExceedsMaxLoans => LoanError::ExceedsMaxLoans,
+        LoanRefusal::WantOfMemory => LoanError::WantOfMemory,
     }
 }

@@ -69,6 +69,7 @@ pub(crate) fn lend_request<Q: Payload, QH: Words, P: Payload, PH: Words>(
         Lent::Refused(LoanRefusal::WrongLength) => Err(LoanError::WrongLength),
         Lent::Refused(LoanRefusal::ExceedsMaxLoanSize) => Err(LoanError::ExceedsMaxLoanSize),
         Lent::Refused(LoanRefusal::ExceedsMaxLoans) => Err(LoanError::ExceedsMaxLoans),
+        Lent::Refused(LoanRefusal::WantOfMemory) => Err(LoanError::WantOfMemory),
         Lent::OutOfMemory => Err(LoanError::OutOfMemory),
     }
 }
@@ -112,6 +113,7 @@ pub(crate) fn lend_response<Q: Payload, QH: Words, P: Payload, PH: Words>(
         Lent::Refused(LoanRefusal::WrongLength) => Err(LoanError::WrongLength),
         Lent::Refused(LoanRefusal::ExceedsMaxLoanSize) => Err(LoanError::ExceedsMaxLoanSize),
         Lent::Refused(LoanRefusal::ExceedsMaxLoans) => Err(LoanError::ExceedsMaxLoans),
+        Lent::Refused(LoanRefusal::WantOfMemory) => Err(LoanError::WantOfMemory),
         Lent::OutOfMemory => Err(LoanError::OutOfMemory),
     }
 }

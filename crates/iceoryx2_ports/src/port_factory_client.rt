@@ -96,7 +96,7 @@ impl<Q: Payload, QH: Words, P: Payload, PH: Words> PortFactoryClient<Q, QH, P, P
         PortFactoryClient { options, ..self }
     }
 
-    /// Whether its requests grow past the greatest length.
+    /// Whether its requests grow past the greatest length. Requests of one element never do.
     pub fn allocation_strategy(self, value: AllocationStrategy) -> Self
         ensures { result
             ≡ record self { options = record (self.options) { allocation = Some value } } }
@@ -108,8 +108,7 @@ impl<Q: Payload, QH: Words, P: Payload, PH: Words> PortFactoryClient<Q, QH, P, P
         PortFactoryClient { options, ..self }
     }
 
-    /// Makes the client. Where it is refused, all stays. A client whose requests would grow is
-    /// refused: there is no memory for it. Requests of one element never grow.
+    /// Makes the client. Where it is refused, all stays.
     pub fn create(
         self,
         alloc: Global,

@@ -108,7 +108,7 @@ impl<Q: Payload, QH: Words, P: Payload, PH: Words> PortFactoryServer<Q, QH, P, P
         PortFactoryServer { options, ..self }
     }
 
-    /// Whether its responses grow past the greatest length.
+    /// Whether its responses grow past the greatest length. Responses of one element never do.
     pub fn allocation_strategy(self, value: AllocationStrategy) -> Self
         ensures { result
             ≡ record self { options = record (self.options) { allocation = Some value } } }
@@ -120,8 +120,7 @@ impl<Q: Payload, QH: Words, P: Payload, PH: Words> PortFactoryServer<Q, QH, P, P
         PortFactoryServer { options, ..self }
     }
 
-    /// Makes the server. Where it is refused, all stays. A server whose responses would grow is
-    /// refused: there is no memory for it. Responses of one element never grow.
+    /// Makes the server. Where it is refused, all stays.
     pub fn create(
         self,
         alloc: Global,

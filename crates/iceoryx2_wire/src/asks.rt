@@ -16,8 +16,8 @@ use std::alloc::Global;
 impl<Q: Payload, QH: Words, P: Payload, PH: Words> Service<Q, QH, P, PH> {
     /// A node makes a port, or calls a port or a handle by its number. A port gets the id with
     /// which its node opened the service. It is refused as `UnknownNode` or `NodeIsDead` before all
-    /// that the port tests. Where there is no memory for a port or for what is read, that is a
-    /// reply, too; no other command is told so.
+    /// that the port tests. Where there is no memory for a port, for what is read or for a message
+    /// that grows, that is a reply, too; no other command is told so.
     ///
     /// It stands in its callers, since a call would copy the command and the reply once more.
     #[inline(always)]

@@ -4,7 +4,7 @@ ghost use Rattle.std.specs.Option.{option_map, option_map_or};
 ghost use Rattle.iox_model.specs.declared.kind.Role.TheVariants.{Server};
 ghost use Rattle.iox_model.specs.declared.way.RequestState.TheVariants.{Named};
 ghost use Rattle.iox_model.specs.Messages.{closed_for, response_way};
-ghost use Rattle.iox_lanes.specs.Lanes.{has_room, is_taken, offered, released, without_returned};
+ghost use Rattle.iox_lanes.specs.Lanes.{has_room, is_taken, offered, released, returned_times, without_returned};
 ghost use Rattle.iox_hub_ports.specs.HubStates.Changes.{with_lanes, with_states};
 ghost use Rattle.iox_hub_ports.specs.HubStates.Ends.{with_loan};
 ghost use Rattle.iox_hub_ports.specs.HubStates.Releases.{with_value_released};
@@ -79,6 +79,15 @@ impl Control {
         ensures unchanged { result ≡ None → self.new ≡ self.old }
     {
         self.ports.get_next_at(at, sender)
+    }
+
+    /// How often the port in that place gave the slot back on the lane from the sender, so that it
+    /// is left to get back.
+    pub fn returned_times_at(&self, at: usize, sender: u64, lane: u64, slot: u64) -> usize
+        ensures { result
+            ≡ on_way_at (λ l. returned_times l slot) 0 self.now.tables.ports at sender lane }
+    {
+        self.ports.returned_times_at(at, sender, lane, slot)
     }
 
     /// Puts a message last in line for the port in that place, on the lane from the sender, and

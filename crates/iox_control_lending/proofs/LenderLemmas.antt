@@ -30,7 +30,7 @@ use Rattle.iox_control_lending.specs.Lends.{IsAskedOf, Lends, given_after, lane_
 use Rattle.iox_control_lending.proofs.LaneLemmas.{found_passes}
 use Rattle.iox_control_lending.proofs.WholeLemmas.{MayTake, choice_of, lends_whole}
 
-names_it : (uninit : Bool) (n k : ℕ) → number_of (loan_call uninit n k) ≡ n
+pub names_it : (uninit : Bool) (n k : ℕ) → number_of (loan_call uninit n k) ≡ n
 names_it true n k = refl
 names_it false n k = refl
 

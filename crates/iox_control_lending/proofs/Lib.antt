@@ -11,3 +11,8 @@ pub mod LenderLemmas
 pub mod LendLemmas
 pub mod PortLemmas
 pub mod FillLemmas
+pub mod GotBack
+pub mod Foretold
+pub mod MayLemmas
+pub mod Wanting
+pub mod WantingCopies

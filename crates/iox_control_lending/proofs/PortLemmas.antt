@@ -10,7 +10,7 @@ use Rattle.iox_tables.specs.HubStates.Wirings.{handle_in}
 use Rattle.iox_hub_ports.specs.declared.info.PortInfo.{PortInfo}
 use Rattle.iox_hub_ports.specs.Ports.{info_in, info_of}
 use Rattle.iox_tables.specs.HubBooks.Hubs.{AreInOrder}
-use Rattle.iox_tables.specs.HubLoans.Lenders.{lender_of_request, lender_of_response}
+use Rattle.iox_tables.specs.HubLoans.Lenders.{Lender, lender_of_request, lender_of_response}
 use Rattle.iox_tables.proofs.HubLending.Owning.{number_is}
 use Rattle.iox_control.specs.Controls.{ControlState}
 use Rattle.iox_control.specs.Entries.{handle_state}
@@ -33,13 +33,19 @@ module _ (t : HubTables) (n : ℕ) (info : PortInfo) (p : PortState) (order : Ar
 abbrev pub request_of_port : PortInfo → Lending
 request_of_port info = record { port = info; client = info.number; lane = 0; request = info.loans % 2 ^ 62 }
 
+-- what is so of a client that lends, by what is told of it, is so of it
+pub request_so : (P : Lender → Type 0) (t : HubTables) (n : ℕ) (info : PortInfo) → AreInOrder t → Some info ≡ info_in t.ports n
+    → ((p : PortState) → port_in t.ports info.number ≡ Some p → P (lender_of p (request_of_port info)))
+    → (p : PortState) → port_in t.ports n ≡ Some p → P (lender_of_request p 0)
+request_so P t n info order found is p at =
+    subst P
+    (ap (λ (i : PortInfo). lender_of p (request_of_port i)) (info_is t n info p order at found))
+    (is p (there_by t n info p order at found))
+
 pub request_lent : (c new : ControlState) (n : ℕ) (info : PortInfo) (a : Asked) (result : Lent) → AreInOrder c.tables → Some info ≡ info_in c.tables.ports n
     → ((p : PortState) → port_in c.tables.ports info.number ≡ Some p → Lends c (lender_of p (request_of_port info)) a result new)
     → (p : PortState) → port_in c.tables.ports n ≡ Some p → Lends c (lender_of_request p 0) a result new
-request_lent c new n info a result order found lends p at =
-    subst (λ y. Lends c y a result new)
-    (ap (λ (i : PortInfo). lender_of p (request_of_port i)) (info_is c.tables n info p order at found))
-    (lends p (there_by c.tables n info p order at found))
+request_lent c new n info a result order found lends = request_so (λ y. Lends c y a result new) c.tables n info order found lends
 
 -- what the loan of an active request is for
 abbrev pub response_of_entry : Entry → PortInfo → Label → Lending
@@ -58,11 +64,20 @@ module _ (t : HubTables) (node n : ℕ) (e : Entry) (found : Some (handle_state 
       ap (λ (m : Label). lender_of p (response_of_entry e info m)) is
       ∙ ap (λ (k : HandleState). lender_of_response t k p) same_entry
 
+-- what is so of a server that lends, by what is told of it, is so of it
+pub response_so : (P : Lender → Type 0) (t : HubTables) (node n : ℕ) (e : Entry) (info : PortInfo) (label : Label) → AreInOrder t
+    → Some (handle_state e) ≡ handle_in t.handles node n → Some info ≡ info_in t.ports e.port → label ≡ labels_of t.pools e.pool e.slot
+    → ((p : PortState) → port_in t.ports info.number ≡ Some p → P (lender_of p (response_of_entry e info label)))
+    → (h : HandleState) (p : PortState) → handle_in t.handles node n ≡ Some h → port_in t.ports h.port ≡ Some p
+    → P (lender_of_response t h p)
+response_so P t node n e info label order entry found at is h p there port =
+    subst P (lender_is t node n e entry h there p info label at)
+    (is p (there_by t e.port info p order (port_at t node n e entry h there p port) found))
+
 pub response_lent : (c new : ControlState) (node n : ℕ) (e : Entry) (info : PortInfo) (label : Label) (a : Asked) (result : Lent) → AreInOrder c.tables
     → Some (handle_state e) ≡ handle_in c.tables.handles node n → Some info ≡ info_in c.tables.ports e.port → label ≡ labels_of c.tables.pools e.pool e.slot
     → ((p : PortState) → port_in c.tables.ports info.number ≡ Some p → Lends c (lender_of p (response_of_entry e info label)) a result new)
     → (h : HandleState) (p : PortState) → handle_in c.tables.handles node n ≡ Some h → port_in c.tables.ports h.port ≡ Some p
     → Lends c (lender_of_response c.tables h p) a result new
-response_lent c new node n e info label a result order entry found at lends h p there port =
-    subst (λ y. Lends c y a result new) (lender_is c.tables node n e entry h there p info label at)
-    (lends p (there_by c.tables e.port info p order (port_at c.tables node n e entry h there p port) found))
+response_lent c new node n e info label a result order entry found at lends =
+    response_so (λ y. Lends c y a result new) c.tables node n e info label order entry found at lends

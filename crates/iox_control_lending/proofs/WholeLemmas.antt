@@ -92,7 +92,7 @@ module _ (x : Given) (t : HubTables) (node n : ℕ) (a : Asked) (order : AreInOr
 -- ---- the loan of a lender, on the lane that it takes
 
 -- why a loan is refused does not depend on its lane
-refusal_same : (x : Given) (t : HubTables) (y : Lender) (k lane : ℕ) → loan_refusal x t (on_lane y lane) k ≡ loan_refusal x t y k
+pub refusal_same : (x : Given) (t : HubTables) (y : Lender) (k lane : ℕ) → loan_refusal x t (on_lane y lane) k ≡ loan_refusal x t y k
 refusal_same x t y k lane = ap (λ o. or_else (calls_refusal t) (or_else (size_refusal y.port (shape_in x t y.port) k) o)) (by_role y.port.role)
   where
     by_role : (role : Role) → count_refusal_by role t (on_lane y lane) ≡ count_refusal_by role t y

@@ -8,7 +8,7 @@ use Rattle.iox_model.specs.declared.reply.Reply.TheVariants as replies
 use Rattle.iox_model.specs.Commands.{Refusal, Reply}
 use Rattle.iox_model.specs.Settings.{Shape, has_layout, is_count}
 use Rattle.iox_model.specs.WholeCalls.{default_payload}
-use Rattle.iox_tables.specs.HubStates.Tables.{HubTables, PortState, SlotState, port_in, slot_at, slots_of}
+use Rattle.iox_tables.specs.HubStates.Tables.{HubTables, PoolState, PortState, SlotState, port_in, slot_at, slots_of}
 use Rattle.iox_tables.specs.HubStates.States.{Given}
 use Rattle.iox_hub_ports.specs.Ports.{info_of}
 use Rattle.iox_slots.specs.Pools.{with_slot}
@@ -17,6 +17,7 @@ use Rattle.iox_tables.specs.HubLoans.Counts.{is_lane_taken}
 use Rattle.iox_tables.specs.HubLoans.Lenders.{Lender, loan_refusal, shape_in}
 use Rattle.iox_tables.specs.HubLoans.Loans.{loaned_handle, with_handed_out, with_loaned}
 use Rattle.iox_tables.specs.HubLoans.Slots.{Contents, with_contents}
+use Rattle.iox_tables.specs.HubLending.Choosing.{IsFreeSlot}
 use Rattle.iox_tables.specs.HubLending.Emptying.{AreGotBack, with_back}
 use Rattle.iox_tables.specs.HubLending.Keeping.{has_holder}
 use Rattle.iox_control.specs.Controls.{ControlState, with_tables}
@@ -24,7 +25,7 @@ use Rattle.iox_control_lending.specs.declared.asked.Asked.{Asked}
 use Rattle.iox_control_lending.specs.declared.asked.Lending.{Lending}
 use Rattle.iox_control_lending.specs.declared.asked.Loaned.{Loaned}
 use Rattle.iox_control_lending.specs.declared.asked.LoanRefusal.{LoanRefusal}
-use Rattle.iox_control_lending.specs.declared.asked.LoanRefusal.TheVariants.{CallsSpent, WrongLength, ExceedsMaxLoanSize, ExceedsMaxLoans}
+use Rattle.iox_control_lending.specs.declared.asked.LoanRefusal.TheVariants.{CallsSpent, WrongLength, ExceedsMaxLoanSize, ExceedsMaxLoans, WantOfMemory}
 use Rattle.iox_control_lending.specs.declared.asked.Lent.{Lent}
 use Rattle.iox_control_lending.specs.declared.asked.Lent.TheVariants.{Handle, Refused, OutOfMemory}
 
@@ -41,6 +42,7 @@ refusal_of CallsSpent = refusals.CallsSpent
 refusal_of WrongLength = refusals.WrongLength
 refusal_of ExceedsMaxLoanSize = refusals.ExceedsMaxLoanSize
 refusal_of ExceedsMaxLoans = refusals.ExceedsMaxLoans
+refusal_of WantOfMemory = refusals.WantOfMemory
 
 -- what a loan answers
 abbrev pub reply_of_loan : Lent → Reply
@@ -127,6 +129,18 @@ pub record IsMade (c : ControlState) (y : Lender) (a : Asked) (l : Loaned) (new 
 pub record IsGotBack (c : ControlState) (p : PortState) (new : ControlState) : Type 0 where
   pub left : new ≡ with_tables c (with_back c.tables p new.tables.pools)
   pub back : AreGotBack c.tables p new.tables.pools
+
+-- Once the port got back all that was given back, nobody has some slot of its pool.
+pub record HasFreeThen (t : HubTables) (p : PortState) : Type 0 where
+  pub pools : List (Option PoolState)
+  pub back : AreGotBack t p pools
+  pub slot : ℕ
+  pub free : IsFreeSlot t p.number p pools slot
+
+-- No test refuses the loan, and there will be a slot for it.
+pub record MayBeMade (c : ControlState) (y : Lender) (a : Asked) : Type 0 where
+  pub passes : IsTold c.tables y a None
+  pub free : HasFreeThen c.tables y.port
 
 -- No test refuses the loan. All is got back, and it is made.
 pub record IsLoaned (c : ControlState) (y : Lender) (a : Asked) (l : Loaned) (new : ControlState)

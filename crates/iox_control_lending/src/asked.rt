@@ -35,7 +35,8 @@ pub struct Loaned {
     pub slot: u64,
 }
 
-/// Why no loan is made, but for the pool.
+/// Why no loan is made, but for the pool. Memory is for those who keep the words of messages: the
+/// tables take none.
 #[derive(Clone, Copy, Debug, PartialEq, Eq)]
 pub enum LoanRefusal {
     /// As many calls as may be were counted.
@@ -46,6 +47,8 @@ pub enum LoanRefusal {
     ExceedsMaxLoanSize,
     /// The port has as many loans as it may.
     ExceedsMaxLoans,
+    /// There is no memory for a message of so many elements.
+    WantOfMemory,
 }
 
 /// What a loan came to.

@@ -4,6 +4,7 @@
 mod asked;
 mod calls;
 mod counts;
+mod foretelling;
 mod lanes;
 mod lend;
 mod lowest;
@@ -14,6 +15,7 @@ mod writes;
 pub use asked::{Asked, Lending, Lent, LoanRefusal, Loaned, Place, Written};
 pub use calls::{lend_request, lend_response};
 pub use counts::{pendings_of, requests_on_loan, responses_on_loan, responses_to};
+pub use foretelling::{request_may_be_made, response_may_be_made};
 pub use lanes::{free_lane, is_lane_taken};
 pub use refusals::loan_refusal;
 pub use writes::{fill, write};

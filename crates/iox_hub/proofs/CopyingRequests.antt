@@ -3,13 +3,13 @@ use Rattle.std.specs.Prelude.{◌≡◌, ℕ, ◌<◌, ◌≤◌, Bool, true, fa
 use Rattle.std.specs.Option.{option_map, option_map_or}
 use Rattle.std.proofs.Common.{sym, ap, ap₂, subst, ◌∙◌, true≢false}
 use Rattle.std.proofs.lemmas.Option.{none-some}
-use Rattle.iox_store.specs.Stored.{Stored, unlent}
+use Rattle.iox_store.specs.Stored.{Stored, room_with, unlent}
 use Rattle.iox_model.specs.declared.call.Call.TheVariants.{SendCopy}
 use Rattle.iox_model.specs.declared.kind.Role.TheVariants.{Client}
 use Rattle.iox_hub_ports.specs.declared.info.PortInfo.{PortInfo}
 use Rattle.iox_hub_ports.specs.Ports.{info_in, info_of}
 use Rattle.iox_model.specs.Commands.{Payload}
-use Rattle.iox_model.specs.Settings.{fails_by_strategy, is_client, shape_of}
+use Rattle.iox_model.specs.Settings.{Shape, fails_by_strategy, is_client, shape_of}
 use Rattle.iox_model.specs.WholeCalls.{IsWholeCall}
 use Rattle.iox_tables.specs.HubBooks.Hubs.{AreInOrder}
 use Rattle.iox_tables.proofs.HubBooks.Frames.{AreAlike}
@@ -24,6 +24,7 @@ use Rattle.iox_control.specs.Controls.{ControlState, IsControl}
 use Rattle.iox_control_request_copies.specs.Asked.{Asked}
 use Rattle.iox_control_request_copies.specs.Loaned.{Loaned}
 use Rattle.iox_control_request_copies.specs.Place.{Place}
+use Rattle.iox_control_request_copies.specs.LoanRefusal.TheVariants.{WantOfMemory}
 use Rattle.iox_control_request_copies.specs.Lends.{IsAskedOf, on_lane}
 use Rattle.iox_control_request_copies.specs.Requests.{ways_of, with_request_sent}
 use Rattle.iox_control_request_copies.specs.declared.copied.Copied.{Copied}
@@ -31,15 +32,17 @@ use Rattle.iox_control_request_copies.specs.declared.copied.Copied.TheVariants.{
 use Rattle.iox_control_request_copies.specs.Copies.{AreFailuresOf, Copies, IsLentAndSent, IsLost, given_after_copy, handle_of_loan, loan_of, reply_of_copy, to_fill}
 use Rattle.iox_hub.specs.Copying.{HasCopied, IsAwaited, LeavesCopied, asked_of_copy, copied_stored, hub_with_copies}
 use Rattle.iox_hub.specs.Fits.{SuitsHandle, WordsFit, are_requests_in, count_in, longest_in}
+use Rattle.iox_hub.specs.Growing.{HasRoomFor}
 use Rattle.iox_hub.specs.Hubs.{HubState, IsHub, given_by, many_in, state_of_hub, with_control}
 use Rattle.iox_hub.specs.Lending.{payload_of, with_message}
 use Rattle.iox_hub.specs.Reads.{message_in}
 use Rattle.iox_hub.specs.Words.{Carried, stored_in}
+use Rattle.iox_hub.proofs.GrowingRoom.{loan_has_room, test_never_wants}
 use Rattle.iox_hub.proofs.CopyingWords.{lost_fits}
 use Rattle.iox_hub.proofs.Fitting.{fits_on}
 use Rattle.iox_hub.proofs.LendingCalls.{refused_left}
 use Rattle.iox_hub.proofs.LendingGiven.{IsNoUnfilled, filled_unread, given_put, hub_is_left}
-use Rattle.iox_hub.proofs.LendingMade.{back_fits, back_order, back_there, lent_fits_room, lent_requests, lent_within, loan_fits, loan_found, none_unfilled}
+use Rattle.iox_hub.proofs.LendingMade.{back_fits, back_order, back_there, lent_requests, lent_within, loan_fits, loan_found, none_unfilled}
 use Rattle.iox_hub.proofs.LendingWords.{requests_new, stored_new}
 use Rattle.iox_hub.proofs.LendingWrites.{changed_is_found, each_changed}
 use Rattle.iox_hub.proofs.Named.{handle_is_value}
@@ -123,8 +126,11 @@ module _ {h : HubState} (hub : IsHub h) (k : ℕ) (ws : List ℕ) (node n : ℕ)
     pub copy_within : place.slot < count_in h.words place.pool
     copy_within = lent_within hub h.request a y n c.client.there of asked l loaned sent.lent
 
-    pub copy_room : k ≤ longest_in h.words place.pool
-    copy_room = lent_fits_room hub h.request a y n c.client.there of asked l loaned sent.lent
+    pub copy_room : (spare : Option ℕ)
+        → ((p : PortState) → port_in h.control.tables.ports n ≡ Some p → HasRoomFor h (lender_of_request p 0) h.request k spare)
+        → k ≤ room_with (longest_in h.words place.pool) spare
+    copy_room spare room =
+        loan_has_room h h.request y n k spare c.client.there (room c.client.port c.client.there) a refl asked l loaned sent.lent
 
     pub copy_of : are_requests_in h.words place.pool ≡ true
     copy_of = lent_requests hub h.request a y n c.client.there of asked l loaned sent.lent true (ap is_client c.client.client)
@@ -282,3 +288,11 @@ module _ {h : HubState} (hub : IsHub h) (k : ℕ) (ws : List ℕ) (node n : ℕ)
   other_has OutOfMemory never = tt
   other_has ExceedsMaxActiveRequests never = tt
   other_has UnableToDeliver never = tt
+
+  -- memory is never wanted where the room is there
+  pub copy_never_wants : (result : Copied) → IsCopyCall h k ws node n new result → result ≡ Refused WantOfMemory → ⊥
+  copy_never_wants result c e =
+      let d : IsCopyCall h k ws node n new (Refused WantOfMemory) = subst (IsCopyCall h k ws node n new) e c in
+      test_never_wants (given_by hub.reached.0 h) h.control.tables (lender_of_request d.client.port 0) k
+      ((d.reply d.client.port d.client.there).told (given_by hub.reached.0 h)
+      (subst (λ (z : Shape). IsAskedOf z a) (sym (ap (shape_of (limits_of (given_by hub.reached.0 h) h.control.tables)) d.client.client)) (record { count = refl; layout = refl })))

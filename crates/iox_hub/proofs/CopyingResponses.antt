@@ -7,9 +7,9 @@ use Rattle.iox_model.specs.declared.kind.Role.TheVariants.{Server}
 use Rattle.iox_model.specs.Commands.{Payload}
 use Rattle.iox_model.specs.declared.way.Way.{Way}
 use Rattle.iox_model.specs.Requests.{fails_at}
-use Rattle.iox_model.specs.Settings.{fails_by_strategy, is_client, shape_of}
+use Rattle.iox_model.specs.Settings.{Shape, fails_by_strategy, is_client, shape_of}
 use Rattle.iox_model.specs.WholeCalls.{IsWholeCall}
-use Rattle.iox_store.specs.Stored.{Stored}
+use Rattle.iox_store.specs.Stored.{Stored, room_with}
 use Rattle.iox_tables.specs.HubBooks.Hubs.{AreInOrder}
 use Rattle.iox_tables.specs.HubLoans.Lenders.{IsActive, Lender, lender_of_response, shape_in}
 use Rattle.iox_tables.specs.HubLoans.Loans.{with_loaned}
@@ -24,17 +24,20 @@ use Rattle.iox_control_request_copies.specs.Answers.{Answers, IsInLine, IsLost, 
 use Rattle.iox_control_request_copies.specs.Asked.{Asked}
 use Rattle.iox_control_request_copies.specs.Loaned.{Loaned}
 use Rattle.iox_control_request_copies.specs.Place.{Place}
+use Rattle.iox_control_request_copies.specs.LoanRefusal.TheVariants.{WantOfMemory}
 use Rattle.iox_control_request_copies.specs.Lends.{IsAskedOf, IsLoaned, lane_by, on_lane}
 use Rattle.iox_control_request_copies.specs.Responses.{IsFailure, way_to_client}
 use Rattle.iox_hub.specs.Copying.{LeavesAnswered, asked_of_copy, copied_stored, hub_with_copies, place_of}
 use Rattle.iox_hub.specs.Fits.{WordsFit, are_requests_in, count_in, longest_in}
+use Rattle.iox_hub.specs.Growing.{HasRoomFor}
 use Rattle.iox_hub.specs.Hubs.{HubState, IsHub, given_by, many_in, state_of_hub, with_control}
 use Rattle.iox_hub.specs.Lending.{payload_of, with_message}
 use Rattle.iox_hub.specs.Words.{Carried, stored_in}
+use Rattle.iox_hub.proofs.GrowingRoom.{loan_has_room, test_never_wants}
 use Rattle.iox_hub.proofs.CopyingWords.{line_fits, lost_fits, none_there}
 use Rattle.iox_hub.proofs.LendingCalls.{refused_left}
 use Rattle.iox_hub.proofs.LendingGiven.{IsNoUnfilled, filled_unread, given_put, hub_is_left}
-use Rattle.iox_hub.proofs.LendingMade.{back_fits, back_order, lent_fits_room, lent_requests, lent_within}
+use Rattle.iox_hub.proofs.LendingMade.{back_fits, back_order, lent_requests, lent_within}
 use Rattle.iox_hub.proofs.SendingHubs.{fails_by_its_strategy}
 
 -- A copy of so many elements was asked of a hub for that active request, and came to this result.
@@ -125,9 +128,10 @@ module _ {h : HubState} (hub : IsHub h) (k : ℕ) (ws : List ℕ) (node n : ℕ)
     answer_within =
         subst (λ p. place.slot < count_in h.words p) (sym line.pool) (lent_within hub h.response a y c.active.handle.port c.active.there of asked l loaned as_loan)
 
-    pub answer_room : k ≤ longest_in h.words place.pool
-    answer_room =
-        subst (λ p. k ≤ longest_in h.words p) (sym line.pool) (lent_fits_room hub h.response a y c.active.handle.port c.active.there of asked l loaned as_loan)
+    pub answer_room : (spare : Option ℕ) → HasRoomFor h y h.response k spare → k ≤ room_with (longest_in h.words place.pool) spare
+    answer_room spare room =
+        subst (λ p. k ≤ room_with (longest_in h.words p) spare) (sym line.pool)
+        (loan_has_room h h.response y c.active.handle.port k spare c.active.there room a refl asked l loaned as_loan)
 
     pub answer_of : are_requests_in h.words place.pool ≡ false
     answer_of =
@@ -196,8 +200,12 @@ module _ {h : HubState} (hub : IsHub h) (k : ℕ) (ws : List ℕ) (node n : ℕ)
     pub put_within : place.slot < count_in h.words place.pool
     put_within = answer_within place as_done
 
-    pub put_room : k ≤ longest_in h.words place.pool
-    put_room = answer_room place as_done
+    pub put_room : (spare : Option ℕ)
+        → ((j : HandleState) (p : PortState) → handle_in h.control.tables.handles node n ≡ Some j → port_in h.control.tables.ports j.port ≡ Some p
+        → HasRoomFor h (lender_of_response h.control.tables j p) h.response k spare)
+        → k ≤ room_with (longest_in h.words place.pool) spare
+    put_room spare room =
+        answer_room place as_done spare (room as_done.active.handle as_done.active.port as_done.active.named.there as_done.active.there)
 
     pub put_of : are_requests_in h.words place.pool ≡ false
     put_of = answer_of place as_done
@@ -259,3 +267,11 @@ module _ {h : HubState} (hub : IsHub h) (k : ℕ) (ws : List ℕ) (node n : ℕ)
   other_left (Refused r) never c = refused_left h (lender_of_response h.control.tables c.active.handle c.active.port) a r new (left_of c)
   other_left OutOfMemory never c = refl
   other_left Undelivered never c = refl
+
+  -- memory is never wanted where the room is there
+  pub answer_never_wants : (result : Answered) → IsAnswerCall h k ws node n new result → result ≡ Refused WantOfMemory → ⊥
+  answer_never_wants result c e =
+      let d : IsAnswerCall h k ws node n new (Refused WantOfMemory) = subst (IsAnswerCall h k ws node n new) e c in
+      test_never_wants (given_by hub.reached.0 h) h.control.tables (lender_of_response h.control.tables d.active.handle d.active.port) k
+      ((left_of d).told (given_by hub.reached.0 h)
+      (subst (λ (z : Shape). IsAskedOf z a) (sym (ap (shape_of (limits_of (given_by hub.reached.0 h) h.control.tables)) d.active.server)) (record { count = refl; layout = refl })))

@@ -84,7 +84,7 @@ module _ {many : Bool × Bool} (words : List (Option Carried)) where
         let below : q.0.longest ≤ longest_in words q.0.pool = fit.longest m q.0 q.1 in
         let there : longest_in words q.0.pool ≡ longest_in words p.pool = ap (longest_in words) q.2.pool in
         let length_is = q.2.longest in omega (arith, below, there, length_is);
-    one = λ m p at. let q = lenders_were_there t.ports n m p at in one_as many q.0 p q.2.role q.2.longest q.2.grows (fit.one m q.0 q.1);
+    one = λ m p at. let q = lenders_were_there t.ports n m p at in one_as many q.0 p q.2.role q.2.longest (fit.one m q.0 q.1);
     handles = fit.handles;
   }
 

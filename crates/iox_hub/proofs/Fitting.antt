@@ -34,7 +34,7 @@ use Rattle.iox_tables.proofs.HubBooks.Sendable.{of_role}
 use Rattle.iox_tables.proofs.HubBooks.Structures.{same_slot}
 use Rattle.iox_tables.proofs.HubBooks.Visited.{GotFrom, got_is}
 use Rattle.iox_control.specs.Controls.{ControlState, IsButHolders, with_hint, with_tables}
-use Rattle.iox_hub.specs.Fits.{IsOneIfItGrows, SuitsHandle, WordsFit, are_requests_in, count_in, is_full_loan, is_of_request, longest_in, many_by}
+use Rattle.iox_hub.specs.Fits.{IsOneOfOne, SuitsHandle, WordsFit, are_requests_in, count_in, is_full_loan, is_of_request, longest_in, many_by}
 use Rattle.iox_hub.specs.Words.{Carried}
 
 -- ---- pools that differ in holders have the same slots
@@ -66,8 +66,8 @@ same_count old new same place =
 -- ---- they go on fitting
 
 -- a port of the same role and greatest length that is told the same is no other
-pub one_as : (many : Bool × Bool) (q p : PortState) → q.role ≡ p.role → q.longest ≡ p.longest → q.grows ≡ p.grows → IsOneIfItGrows many q → IsOneIfItGrows many p
-one_as many q p role longest grows is e = let one = is (grows ∙ e) in (ap (many_by many) (sym role) ∙ one.0, sym longest ∙ one.1)
+pub one_as : (many : Bool × Bool) (q p : PortState) → q.role ≡ p.role → q.longest ≡ p.longest → IsOneOfOne many q → IsOneOfOne many p
+one_as many q p role longest is e = sym longest ∙ is (ap (many_by many) role ∙ e)
 
 module _ {many : Bool × Bool} (words : List (Option Carried)) (t : HubTables) (fit : WordsFit many words t) where
   pub fits_on : (t' : HubTables) → AreAlike t.ports t'.ports → bare_pools t.pools ≡ bare_pools t'.pools → OfEachHandle (SuitsHandle words) t'.handles → WordsFit many words t'
@@ -84,7 +84,7 @@ module _ {many : Bool × Bool} (words : List (Option Carried)) (t : HubTables) (
         subst (λ (z : PortState). z.longest ≤ longest_in words z.pool) q.2 (fit.longest n q.0 q.1);
     one = λ n p at.
         let q = port_before t.ports t'.ports alike n p at in
-        subst (λ (z : PortState). IsOneIfItGrows many z) q.2 (fit.one n q.0 q.1);
+        subst (λ (z : PortState). IsOneOfOne many z) q.2 (fit.one n q.0 q.1);
     handles = handles;
   }
 

@@ -2,6 +2,7 @@
 use Rattle.std.specs.Prelude.{◌≡◌, ℕ, ◌<◌, ◌≤◌, Bool, List, Option, Some, refl}
 use Rattle.std.proofs.Common.{sym, ap, ap₂, subst, ◌∙◌}
 use Rattle.std.proofs.lemmas.Option.{same_Some}
+use Rattle.iox_store.specs.Stored.{room_with}
 use Rattle.iox_model.specs.declared.kind.Role.{Role}
 use Rattle.iox_model.specs.declared.kind.Role.TheVariants.{Client, Server}
 use Rattle.iox_model.specs.declared.reply.Reply.TheVariants as replies
@@ -20,16 +21,19 @@ use Rattle.iox_control.specs.Controls.{ControlState, IsControl}
 use Rattle.iox_control_request_copies.specs.Asked.{Asked}
 use Rattle.iox_control_request_copies.specs.Loaned.{Loaned}
 use Rattle.iox_control_request_copies.specs.LoanRefusal.{LoanRefusal}
+use Rattle.iox_control_request_copies.specs.LoanRefusal.TheVariants.{WantOfMemory}
 use Rattle.iox_control_request_copies.specs.Lent.{Lent}
 use Rattle.iox_control_request_copies.specs.Lent.TheVariants as lents
 use Rattle.iox_control_request_copies.specs.Lends.{FindsDry, IsAskedOf, IsLoaned, IsRefused, Lends, first_contents, given_after, refusal_of, reply_of_loan}
 use Rattle.iox_hub.specs.Fits.{are_requests_in, count_in, longest_in}
+use Rattle.iox_hub.specs.Growing.{HasRoomFor}
 use Rattle.iox_hub.specs.Hubs.{HubState, IsHub, given_by, state_of_hub, with_control}
 use Rattle.iox_hub.specs.Lending.{HasLent, IsFresh, LeavesLent, first_stored, with_message}
 use Rattle.iox_hub.specs.Words.{Carried, stored_in}
+use Rattle.iox_hub.proofs.GrowingRoom.{loan_has_room, test_never_wants}
 use Rattle.iox_hub.proofs.LendingGiven.{hub_is_left}
 use Rattle.iox_hub.proofs.LendingWrites.{found_has}
-use Rattle.iox_hub.proofs.LendingMade.{back_fits, lent_fits_room, lent_is_fresh, lent_is_hub, lent_requests, lent_whole, lent_within}
+use Rattle.iox_hub.proofs.LendingMade.{back_fits, lent_is_fresh, lent_is_hub, lent_requests, lent_whole, lent_within}
 
 -- the call of so many elements is the call that was asked
 turned_call : (P : Bool → ℕ → Type 0) (a : Asked) (uninit : Bool) (k : ℕ) → a.uninit ≡ uninit → a.elements ≡ k → P a.uninit a.elements → P uninit k
@@ -44,8 +48,8 @@ module _ {h : HubState} (hub : IsHub h) (shape : Shape) (uninit : Bool) (k : ℕ
     pub made_within : l.slot < count_in h.words l.pool
     made_within = lent_within hub shape a y n there of asked l new is
 
-    pub made_room : k ≤ longest_in h.words l.pool
-    made_room = subst (λ m. m ≤ longest_in h.words l.pool) count (lent_fits_room hub shape a y n there of asked l new is)
+    pub made_room : (spare : Option ℕ) → HasRoomFor h y shape k spare → k ≤ room_with (longest_in h.words l.pool) spare
+    made_room spare room = loan_has_room h shape y n k spare there room a count asked l new is
 
     pub made_of : (b : Bool) → is_client y.port.role ≡ b → are_requests_in h.words l.pool ≡ b
     made_of = lent_requests hub shape a y n there of asked l new is
@@ -178,7 +182,7 @@ module _ {h : HubState} (hub : IsHub h) (role : Role) (shape : Shape) (uninit : 
     pub call_within : l.slot < count_in h.words l.pool
     call_within = made_within hub shape uninit k c.asked c.count c.unfilled c.is_asked c.lender c.port c.there c.of new l c.left
 
-    pub call_room : k ≤ longest_in h.words l.pool
+    pub call_room : (spare : Option ℕ) → HasRoomFor h c.lender shape k spare → k ≤ room_with (longest_in h.words l.pool) spare
     call_room = made_room hub shape uninit k c.asked c.count c.unfilled c.is_asked c.lender c.port c.there c.of new l c.left
 
     pub call_of : are_requests_in h.words l.pool ≡ is_client role
@@ -227,3 +231,10 @@ module _ {h : HubState} (hub : IsHub h) (role : Role) (shape : Shape) (uninit : 
   other_has (lents.Handle l) never = absurd (never l refl)
   other_has (lents.Refused r) never = tt
   other_has lents.OutOfMemory never = tt
+
+  -- memory is never wanted where the room is there
+  pub call_never_wants : (result : Lent) → IsLoanCall h role shape uninit k node number new result → result ≡ lents.Refused WantOfMemory → ⊥
+  call_never_wants result c e =
+      let d : IsLoanCall h role shape uninit k node number new (lents.Refused WantOfMemory) = subst (IsLoanCall h role shape uninit k node number new) e c in
+      test_never_wants (given_by hub.reached.0 h) h.control.tables d.lender d.asked.elements
+      (d.left.told (given_by hub.reached.0 h) (subst (λ (z : Shape). IsAskedOf z d.asked) (sym (d.of hub.reached.0)) d.is_asked))

@@ -19,7 +19,6 @@ pub record IsAsBefore (q p : PortState) : Type 0 where
   pub role : q.role ≡ p.role
   pub pool : q.pool ≡ p.pool
   pub longest : q.longest ≡ p.longest
-  pub grows : q.grows ≡ p.grows
 
 -- each port that is found was there before
 abbrev pub PortsWereThere : List PortState → List PortState → Type 0
@@ -27,7 +26,7 @@ PortsWereThere old new =
     (n : ℕ) (p : PortState) → port_in new n ≡ Some p → (q : PortState) × (port_in old n ≡ Some q) × IsAsBefore q p
 
 pub ports_stay : (ports : List PortState) → PortsWereThere ports ports
-ports_stay ports n p at = (p, at, record { role = refl; pool = refl; longest = refl; grows = refl })
+ports_stay ports n p at = (p, at, record { role = refl; pool = refl; longest = refl })
 
 module _ (words : List (Option Carried)) (pool k : ℕ) (z : Stored) where
   abbrev new : List (Option Carried)
@@ -97,7 +96,7 @@ module _ (words : List (Option Carried)) (pool k : ℕ) (z : Stored) where
           let there : longest_in words q.0.pool ≡ longest_in words p.pool = ap (longest_in words) q.2.pool in
           let same = longest_new words pool k z p.pool in
           let length_is = q.2.longest in omega (arith, below, there, same, length_is);
-      one = λ n p at. let q = ports n p at in one_as many q.0 p q.2.role q.2.longest q.2.grows (fit.one n q.0 q.1);
+      one = λ n p at. let q = ports n p at in one_as many q.0 p q.2.role q.2.longest (fit.one n q.0 q.1);
       handles = handles;
     }
       where

@@ -3,21 +3,17 @@ use Rattle.std.specs.Prelude.{◌≡◌, ℕ, ◌+◌, ◌<◌, ◌≤◌, nat_l
 use Rattle.std.specs.List.{list_any}
 use Rattle.std.specs.Option.{option_map, option_map_or}
 use Rattle.std.proofs.Common.{sym, ap, ap₂, subst, ◌∙◌, arith, eqb-true, true≢false}
-use Rattle.std.proofs.lemmas.Bool.{leb-true}
 use Rattle.std.proofs.lemmas.List.{length-set}
-use Rattle.std.proofs.lemmas.Option.{none-some}
 use Rattle.iox_store.specs.Stored.{Stored, unlent}
 use Rattle.iox_model.specs.declared.kind.Role.{Role}
 use Rattle.iox_model.specs.declared.kind.Role.TheVariants.{Client, Server}
-use Rattle.iox_model.specs.declared.reply.Refusal.TheVariants as refusals
-use Rattle.iox_model.specs.Commands.{Call, Refusal, Reply}
+use Rattle.iox_model.specs.Commands.{Call, Reply}
 use Rattle.iox_model.specs.Loans.{kind_of_loan}
-use Rattle.iox_model.specs.Maps.{or_else, refused_if}
-use Rattle.iox_model.specs.Settings.{Shape, has_layout, is_client, is_count, shape_of}
+use Rattle.iox_model.specs.Settings.{Shape, is_client}
 use Rattle.iox_model.specs.WholeCalls.{IsWholeCall, default_payload, is_uninit}
 use Rattle.iox_tables.specs.HubStates.Changes.{emptied_lane}
 use Rattle.iox_tables.specs.HubStates.Ends.{OfEachHandle}
-use Rattle.iox_tables.specs.HubStates.States.{Given, limits_of, state_shown}
+use Rattle.iox_tables.specs.HubStates.States.{Given, state_shown}
 use Rattle.iox_tables.specs.HubStates.Tables.{HandleState, HubTables, PoolState, PortState, SlotState, first_by, pool_at, port_in, slot_at, slots_of}
 use Rattle.iox_tables.specs.HubStates.Ways.{with_port}
 use Rattle.iox_tables.specs.HubStates.Wirings.{handle_in}
@@ -25,7 +21,7 @@ use Rattle.iox_tables.proofs.HubStates.Keys.{same_mapped}
 use Rattle.iox_tables.specs.HubBooks.Hubs.{AreInOrder}
 use Rattle.iox_tables.proofs.HubBooks.Frames.{first_map, lanes_on_bare, some_map}
 use Rattle.iox_tables.proofs.HubBooks.Going.{each_last}
-use Rattle.iox_tables.specs.HubLoans.Lenders.{Lender, count_refusal_by, calls_refusal, loan_refusal, shape_in, size_refusal, ways_by}
+use Rattle.iox_tables.specs.HubLoans.Lenders.{Lender, shape_in, ways_by}
 use Rattle.iox_tables.specs.HubLoans.Loans.{loaned_handle, loaned_slot, with_loaned}
 use Rattle.iox_tables.specs.HubLoans.Slots.{Contents, IsUnused, is_place, put_slot, put_slot_of, with_contents}
 use Rattle.iox_tables.proofs.HubLoans.Placed.{or_false, pool_is, slot_is, slot_stays}
@@ -36,7 +32,7 @@ use Rattle.iox_control.specs.Controls.{ControlState, IsControl}
 use Rattle.iox_control_request_copies.specs.Asked.{Asked}
 use Rattle.iox_control_request_copies.specs.Loaned.{Loaned}
 use Rattle.iox_control_request_copies.specs.Lends.{IsAskedOf, IsGotBack, IsLoaned, first_contents, on_lane}
-use Rattle.iox_hub.specs.Fits.{SuitsHandle, WordsFit, are_requests_in, count_in, is_full_loan, is_of_request, longest_in, many_by}
+use Rattle.iox_hub.specs.Fits.{SuitsHandle, WordsFit, are_requests_in, count_in, is_full_loan, is_of_request}
 use Rattle.iox_hub.specs.Hubs.{HubState, IsHub, given_by, many_in, state_of_hub}
 use Rattle.iox_hub.specs.Lending.{IsFresh, first_stored, with_message}
 use Rattle.iox_hub.specs.Reads.{message_in}
@@ -65,29 +61,6 @@ filled_is_no_uninit : (role : Role) → is_uninit (kind_of_loan role false) ≡ 
 filled_is_no_uninit Client = refl
 filled_is_no_uninit Server = refl
 
--- ---- how long a loan may be
-
-both_none : (a b : Option Refusal) → or_else a b ≡ None → (a ≡ None) × (b ≡ None)
-both_none (Some r) b e = absurd (none-some r (sym e))
-both_none None b e = (refl, e)
-
-not_refused : (b : Bool) (r : Refusal) → refused_if b r ≡ None → b ≡ false
-not_refused true r e = absurd (none-some r (sym e))
-not_refused false r e = refl
-
-counted_one : (many one : Bool) → not (many || one) ≡ false → many ≡ false → one ≡ true
-counted_one true one e few = absurd (true≢false few)
-counted_one false true e few = refl
-counted_one false false e few = absurd (true≢false e)
-
-short_enough : (grows fits layout : Bool) → not ((grows || fits) && layout) ≡ false → grows ≡ false → fits ≡ true
-short_enough true fits layout e none = absurd (true≢false none)
-short_enough false true layout e none = refl
-short_enough false false layout e none = absurd (true≢false e)
-
-le_of : (a b : ℕ) → nat_le a b ≡ true → a ≤ b
-le_of a b e = leb-true a b e
-
 -- ---- ports
 
 module _ (ports : List PortState) (m : ℕ) where
@@ -110,7 +83,6 @@ module _ (ports : List PortState) (m : ℕ) where
           role = ap (λ (r : PortState). r.role) q.2;
           pool = ap (λ (r : PortState). r.pool) q.2;
           longest = ap (λ (r : PortState). r.longest) q.2;
-          grows = ap (λ (r : PortState). r.grows) q.2;
         },
       )
 
@@ -253,39 +225,6 @@ module _ {h : HubState} (hub : IsHub h) (shape : Shape) (a : Asked) (y : Lender)
   lent_within =
       subst (λ p. l.slot < count_in h.words p) (sym is.made.pool)
       (slot_has_words h.words mid.tables mid_fits mid_order n its mid_there a.uninit a.elements l.slot is.made.within is.made.free)
-
-  pub lent_fits_room : a.elements ≤ longest_in h.words l.pool
-  lent_fits_room =
-      let x : Given = given_by hub.reached.0 h in
-      let passes : loan_refusal x h.control.tables y a.elements ≡ None = is.passes x (subst (λ (s : Shape). IsAskedOf s a) (sym (of hub.reached.0)) asked) in
-      let size = (both_none (size_refusal y.port (shape_in x h.control.tables y.port) a.elements) (count_refusal_by y.port.role h.control.tables y)
-      (both_none (calls_refusal h.control.tables) _ passes).1).0 in
-      let lengths = both_none (refused_if (not (is_count (shape_in x h.control.tables y.port) a.elements)) refusals.WrongLength) _ size in
-      let less = by_grow (not_refused _ refusals.WrongLength lengths.0) (not_refused _ refusals.ExceedsMaxLoanSize lengths.1) y.port.grows refl in
-      let below = hub.words.longest n y.port there in
-      let same : longest_in h.words l.pool ≡ longest_in h.words y.port.pool = ap (longest_in h.words) is.made.pool in
-      omega (arith, less, below, same)
-    where
-      shape_many : (role : Role) → (shape_of (limits_of (given_by hub.reached.0 h) h.control.tables) role).many ≡ many_by (many_in h) role
-      shape_many Client = refl
-      shape_many Server = refl
-
-      -- it is no longer than the port's longest, or it has one element
-      by_grow : not (is_count (shape_in (given_by hub.reached.0 h) h.control.tables y.port) a.elements) ≡ false
-          → not ((y.port.grows || nat_le a.elements y.port.longest) && has_layout (shape_in (given_by hub.reached.0 h) h.control.tables y.port) a.elements) ≡ false
-          → (b : Bool) → y.port.grows ≡ b → a.elements ≤ y.port.longest
-      by_grow counts long false e =
-          le_of a.elements y.port.longest
-          (short_enough y.port.grows (nat_le a.elements y.port.longest) (has_layout (shape_in (given_by hub.reached.0 h) h.control.tables y.port) a.elements)
-          long e)
-      by_grow counts long true e =
-          let one = hub.words.one n y.port there e in
-          let count : a.elements ≡ 1 =
-          eqb-true a.elements 1
-          (counted_one (shape_in (given_by hub.reached.0 h) h.control.tables y.port).many (a.elements == 1) counts
-          (shape_many y.port.role ∙ one.0)) in
-          let longest : y.port.longest ≡ 1 = one.1 in
-          omega (arith, count, longest)
 
   pub lent_requests : (b : Bool) → is_client y.port.role ≡ b → are_requests_in h.words l.pool ≡ b
   lent_requests b e = ap (are_requests_in h.words) is.made.pool ∙ hub.words.ports n y.port there ∙ e

@@ -25,6 +25,9 @@ pub mod SendingHubs
 pub mod LendingWords
 pub mod LendingGiven
 pub mod LendingFits
+pub mod GrowingRoom
+pub mod GrowingWants
+pub mod GrowingFound
 pub mod LendingMade
 pub mod LendingWrites
 pub mod LendingNamed

@@ -139,7 +139,7 @@ module _ (t : HubTables) (node : ℕ) (role : Role) (id : UniqueSystemId) (asked
   -- ---- words
 
   module _ (h : HubState) (words : List (Option Carried)) (fit : WordsFit (many_in h) h.words t)
-      (grows : asked.grows ≡ true → (many_by (many_in h) role ≡ false) × (asked.longest ≡ 1))
+      (one_of_one : many_by (many_in h) role ≡ false → asked.longest ≡ 1)
       (put : AreWordsPut h.words place (words_made h role asked.size asked.longest) words) where
     abbrev c : Carried
     c = words_made h role asked.size asked.longest
@@ -199,8 +199,8 @@ module _ (t : HubTables) (node : ℕ) (role : Role) (id : UniqueSystemId) (asked
       longest = each_port {B = ℕ × ℕ} (λ p. (p.pool, p.longest)) (λ p ps. refl) (λ s. s.1 ≤ longest_in words s.0)
           (λ n p at. subst (λ l. p.longest ≤ l) (sym (ap (λ (o : Option Carried). option_map_or (λ (d : Carried). d.contents.longest) o 0) (put.others p.pool (free.ports n p at)))) (fit.longest n p at))
           (subst (λ l. asked.longest ≤ l) (sym (ap (λ (o : Option Carried). option_map_or (λ (d : Carried). d.contents.longest) o 0) put.there)) (omega arith));
-      one = each_port {B = Bool × Role × ℕ} (λ p. (p.grows, p.role, p.longest)) (λ p ps. refl)
-          (λ s. s.0 ≡ true → (many_by (many_in h) s.1 ≡ false) × (s.2 ≡ 1)) fit.one grows;
+      one = each_port {B = Role × ℕ} (λ p. (p.role, p.longest)) (λ p ps. refl)
+          (λ s. many_by (many_in h) s.0 ≡ false → s.1 ≡ 1) fit.one one_of_one;
       handles = both_each (SuitsHandle h.words) (λ k. (k.pool == place) ≡ false) (SuitsHandle words) suits_still t.handles fit.handles
           ((places_become_free t place order).nobody free).handles;
     }

@@ -8,8 +8,8 @@ use Rattle.iox_model.specs.declared.kind.Role.{Role}
 use Rattle.iox_model.specs.declared.kind.Role.TheVariants.{Client, Server}
 use Rattle.iox_model.specs.declared.reply.Reply.TheVariants.{Refused}
 use Rattle.iox_model.specs.Commands.{Create}
-use Rattle.iox_model.specs.Makings.{IsHubCommand, allocation_of, longest_of, port_reply}
-use Rattle.iox_model.specs.Settings.{Shape, is_static, shape_of}
+use Rattle.iox_model.specs.Makings.{IsHubCommand, longest_of, port_reply}
+use Rattle.iox_model.specs.Settings.{Shape, shape_of}
 use Rattle.iox_model.specs.Runs.{IsReachableState, OfHub}
 use Rattle.iox_laws.proofs.WeaveWorlds.Inductions.{step_is_reached}
 use Rattle.iox_store.specs.Stored.{Stored, unlent}
@@ -32,7 +32,7 @@ use Rattle.iox_tables.specs.HubLoans.Questions.{kind_in, kind_of_role}
 use Rattle.iox_hub.specs.declared.options.Options.{Options}
 use Rattle.iox_hub.specs.Fits.{WordsFit, many_by}
 use Rattle.iox_hub.specs.Hubs.{HasValue, HubState, IsHub, given_by, many_in, state_of_hub, with_control}
-use Rattle.iox_hub.specs.Making.{AreWordsPut, IsAllowed, LeavesMessages, allocation_in, options_of, shape_in, words_made}
+use Rattle.iox_hub.specs.Making.{AreWordsPut, IsAllowed, LeavesMessages, options_of, shape_in, words_made}
 use Rattle.iox_hub.specs.Reads.{message_in}
 use Rattle.iox_hub.specs.Words.{Carried, stored_in}
 use Rattle.iox_hub.proofs.MakingFits.{fits_made, free, made_is_value, pool_put, stored_else, values_stay}
@@ -89,20 +89,16 @@ module _ (h : HubState) (hub : IsHub h) where
         (made (given_by x h) (given_by x after) (options_of o) (is x) (others x))
 
     pub hub_made : ((x : Given) → IsAsked (given_by x h) t role (options_of o) asked) → MakesWhole t node role id asked c.tables
-        → (asked.grows ≡ true → (many_by (many_in h) role ≡ false) × (asked.longest ≡ 1)) → IsControl c → IsHub after
-    hub_made is made grows order = record {
+        → (many_by (many_in h) role ≡ false → asked.longest ≡ 1) → IsControl c → IsHub after
+    hub_made is made one_of_one order = record {
       control = order;
-      words = subst (λ (u : HubTables). WordsFit (many_in h) words u) (sym same) (fits_made t node role id asked hub.control.order h words hub.words grows put);
+      words = subst (λ (u : HubTables). WordsFit (many_in h) words u) (sym same) (fits_made t node role id asked hub.control.order h words hub.words one_of_one put);
       reached = (
         hub.reached.0,
         step_is_reached (state_of_hub hub.reached.0 h) (state_of_hub hub.reached.0 after) (OfHub node (Create role id (options_of o)) (port_reply role t.next_number))
             hub.reached.1 (whole_made is made hub.reached.0),
       );
     }
-
-same_allocation : (x : Given) (u : HubTables) (role : Role) → allocation_of (limits_of x u) role ≡ allocation_in u.settings role
-same_allocation x u Client = refl
-same_allocation x u Server = refl
 
 same_shape : (x : Given) (h : HubState) (role : Role) → shape_of (limits_of (given_by x h) h.control.tables) role ≡ shape_in h role
 same_shape x h Client = refl
@@ -111,10 +107,6 @@ same_shape x h Server = refl
 many_is : (h : HubState) (role : Role) → many_by (many_in h) role ≡ (shape_in h role).many
 many_is h Client = refl
 many_is h Server = refl
-
-second_is : (a b : Bool) → a ≡ true → (a && b) ≡ false → b ≡ false
-second_is true b e f = f
-second_is false b e f = absurd (true≢false (sym e))
 
 -- ---- in code: a hub as it was met, and what its parts are now
 
@@ -126,24 +118,17 @@ module _ (inside now : HubState) (view : inside ≡ now) (hub : IsHub inside) (n
   is_inside : (x : Given) → IsAsked (given_by x inside) old role (options_of o) asked
   is_inside = subst (λ (k : HubState). (x : Given) → IsAsked (given_by x k) k.control.tables role (options_of o) asked) (sym view) is
 
-  -- where the messages of a port that is made are told to grow, each has one element
-  one_asked : asked.large ≡ false → (asked.grows && (shape_in now role).many) ≡ false → asked.grows ≡ true
-      → (many_by (many_in inside) role ≡ false) × (asked.longest ≡ 1)
-  one_asked small still e =
-      let none : (shape_in now role).many ≡ false = second_is asked.grows (shape_in now role).many e still in (
-        many_is inside role ∙ ap (λ (h : HubState). (shape_in h role).many) view ∙ none,
-        sym ((is hub.reached.0).longest small) ∙ ap (λ (z : Shape). longest_of z (options_of o)) (same_shape (given_by hub.reached.0 now) now role)
-            ∙ ap (λ (b : Bool). if b then o.max_slice_len else 1) none,
-      )
+  -- where messages have one element, that is the greatest length of a port that is made
+  one_asked : asked.large ≡ false → many_by (many_in inside) role ≡ false → asked.longest ≡ 1
+  one_asked small e =
+      let none : (shape_in now role).many ≡ false
+      = ap (λ (h : HubState). (shape_in h role).many) (sym view) ∙ sym (many_is inside role) ∙ e in
+      sym ((is hub.reached.0).longest small) ∙ ap (λ (z : Shape). longest_of z (options_of o)) (same_shape (given_by hub.reached.0 now) now role)
+      ∙ ap (λ (b : Bool). if b then o.max_slice_len else 1) none
 
   -- a port that is made is allowed
-  pub allowed : asked.large ≡ false → (asked.grows && (shape_in now role).many) ≡ false → IsAllowed now role o
-  allowed small still = record {
-    small = λ x. sym (is x).large ∙ small;
-    still = ap (λ a. not (is_static (unwrap_or o.allocation a)) && (shape_in now role).many)
-        (sym (same_allocation (given_by hub.reached.0 now) now.control.tables role))
-        ∙ ap (λ b. b && (shape_in now role).many) ((is hub.reached.0).grows small) ∙ still;
-  }
+  pub allowed : asked.large ≡ false → IsAllowed now role o
+  allowed small x = sym (is x).large ∙ small
 
   module _ (ws : List (Option Carried)) (kept : ws ≡ inside.words) where
     pub whole_no_memory : nat_le (2 ^ 32) old.ports_made ≡ false → (x : Given)
@@ -173,9 +158,9 @@ module _ (inside now : HubState) (view : inside ≡ now) (hub : IsHub inside) (n
           (subst (λ i. AreWordsPut ws i (words_made inside role asked.size asked.longest) words) place_is
           (subst (λ w. AreWordsPut ws place w words) (new ∙ ap (λ (h : HubState). words_made h role asked.size asked.longest) (sym view)) put))
 
-      pub hub_with : MakesWhole old node role id asked c.tables → asked.large ≡ false → (asked.grows && (shape_in now role).many) ≡ false → IsControl c
+      pub hub_with : MakesWhole old node role id asked c.tables → asked.large ≡ false → IsControl c
           → IsHub (record inside { control = c; words = words })
-      hub_with made small still order = hub_made inside hub node role id asked o words c put_inside same is_inside made (one_asked small still) order
+      hub_with made small order = hub_made inside hub node role id asked o words c put_inside same is_inside made (one_asked small) order
 
       pub whole_with : MakesWhole old node role id asked c.tables → (n : ℕ) → n ≡ old.next_number → (x : Given)
           → IsHubCommand (state_of_hub x now) node (Create role id (options_of o)) (port_reply role n) (state_of_hub x (record inside { control = c; words = words }))

@@ -30,7 +30,6 @@ pub record IsLike (q p : PortState) : Type 0 where
   pub role : q.role ≡ p.role
   pub pool : q.pool ≡ p.pool
   pub longest : q.longest ≡ p.longest
-  pub grows : q.grows ≡ p.grows
 
 -- each port was there before, and had the same of that
 abbrev pub AreLeft : List PortState → List PortState → Type 0
@@ -45,7 +44,6 @@ left_alike old new alike n p at =
         role = ap (λ (z : PortState). z.role) q.2;
         pool = ap (λ (z : PortState). z.pool) q.2;
         longest = ap (λ (z : PortState). z.longest) q.2;
-        grows = ap (λ (z : PortState). z.grows) q.2;
       },
     )
 
@@ -59,12 +57,11 @@ left_twice a b c first second n p at =
         role = r.2.role ∙ q.2.role;
         pool = r.2.pool ∙ q.2.pool;
         longest = r.2.longest ∙ q.2.longest;
-        grows = r.2.grows ∙ q.2.grows;
       },
     )
 
 left_same : (ports : List PortState) → AreLeft ports ports
-left_same ports n p at = (p, at, record { role = refl; pool = refl; longest = refl; grows = refl })
+left_same ports n p at = (p, at, record { role = refl; pool = refl; longest = refl })
 
 -- as one port goes
 left_without : (gone : ℕ) (ports : List PortState) → AreLeft ports (ports_without gone ports)
@@ -82,7 +79,6 @@ left_without gone ports n p at = step (n == gone) (port_in ports n) refl (sym (p
             role = ap (λ (z : PortState). z.role) same;
             pool = ap (λ (z : PortState). z.pool) same;
             longest = ap (λ (z : PortState). z.longest) same;
-            grows = ap (λ (z : PortState). z.grows) same;
           },
         )
 
@@ -134,7 +130,7 @@ module _ {many : Bool × Bool} (words : List (Option Carried)) (t : HubTables) (
     longest = λ n p at.
         let q = ports n p at in
         subst (λ k. p.longest ≤ longest_in words k) q.2.pool (subst (λ k. k ≤ longest_in words q.0.pool) q.2.longest (fit.longest n q.0 q.1));
-    one = λ n p at. let q = ports n p at in one_as many q.0 p q.2.role q.2.longest q.2.grows (fit.one n q.0 q.1);
+    one = λ n p at. let q = ports n p at in one_as many q.0 p q.2.role q.2.longest (fit.one n q.0 q.1);
     handles = handles;
   }
     where

@@ -48,13 +48,13 @@ pub record SuitsHandle (words : List (Option Carried)) (h : HandleState) : Type 
 abbrev pub many_by : Bool × Bool → Role → Bool
 many_by many role = if is_client role then many.0 else many.1
 
--- If the port is told that its messages grow, each of them has one element all the same.
-abbrev pub IsOneIfItGrows : Bool × Bool → PortState → Type 0
-IsOneIfItGrows many p = p.grows ≡ true → (many_by many p.role ≡ false) × (p.longest ≡ 1)
+-- Where the port's messages have one element, that is the greatest length: none of them grows.
+abbrev pub IsOneOfOne : Bool × Bool → PortState → Type 0
+IsOneOfOne many p = many_by many p.role ≡ false → p.longest ≡ 1
 
 -- Each slot of a pool has words, of as many elements as it has. They are those of requests if the
--- pool is a client's, and if a handle that has a message of it is of a request. No port's messages
--- grow past the room that its words have.
+-- pool is a client's, and if a handle that has a message of it is of a request. The words of
+-- a port's messages have room for the greatest length that is not grown past.
 pub record WordsFit (many : Bool × Bool) (words : List (Option Carried)) (t : HubTables)
     : Type 0
   where
@@ -68,5 +68,5 @@ pub record WordsFit (many : Bool × Bool) (words : List (Option Carried)) (t : H
     pub longest :
         (n : ℕ) (p : PortState) → port_in t.ports n ≡ Some p
         → p.longest ≤ longest_in words p.pool
-    pub one : (n : ℕ) (p : PortState) → port_in t.ports n ≡ Some p → IsOneIfItGrows many p
+    pub one : (n : ℕ) (p : PortState) → port_in t.ports n ≡ Some p → IsOneOfOne many p
     pub handles : OfEachHandle (SuitsHandle words) t.handles

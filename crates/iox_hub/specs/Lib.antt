@@ -9,6 +9,7 @@ pub mod Making
 pub mod Sending
 pub mod Releases
 pub mod Lending
+pub mod Growing
 pub mod Keeping
 pub mod Listings
 pub mod Cleaning
@@ -33,3 +34,4 @@ pub use Rattle.iox_control_request_copies.specs.Sendings
 pub use Rattle.iox_control_request_copies.specs.Answered
 pub use Rattle.iox_control_request_copies.specs.Answers
 pub use Rattle.iox_control_request_copies.specs.Copies
+pub use Rattle.iox_control_request_copies.specs.declared.copied.Copied

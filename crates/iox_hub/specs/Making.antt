@@ -47,28 +47,16 @@ abbrev pub shape_in : HubState → Role → Shape
 shape_in h Client = h.request
 shape_in h Server = h.response
 
--- whether the messages of a role's ports grow, where their makers do not say
-abbrev pub allocation_in : HubSettings → Role → AllocationStrategy
-allocation_in s Client = s.client_allocation
-allocation_in s Server = s.server_allocation
-
--- whether the messages of the port would grow: they may have any number of elements, and the port is
--- not told that they stay as long as they are
-abbrev pub would_grow : HubState → Role → Options → Bool
-would_grow h role o =
-    not (is_static (unwrap_or o.allocation (allocation_in h.control.tables.settings role)))
-    && (shape_in h role).many
-
 -- By these answers of a closure, a port that needs so many messages at most has a pool of that size:
 -- what the closure answers for that number, raised to 1 and lowered to it.
 abbrev pub IsChosenBy : (ℕ → ℕ → Type 0) → ℕ → ℕ → Type 0
 IsChosenBy answers needed pool =
     (n : ℕ) × answers needed n × (pool ≡ max 1 (min n needed))
 
--- The port is not too large, and its messages do not grow.
-pub record IsAllowed (h : HubState) (role : Role) (o : Options) : Type 0 where
-  pub small : (x : Given) → is_large (limits_of (given_by x h) h.control.tables) role (options_of o) ≡ false
-  pub still : would_grow h role o ≡ false
+-- The port is not too large, whatever there is besides.
+abbrev pub IsAllowed : HubState → Role → Options → Type 0
+IsAllowed h role o =
+    (x : Given) → is_large (limits_of (given_by x h) h.control.tables) role (options_of o) ≡ false
 
 -- ---- what is answered
 

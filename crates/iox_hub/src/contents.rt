@@ -1,6 +1,6 @@
 //! What is lent and written in the pools of a hub.
 ghost use Rattle.std.specs.Prelude.{◌≡◌, ◌<◌, ◌≤◌, Bool, IsSome, false, flat_map, length, true};
-ghost use Rattle.iox_store.specs.Stored.{filled_with, stored_at, with_stored};
+ghost use Rattle.iox_store.specs.Stored.{filled_with, room_with, stored_at, with_stored};
 ghost use Rattle.iox_hub.specs.Fits.{are_requests_in, count_in, longest_in};
 ghost use Rattle.iox_hub.specs.Lending.{first_stored, with_message};
 ghost use Rattle.iox_hub.specs.Shapes.{shape_of};
@@ -8,19 +8,21 @@ ghost use Rattle.iox_hub.specs.Words.{all_carried, stored_in};
 
 use crate::shape::MessageShape;
 use crate::words::PoolWords;
-use iox_store::Store;
+use iox_store::{Spare, Store};
 use iox_words::Words;
 
 /// Lends the message in that slot for so many elements: unfilled, or each filled with its default.
+/// Where it has no room for them, it takes the room that is given.
 fn lend_in<E: Words, H: Words>(
     store: &mut Store<E, H>,
     slot: usize,
     elements: usize,
     uninit: bool,
     shape: &MessageShape<E, H>,
+    spare: Option<Spare<E>>,
 )
     requires there { slot < length store.old.messages }
-    requires room { elements ≤ store.old.longest }
+    requires room { elements ≤ room_with store.old.longest spare }
     requires default { uninit ≡ false → IsSome shape.now.default }
     ensures { (many : Bool) → store.new ≡ with_stored store.old slot
         (first_stored (shape_of many E.WORDS E.words H.words shape.now) uninit elements
@@ -28,16 +30,17 @@ fn lend_in<E: Words, H: Words>(
 {
     let _room = store.room(slot);
     if uninit {
-        store.lend_uninit(slot, elements, shape.user_header);
+        store.lend_uninit(slot, elements, shape.user_header, spare);
         return;
     }
     let Some(value) = shape.default else {
         unreachable!();
     };
-    store.lend(slot, elements, shape.user_header, value);
+    store.lend(slot, elements, shape.user_header, value, spare);
 }
 
-/// Lends the request in that slot of the pool in this place.
+/// Lends the request in that slot of the pool in this place. Where it has no room for so many
+/// elements, it takes the room that is given.
 pub(crate) fn lend_request_in<QE: Words, QH: Words, PE: Words, PH: Words>(
     words: &mut Vec<Option<PoolWords<QE, QH, PE, PH>>>,
     pool: usize,
@@ -45,10 +48,11 @@ pub(crate) fn lend_request_in<QE: Words, QH: Words, PE: Words, PH: Words>(
     elements: usize,
     uninit: bool,
     shape: &MessageShape<QE, QH>,
+    spare: Option<Spare<QE>>,
 )
     requires requests { are_requests_in (all_carried words.old.items) pool ≡ true }
     requires there { slot < count_in (all_carried words.old.items) pool }
-    requires room { elements ≤ longest_in (all_carried words.old.items) pool }
+    requires room { elements ≤ room_with (longest_in (all_carried words.old.items) pool) spare }
     requires default { uninit ≡ false → IsSome shape.now.default }
     ensures { (many : Bool) → all_carried words.new.items
         ≡ with_message (all_carried words.old.items) pool slot
@@ -56,12 +60,13 @@ pub(crate) fn lend_request_in<QE: Words, QH: Words, PE: Words, PH: Words>(
         (stored_in (all_carried words.old.items) pool slot)) }
 {
     match &mut words[pool] {
-        Some(PoolWords::Requests(store)) => lend_in(store, slot, elements, uninit, shape),
+        Some(PoolWords::Requests(store)) => lend_in(store, slot, elements, uninit, shape, spare),
         _ => unreachable!(),
     }
 }
 
-/// Lends the response in that slot of the pool in this place.
+/// Lends the response in that slot of the pool in this place. Where it has no room for so many
+/// elements, it takes the room that is given.
 pub(crate) fn lend_response_in<QE: Words, QH: Words, PE: Words, PH: Words>(
     words: &mut Vec<Option<PoolWords<QE, QH, PE, PH>>>,
     pool: usize,
@@ -69,10 +74,11 @@ pub(crate) fn lend_response_in<QE: Words, QH: Words, PE: Words, PH: Words>(
     elements: usize,
     uninit: bool,
     shape: &MessageShape<PE, PH>,
+    spare: Option<Spare<PE>>,
 )
     requires responses { are_requests_in (all_carried words.old.items) pool ≡ false }
     requires there { slot < count_in (all_carried words.old.items) pool }
-    requires room { elements ≤ longest_in (all_carried words.old.items) pool }
+    requires room { elements ≤ room_with (longest_in (all_carried words.old.items) pool) spare }
     requires default { uninit ≡ false → IsSome shape.now.default }
     ensures { (many : Bool) → all_carried words.new.items
         ≡ with_message (all_carried words.old.items) pool slot
@@ -80,7 +86,7 @@ pub(crate) fn lend_response_in<QE: Words, QH: Words, PE: Words, PH: Words>(
         (stored_in (all_carried words.old.items) pool slot)) }
 {
     match &mut words[pool] {
-        Some(PoolWords::Responses(store)) => lend_in(store, slot, elements, uninit, shape),
+        Some(PoolWords::Responses(store)) => lend_in(store, slot, elements, uninit, shape, spare),
         _ => unreachable!(),
     }
 }

@@ -1,21 +1,28 @@
 //! Loans of clients and of active requests.
-ghost use Rattle.std.specs.Prelude.{◌≡◌, IsSome, false};
+ghost use Rattle.std.specs.Prelude.{◌≡◌, IsSome, Some, false};
 ghost use Rattle.iox_model.specs.declared.kind.Kind.TheVariants.{ActiveRequest, Client};
 ghost use Rattle.iox_model.specs.declared.kind.Role.TheVariants as roles;
 ghost use Rattle.iox_model.specs.WholeCalls.{IsWholeCall};
 ghost use Rattle.iox_tables.specs.HubStates.States.{Given};
+ghost use Rattle.iox_tables.specs.HubStates.Tables.{HandleState, PortState, port_in};
+ghost use Rattle.iox_tables.specs.HubStates.Wirings.{handle_in};
+ghost use Rattle.iox_tables.specs.HubLoans.Lenders.{lender_of_request, lender_of_response};
 ghost use Rattle.iox_tables.specs.HubLoans.Loans.{loan_call};
 ghost use Rattle.iox_control_request_copies.specs.Lends.{reply_of_loan};
+ghost use Rattle.iox_control_request_copies.specs.Lent.TheVariants.{Refused};
+ghost use Rattle.iox_control_request_copies.specs.LoanRefusal.TheVariants.{WantOfMemory};
+ghost use Rattle.iox_hub.specs.Growing.{HasRoomFor, WantsRoom};
 ghost use Rattle.iox_hub.specs.Hubs.{HasValue, state_of_hub};
 ghost use Rattle.iox_hub.specs.Keeping.{IsNewLoan, KeepsAll};
 ghost use Rattle.iox_hub.specs.Lending.{HasLent, IsAskedFor, LeavesLent};
 
 use crate::contents::{lend_request_in, lend_response_in};
+use crate::growing::let_go;
 use crate::hub::Hub;
 use crate::layouts::has_layout;
 use crate::shape::MessageShape;
-use iox_control_request_copies::{Asked, Lent, lend_request, lend_response};
-use iox_store::{Payload, is_length};
+use iox_control_request_copies::{Asked, Lent, LoanRefusal, lend_request, lend_response};
+use iox_store::{Payload, Spare, is_length};
 use iox_words::Words;
 
 /// What is asked of a loan of such messages.
@@ -41,16 +48,27 @@ pub(crate) fn asked_of<Q: Payload, H: Words>(
 }
 
 impl<Q: Payload, QH: Words, P: Payload, PH: Words> Hub<Q, QH, P, PH> {
-    /// Lends a request of that client for so many elements, unfilled or each with its default.
-    pub fn lend_request(&mut self, node: u64, client: u64, elements: usize, uninit: bool) -> Lent
+    /// Lends a request of that client for so many elements, where its message has room for them:
+    /// its own, or that which is given.
+    fn lend_request_in_room(
+        &mut self,
+        node: u64,
+        client: u64,
+        elements: usize,
+        uninit: bool,
+        spare: Option<Spare<Q::Element>>,
+    ) -> Lent
         requires has { HasValue self.old node client Client }
         requires default { uninit ≡ false → IsSome self.old.request.default }
+        requires room { (p : PortState) → port_in self.old.control.tables.ports client ≡ Some p
+            → HasRoomFor self.old (lender_of_request p 0) self.old.request elements spare }
         ensures left { LeavesLent self.old self.old.request uninit elements result self.new }
         ensures whole { (x : Given) → IsWholeCall (state_of_hub x self.old) node
             (loan_call uninit client elements) (reply_of_loan result) (state_of_hub x self.new) }
         ensures has { HasLent self.new node roles.Client self.old.request uninit elements result }
         ensures new { IsNewLoan self.old node result }
         ensures keeps { KeepsAll self.old self.new }
+        ensures memory { result ≡ Refused WantOfMemory → ⊥ }
     {
         let asked = asked_of::<Q, QH>(&self.request, elements, uninit);
         let lent = lend_request(&mut self.control, node, client, asked);
@@ -63,13 +81,84 @@ impl<Q: Payload, QH: Words, P: Payload, PH: Words> Hub<Q, QH, P, PH> {
                 elements,
                 uninit,
                 &self.request,
+                spare,
             );
+        } else {
+            let_go(spare);
         }
         lent
     }
 
+    /// Lends a response to that active request for so many elements, where its message has room for
+    /// them: its own, or that which is given.
+    fn lend_response_in_room(
+        &mut self,
+        node: u64,
+        number: u64,
+        hint: usize,
+        elements: usize,
+        uninit: bool,
+        spare: Option<Spare<P::Element>>,
+    ) -> Lent
+        requires has { HasValue self.old node number ActiveRequest }
+        requires default { uninit ≡ false → IsSome self.old.response.default }
+        requires room { (h : HandleState) (p : PortState)
+            → handle_in self.old.control.tables.handles node number ≡ Some h
+            → port_in self.old.control.tables.ports h.port ≡ Some p
+            → HasRoomFor self.old (lender_of_response self.old.control.tables h p)
+            self.old.response elements spare }
+        ensures left { LeavesLent self.old self.old.response uninit elements result self.new }
+        ensures whole { (x : Given) → IsWholeCall (state_of_hub x self.old) node
+            (loan_call uninit number elements) (reply_of_loan result) (state_of_hub x self.new) }
+        ensures has { HasLent self.new node roles.Server self.old.response uninit elements result }
+        ensures new { IsNewLoan self.old node result }
+        ensures keeps { KeepsAll self.old self.new }
+        ensures memory { result ≡ Refused WantOfMemory → ⊥ }
+    {
+        let asked = asked_of::<P, PH>(&self.response, elements, uninit);
+        let lent = lend_response(&mut self.control, node, number, hint, asked);
+        if let Lent::Handle(l) = lent {
+            let slot = l.slot as usize;
+            lend_response_in(
+                &mut self.words,
+                l.pool,
+                slot,
+                elements,
+                uninit,
+                &self.response,
+                spare,
+            );
+        } else {
+            let_go(spare);
+        }
+        lent
+    }
+
+    /// Lends a request of that client for so many elements, unfilled or each with its default. Past
+    /// the greatest length the message grows, where the client's do, and that takes memory.
+    pub fn lend_request(&mut self, node: u64, client: u64, elements: usize, uninit: bool) -> Lent
+        requires has { HasValue self.old node client Client }
+        requires default { uninit ≡ false → IsSome self.old.request.default }
+        ensures left { LeavesLent self.old self.old.request uninit elements result self.new }
+        ensures whole { (x : Given) → IsWholeCall (state_of_hub x self.old) node
+            (loan_call uninit client elements) (reply_of_loan result) (state_of_hub x self.new) }
+        ensures has { HasLent self.new node roles.Client self.old.request uninit elements result }
+        ensures new { IsNewLoan self.old node result }
+        ensures keeps { KeepsAll self.old self.new }
+        ensures memory { result ≡ Refused WantOfMemory → (p : PortState)
+            → port_in self.old.control.tables.ports client ≡ Some p
+            → WantsRoom self.old (lender_of_request p 0) self.old.request elements }
+    {
+        self.is_in_order();
+        match self.room_for_request(node, client, elements) {
+            Ok(spare) => self.lend_request_in_room(node, client, elements, uninit, spare),
+            Err(_) => Lent::Refused(LoanRefusal::WantOfMemory),
+        }
+    }
+
     /// Lends a response to that active request for so many elements, unfilled or each with its
-    /// default. The handle of the request is looked for at the hint first.
+    /// default. The handle of the request is looked for at the hint first. Past the greatest length
+    /// the message grows, where the server's do, and that takes memory.
     pub fn lend_response(
         &mut self,
         node: u64,
@@ -86,20 +175,16 @@ impl<Q: Payload, QH: Words, P: Payload, PH: Words> Hub<Q, QH, P, PH> {
         ensures has { HasLent self.new node roles.Server self.old.response uninit elements result }
         ensures new { IsNewLoan self.old node result }
         ensures keeps { KeepsAll self.old self.new }
+        ensures memory { result ≡ Refused WantOfMemory → (h : HandleState) (p : PortState)
+            → handle_in self.old.control.tables.handles node number ≡ Some h
+            → port_in self.old.control.tables.ports h.port ≡ Some p
+            → WantsRoom self.old (lender_of_response self.old.control.tables h p)
+            self.old.response elements }
     {
-        let asked = asked_of::<P, PH>(&self.response, elements, uninit);
-        let lent = lend_response(&mut self.control, node, number, hint, asked);
-        if let Lent::Handle(l) = lent {
-            let slot = l.slot as usize;
-            lend_response_in(
-                &mut self.words,
-                l.pool,
-                slot,
-                elements,
-                uninit,
-                &self.response,
-            );
+        self.is_in_order();
+        match self.room_for_response(node, number, hint, elements) {
+            Ok(spare) => { self.lend_response_in_room(node, number, hint, elements, uninit, spare) }
+            Err(_) => Lent::Refused(LoanRefusal::WantOfMemory),
         }
-        lent
     }
 }

@@ -143,16 +143,9 @@ impl<Q: Payload, QH: Words, P: Payload, PH: Words> Hub<Q, QH, P, PH> {
         }
     }
 
-    /// Whether the messages of such a port would grow: where each has one element, none does.
-    fn would_grow(&self, role: Role, asked: Asked) -> bool
-        ensures { result ≡ (asked.grows && (shape_in self.now role).many) }
-    {
-        asked.grows && self.form(role).many
-    }
-
     /// Makes a port of that role for the node with that id, and tells its number. Where it is
-    /// refused, all stays. A port whose messages would grow is refused: there is no memory for it.
-    /// Where a message has one element, a port may be told that its messages grow, and none does.
+    /// refused, all stays. Its messages have memory for the greatest length; where they grow, a
+    /// loan past it asks for more.
     pub fn make_port(
         &mut self,
         alloc: Global,
@@ -176,8 +169,7 @@ impl<Q: Payload, QH: Words, P: Payload, PH: Words> Hub<Q, QH, P, PH> {
         if self.control.ports_made() >= 1 << 32 {
             return Err(NotMade::PortTag);
         }
-        let grows = self.would_grow(role, asked);
-        if asked.large || grows {
+        if asked.large {
             return Err(NotMade::DataSegment);
         }
         let Some(place) = next_place(self.control.pools()) else {

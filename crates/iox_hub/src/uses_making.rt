@@ -3,7 +3,7 @@ ghost use Rattle.std.specs.Prelude.{◌≡◌, ◌<◌, ◌^◌, IfOk, OnErr, fa
 ghost use Rattle.iox_model.specs.declared.kind.Kind.TheVariants.{Client, Server};
 ghost use Rattle.iox_model.specs.declared.kind.Role.TheVariants as roles;
 ghost use Rattle.iox_hub.specs.Hubs.{HasValue, IsReached};
-ghost use Rattle.iox_hub.specs.Making.{StaysAs, would_grow};
+ghost use Rattle.iox_hub.specs.Making.{StaysAs};
 
 use crate::{Hub, MessageShape, Options, Part, default_settings};
 use iox_control::Received;
@@ -132,31 +132,5 @@ pub fn receives_with_a_new_server(
             Ok(Received::Nothing)
         }
         Err(reason) => Err(reason),
-    }
-}
-
-/// No response of such a hub grows, whatever is said of it: each has one element.
-pub fn no_response_grows(hub: &Hub<Many<u64>, u32, One<u64>, ()>, options: Options)
-    ensures { would_grow hub.now roles.Server options ≡ false }
-{
-    hub.is_of_its_types();
-}
-
-/// A client whose messages would grow is not made, and all stays.
-pub fn makes_none_that_grows(
-    hub: &mut Hub<Many<u64>, u32, One<u64>, ()>,
-    alloc: Global,
-    node: u64,
-    id: UniqueSystemId,
-    options: Options,
-)
-    requires { would_grow hub.old roles.Client options ≡ true }
-    ensures { StaysAs hub.old hub.new }
-{
-    if hub
-        .make_port(alloc, node, Role::Client, id, options)
-        .is_ok()
-    {
-        unreachable!();
     }
 }

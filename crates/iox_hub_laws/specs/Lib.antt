@@ -29,6 +29,10 @@ pub use Rattle.iox_hub.specs.Lends
 pub use Rattle.iox_hub.specs.Lent
 pub use Rattle.iox_hub.specs.Answers
 pub use Rattle.iox_hub.specs.Copies
+pub use Rattle.iox_hub.specs.Copied
+pub use Rattle.iox_hub.specs.Answered
+pub use Rattle.iox_hub.specs.Fits
+pub use Rattle.iox_hub.specs.Growing
 pub use Rattle.iox_hub.specs.Replies
 pub use Rattle.iox_hub.specs.MadePorts
 pub use Rattle.iox_hub.specs.NotMade

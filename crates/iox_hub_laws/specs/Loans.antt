@@ -15,6 +15,8 @@ use Rattle.iox_tables.specs.HubStates.Wirings.{handle_in}
 use Rattle.iox_hub.specs.Lends.{reply_of_loan}
 use Rattle.iox_hub.specs.Lent.{Lent}
 use Rattle.iox_hub.specs.Lent.TheVariants as lents
+use Rattle.iox_hub.specs.LoanRefusal.TheVariants.{WantOfMemory}
+use Rattle.iox_hub.specs.Growing.{GrowsPast}
 use Rattle.iox_hub.specs.Hubs.{HubState, given_by, nothing_given}
 use Rattle.iox_hub_laws.specs.Shown.{shown}
 
@@ -55,18 +57,24 @@ pub record IsWithinServersLimits (t : HubTables) (shape : Shape) (a : HandleStat
 abbrev pub answer_of : HubState → Lender → ℕ → Reply
 answer_of h y k = loan_answer (given_by (nothing_given h) h) h.control.tables y k
 
+-- The loan came to this answer. Or it would be made, but its message has to grow, and there is no
+-- memory for it.
+abbrev pub LoanAnswers : PortState → ℕ → Reply → Lent → Type 0
+LoanAnswers p k answer (lents.Refused WantOfMemory) = GrowsPast p k × ((n : ℕ) × (answer ≡ Handle n))
+LoanAnswers p k answer lent = reply_of_loan lent ≡ answer
+
 -- the client's loan answers that; which lane it takes does not matter
 abbrev pub AnswersOfClient : HubState → ℕ → ℕ → Lent → Type 0
 AnswersOfClient h client k lent =
     (p : PortState) → port_in h.control.tables.ports client ≡ Some p
-    → reply_of_loan lent ≡ answer_of h (lender_of_request p 0) k
+    → LoanAnswers p k (answer_of h (lender_of_request p 0) k) lent
 
 -- the loan to that active request answers that
 abbrev pub AnswersOfRequest : HubState → ℕ → ℕ → ℕ → Lent → Type 0
 AnswersOfRequest h node number k lent =
     (a : HandleState) → handle_in h.control.tables.handles node number ≡ Some a
     → (p : PortState) → port_in h.control.tables.ports a.port ≡ Some p
-    → reply_of_loan lent ≡ answer_of h (lender_of_response h.control.tables a p) k
+    → LoanAnswers p k (answer_of h (lender_of_response h.control.tables a p) k) lent
 
 -- no pool of the node's ports has fewer messages than its port may ever need
 abbrev pub HasFullPools : HubState → ℕ → Type 0

@@ -1,12 +1,18 @@
 //! Copies of a hub, with what they bring.
-ghost use Rattle.std.specs.Prelude.{flat_map, length};
+ghost use Rattle.std.specs.Prelude.{◌≡◌, Some, flat_map, length};
 ghost use Rattle.iox_model.specs.declared.call.Call.TheVariants.{SendCopy};
 ghost use Rattle.iox_model.specs.declared.kind.Kind.TheVariants.{ActiveRequest, Client};
 ghost use Rattle.iox_model.specs.declared.kind.Role.TheVariants as roles;
 ghost use Rattle.iox_model.specs.WholeCalls.{IsWholeCall};
 ghost use Rattle.iox_tables.specs.HubStates.States.{Given};
+ghost use Rattle.iox_tables.specs.HubStates.Tables.{HandleState, PortState, port_in};
+ghost use Rattle.iox_tables.specs.HubStates.Wirings.{handle_in};
 ghost use Rattle.iox_hub.specs.Answers as responses;
 ghost use Rattle.iox_hub.specs.Copies as requests;
+ghost use Rattle.iox_hub.specs.Answered.TheVariants as answered;
+ghost use Rattle.iox_hub.specs.Copied.TheVariants as copied;
+ghost use Rattle.iox_hub.specs.LoanRefusal.TheVariants.{WantOfMemory};
+ghost use Rattle.iox_hub.specs.Growing.{GrowsPast};
 ghost use Rattle.iox_hub.specs.Copying.{HasCopied, LeavesAnswered, LeavesCopied};
 ghost use Rattle.iox_hub.specs.Hubs.{HasValue, state_of_hub};
 ghost use Rattle.iox_hub.specs.Keeping.{KeepsAll};
@@ -17,7 +23,8 @@ use iox_hub::{Answered, Copied, Hub};
 use iox_store::Payload;
 use iox_words::Words;
 
-/// Sends a request of that client with copies of these elements to all connected servers.
+/// Sends a request of that client with copies of these elements to all connected servers. Memory is
+/// wanted only where the message has to grow.
 #[inline]
 pub fn copy_request<Q: Payload, QH: Words, P: Payload, PH: Words>(
     hub: &mut Hub<Q, QH, P, PH>,
@@ -36,13 +43,16 @@ pub fn copy_request<Q: Payload, QH: Words, P: Payload, PH: Words>(
         (requests.reply_of_copy result) (state_of_hub x hub.new) }
     ensures has { HasCopied hub.new node (length values.now)
         (flat_map Q.Element.words values.now) result }
+    ensures memory { result ≡ copied.Refused WantOfMemory → (p : PortState)
+        → port_in hub.old.control.tables.ports client ≡ Some p → GrowsPast p (length values.now) }
 {
     hub.is_in_order();
     hub.copy_request(node, client, values)
 }
 
 /// Sends a response with copies of these elements to the client of that active request. The handle
-/// of the request is looked for at the hint first.
+/// of the request is looked for at the hint first. Memory is wanted only where the message has to
+/// grow.
 #[inline]
 pub fn copy_response<Q: Payload, QH: Words, P: Payload, PH: Words>(
     hub: &mut Hub<Q, QH, P, PH>,
@@ -62,6 +72,9 @@ pub fn copy_response<Q: Payload, QH: Words, P: Payload, PH: Words>(
         (SendCopy number (payload_of roles.Server (length values.now)
         (flat_map P.Element.words values.now)))
         (responses.reply_of_copy result) (state_of_hub x hub.new) }
+    ensures memory { result ≡ answered.Refused WantOfMemory → (h : HandleState) (p : PortState)
+        → handle_in hub.old.control.tables.handles node number ≡ Some h
+        → port_in hub.old.control.tables.ports h.port ≡ Some p → GrowsPast p (length values.now) }
 {
     hub.is_in_order();
     hub.copy_response(node, number, hint, values)

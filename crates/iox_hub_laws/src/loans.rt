@@ -18,8 +18,8 @@ use iox_store::Payload;
 use iox_words::Words;
 
 /// Lends a request of that client for so many elements, unfilled or each with its default. It is
-/// refused by the first test that fails, and then by the pool; within its limits a client of a node
-/// with full pools is never refused.
+/// refused by the first test that fails, then by the pool, and then for want of memory; within its
+/// limits a client of a node with full pools is never refused.
 #[inline]
 pub fn lend_request<Q: Payload, QH: Words, P: Payload, PH: Words>(
     hub: &mut Hub<Q, QH, P, PH>,
@@ -45,9 +45,9 @@ pub fn lend_request<Q: Payload, QH: Words, P: Payload, PH: Words>(
 }
 
 /// Lends a response to that active request for so many elements, unfilled or each with its default.
-/// It is refused by the first test that fails, and then by the pool; within its limits a server of
-/// a node with full pools is never refused. The handle of the request is looked for at the hint
-/// first.
+/// It is refused by the first test that fails, then by the pool, and then for want of memory;
+/// within its limits a server of a node with full pools is never refused. The handle of the request
+/// is looked for at the hint first.
 #[inline]
 pub fn lend_response<Q: Payload, QH: Words, P: Payload, PH: Words>(
     hub: &mut Hub<Q, QH, P, PH>,

@@ -8,7 +8,7 @@ ghost use Rattle.iox_tables.specs.HubStates.Tables.{PortState, pipe_from, pipes_
 ghost use Rattle.iox_tables.specs.Incomings.{has_room_for};
 ghost use Rattle.iox_tables.specs.Pipes.{IsSoundAt};
 ghost use Rattle.iox_tables.specs.HubStates.Ways.{lanes_from};
-ghost use Rattle.iox_tables.specs.Lanes.{is_full, without_returned};
+ghost use Rattle.iox_tables.specs.Lanes.{is_full, returned_times, without_returned};
 ghost use Rattle.iox_tables.specs.Visited.{all_visits};
 ghost use Rattle.iox_hub_ports.specs.Ports.{info_of, lane_to_get_on, on_lane_from, port_of, state_from, with_connected};
 ghost use Rattle.iox_hub_ports.specs.Ports.{with_lane_from, with_loan_counted, with_state_from, without_pipe_from, without_value};
@@ -147,6 +147,20 @@ impl Port {
             None => match self.incoming.rank(sender) {
                 Some(rank) => self.incoming.is_full(rank, lane),
                 None => true,
+            },
+        }
+    }
+
+    /// How often it gave the message in this place back on that lane from this sender, so that it
+    /// is left to get back.
+    pub fn returned_times(&self, sender: u64, lane: usize, place: u64) -> usize
+        ensures { result ≡ on_lane_from (λ l. returned_times l place) 0 self.now sender lane }
+    {
+        match self.expired.rank(sender) {
+            Some(rank) => self.expired.returned_times(rank, lane, place),
+            None => match self.incoming.rank(sender) {
+                Some(rank) => self.incoming.returned_times(rank, lane, place),
+                None => 0,
             },
         }
     }

@@ -2,3 +2,4 @@ pub mod CallerLemmas
 pub mod Returns
 pub mod Visiting
 pub mod Sound
+pub mod Counting

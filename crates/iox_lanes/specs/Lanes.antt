@@ -1,5 +1,5 @@
 -- A lane, as its callers see it: lists of places in its sender's pool.
-use Rattle.std.specs.Prelude.{◌≡◌, ℕ, ◌+◌, ◌-◌, ◌<◌, ◌≤◌, ◌^◌, Bool, ◌&&◌, if◌then◌else◌, ◌==◌, List, [], ◌∷◌, ◌++◌, length, drop, Option, slice_get, is_some, nat_le, nat_lt, not}
+use Rattle.std.specs.Prelude.{◌≡◌, ℕ, ◌+◌, ◌-◌, ◌<◌, ◌≤◌, ◌^◌, Bool, ◌&&◌, if◌then◌else◌, ◌==◌, List, [], ◌∷◌, ◌++◌, length, drop, filter, Option, slice_get, is_some, nat_le, nat_lt, not}
 use Rattle.std.specs.List.{position_from, swap_remove}
 use Rattle.std.specs.Option.{option_map_or}
 use Rattle.iox_queues.specs.BoundedQueues.{BoundedQueue}
@@ -60,6 +60,10 @@ has_room l =
 -- something that was given back is left to get back
 abbrev pub has_returned : LaneState → Bool
 has_returned l = not (is_empty l.returned)
+
+-- how often the message in this place was given back, and is left to get back
+abbrev pub returned_times : LaneState → ℕ → ℕ
+returned_times l place = length (filter (λ n. n == place) l.returned)
 
 -- the oldest message that waits
 abbrev pub oldest : LaneState → Option ℕ

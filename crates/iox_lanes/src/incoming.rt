@@ -3,7 +3,7 @@ ghost use Rattle.std.specs.Option.{option_map};
 ghost use Rattle.std.specs.Prelude.{◌≡◌, IfOk, IfSome, None, Some, ◌<◌, false, is_some, length, slice_get, true};
 ghost use Rattle.std.specs.Vec.{vec_capacity};
 ghost use Rattle.iox_model.specs.declared.way.RequestState.TheVariants.{Closed};
-ghost use Rattle.iox_lanes.specs.Lanes.{offered, has_room, is_full, is_taken, oldest, released, without_oldest, without_returned};
+ghost use Rattle.iox_lanes.specs.Lanes.{offered, has_room, is_full, is_taken, oldest, released, returned_times, without_oldest, without_returned};
 ghost use Rattle.iox_lanes.specs.Pipes.{IsSoundAt, PipeState, closed, hinted, lane_to_get, opened};
 ghost use Rattle.iox_lanes.specs.Searches.{state_on};
 ghost use Rattle.iox_lanes.specs.Visited.{all_visited, all_visits};
@@ -218,6 +218,16 @@ impl Incoming {
             return self.pipes[rank].get_next();
         }
         None
+    }
+
+    /// How often the message in this place was given back on that lane, and is left to get back.
+    pub fn returned_times(&self, rank: usize, lane: usize, place: u64) -> usize
+        ensures { result ≡ on_lane_of (λ l. returned_times l place) 0 self.now rank lane }
+    {
+        if rank < self.pipes.len() {
+            return self.pipes[rank].returned_times(lane, place);
+        }
+        0
     }
 
     // ---- the receiver

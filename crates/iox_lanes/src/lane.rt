@@ -1,7 +1,7 @@
 //! What waits for a receiver, what it has, and what it gave back.
-ghost use Rattle.std.specs.Prelude.{◌≡◌, ◌+◌, ◌<◌, ◌≤◌, ◌^◌, IfOk, IfSome, OnSome, length, slice_get};
+ghost use Rattle.std.specs.Prelude.{◌≡◌, ◌+◌, ◌-◌, ◌<◌, ◌≤◌, ◌^◌, ◌==◌, if◌then◌else◌, IfOk, IfSome, OnSome, length, slice_get};
 ghost use Rattle.iox_model.specs.Maps.{is_empty};
-ghost use Rattle.iox_lanes.specs.Lanes.{HasOneInHand, IsSound, offered, empty_lane, has_returned, has_room, is_at_limit, is_full, is_taken, oldest, oldest_returned, oldest_taken, outstanding, places, rank_in, released, with_returned, with_taken, without_first, without_oldest, without_returned, without_taken};
+ghost use Rattle.iox_lanes.specs.Lanes.{HasOneInHand, IsSound, offered, empty_lane, has_returned, has_room, is_at_limit, is_full, is_taken, oldest, oldest_returned, oldest_taken, outstanding, places, rank_in, released, returned_times, with_returned, with_taken, without_first, without_oldest, without_returned, without_taken};
 
 use iox_queues::spsc::index_queue::IndexQueue;
 use std::alloc::{AllocError, Global};
@@ -40,6 +40,17 @@ fn rank_of(places: &[u64], place: u64) -> Option<usize>
     ensures within { IfSome result (λ rank. rank < length places.now) }
 {
     places.iter().position(|other| *other == place)
+}
+
+/// One time more, if both places are one.
+fn counted(times: usize, other: u64, place: u64) -> usize
+    requires { times < 2 ^ 64 - 1 }
+    ensures { result ≡ times + (if other == place then 1 else 0) }
+{
+    if other == place {
+        return times + 1;
+    }
+    times
 }
 
 impl Lane {
@@ -116,6 +127,20 @@ impl Lane {
         ensures { result ≡ has_returned self.now }
     {
         !self.returned.is_empty()
+    }
+
+    /// How often the message in this place was given back, and is left to get back.
+    pub fn returned_times(&self, place: u64) -> usize
+        ensures { result ≡ returned_times self.now place }
+    {
+        let mut times = 0;
+        for rank in 0..self.returned.len() {
+            let Some(other) = self.returned.get(rank) else {
+                unreachable!();
+            };
+            times = counted(times, other, place);
+        }
+        times
     }
 
     // ---- its sender

@@ -1,7 +1,7 @@
 //! All lanes from one port to another.
 ghost use Rattle.std.specs.Option.{option_map};
 ghost use Rattle.std.specs.Prelude.{◌≡◌, ◌+◌, ◌-◌, ◌^◌, ◌<◌, ◌≤◌, IfOk, IfSome, None, Some, false, is_some, length, replicate, slice_get, take, true};
-ghost use Rattle.iox_lanes.specs.Lanes.{offered, empty_lane, has_room, has_waiting, is_full, is_taken, oldest, released, without_oldest, without_returned, without_taken};
+ghost use Rattle.iox_lanes.specs.Lanes.{offered, empty_lane, has_room, has_waiting, is_full, is_taken, oldest, released, without_oldest, without_returned, without_taken, returned_times};
 ghost use Rattle.iox_lanes.specs.Pipes.{IsSoundAt, NoneToGetBelow, PipeState, closed, has_returned_at, has_waiting_on_any, hinted, lane_to_get, new_pipe, on_lane, opened, with_lane};
 ghost use Rattle.iox_lanes.specs.Searches.{state_on};
 ghost use Rattle.iox_lanes.specs.Visited.{pipe_visit, pipe_visited, pool_on};
@@ -183,6 +183,16 @@ impl Pipe {
         ensures { result ≡ has_waiting_on_any self.now }
     {
         self.lanes.iter().any(|lane| !lane.is_empty())
+    }
+
+    /// How often the message in this place was given back on that lane, and is left to get back.
+    pub fn returned_times(&self, lane: usize, place: u64) -> usize
+        ensures { result ≡ on_lane (λ l. returned_times l place) 0 self.now lane }
+    {
+        if lane < self.lanes.len() {
+            return self.lanes[lane].returned_times(place);
+        }
+        0
     }
 
     // ---- the sender

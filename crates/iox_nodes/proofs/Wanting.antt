@@ -20,7 +20,7 @@ use Rattle.iox_model.specs.Settings.{Limits}
 use Rattle.iox_model.specs.States.{Members, State}
 use Rattle.iox_openers.specs.Causes.{with_cause}
 use Rattle.iox_members.specs.Steps.{IsRefusedUnlessLiving}
-use Rattle.iox_port_commands.specs.Asking.{command_for, is_making, is_read}
+use Rattle.iox_port_commands.specs.Asking.{command_for, is_making, takes_memory}
 use Rattle.iox_port_commands.specs.Hubs.{HubState}
 use Rattle.iox_port_commands.specs.Memory.{HadMemory, IsTooLarge}
 use Rattle.iox_port_commands.specs.Telling.{wants_memory, wants_segment}
@@ -63,10 +63,10 @@ segment_told answer = refl
 
 -- ---- what a hub answers
 
-read_with_id : {E H : Type 0} (own : UniqueSystemId) (command : the_port_command.PortCommand E H) → is_read (with_id own command) ≡ is_read command
-read_with_id own (ports.Client node id o) = refl
-read_with_id own (ports.Server node id o) = refl
-read_with_id own command = refl
+takes_with_id : {E H : Type 0} (own : UniqueSystemId) (command : the_port_command.PortCommand E H) → takes_memory (with_id own command) ≡ takes_memory command
+takes_with_id own (ports.Client node id o) = refl
+takes_with_id own (ports.Server node id o) = refl
+takes_with_id own command = refl
 
 making_with_id : {E H : Type 0} (own : UniqueSystemId) (command : the_port_command.PortCommand E H) → is_making (with_id own command) ≡ is_making command
 making_with_id own (ports.Client node id o) = refl
@@ -75,10 +75,10 @@ making_with_id own command = refl
 
 -- a hub tells it only where memory is taken, and so does its service
 pub port_wants : {E H C Z : Type 0} (own : UniqueSystemId) (command given : the_port_command.PortCommand E H) (answer : the_port_reply.PortReply (Vec ℕ Z) C)
-    (reply : the_reply.Reply (Vec ℕ Z) C) → given ≡ with_id own command → (wants_memory answer ≡ true → is_read given ≡ true)
+    (reply : the_reply.Reply (Vec ℕ Z) C) → given ≡ with_id own command → (wants_memory answer ≡ true → takes_memory given ≡ true)
     → (wants_segment answer ≡ true → is_making given ≡ true) → reply ≡ reply_of answer → PortWantsRightly command reply
 port_wants own command given answer reply with memory segment told = record {
-  memory = λ e. sym (read_with_id own command) ∙ sym (ap is_read with) ∙ memory (sym (memory_told answer) ∙ sym (ap tells_memory told) ∙ ap tells_memory e);
+  memory = λ e. sym (takes_with_id own command) ∙ sym (ap takes_memory with) ∙ memory (sym (memory_told answer) ∙ sym (ap tells_memory told) ∙ ap tells_memory e);
   segment = λ e. sym (making_with_id own command) ∙ sym (ap is_making with) ∙ segment (sym (segment_told answer) ∙ sym (ap tells_segment told) ∙ ap tells_segment e);
 }
 
@@ -134,6 +134,8 @@ port_lacks_wants : {Q P H C L : Type 0} (q : Q → List ℕ) (p : P → List ℕ
 port_lacks_wants q p w s (ports.Client node id o) lacks = record { memory = λ e. no_memory_told _ _ refl e; segment = λ e. refl }
 port_lacks_wants q p w s (ports.Server node id o) lacks = record { memory = λ e. no_memory_told _ _ refl e; segment = λ e. refl }
 port_lacks_wants q p w s (ports.Read node n) lacks = record { memory = λ e. refl; segment = λ e. no_segment_told _ _ refl e }
+port_lacks_wants q p w s (ports.Loan node n k) lacks = record { memory = λ e. refl; segment = λ e. no_segment_told _ _ refl e }
+port_lacks_wants q p w s (ports.SendCopy node n e) lacks = record { memory = λ e. refl; segment = λ e. no_segment_told _ _ refl e }
 port_lacks_wants q p w s command lacks = absurd (lacks any_cause)
 
 -- where memory is missing, want of it is told
@@ -151,10 +153,12 @@ pub of_port : {E H V L C : Type 0} (command : the_command.Command E H V) (at_por
     → command ≡ commands.Port at_port → PortWantsRightly at_port reply → WantsRightly command reply
 of_port command at_port reply is wants = subst (λ k. WantsRightly k reply) (sym is) wants
 
-read_for : {Q P H : Type 0} (q : Q → List ℕ) (p : P → List ℕ) (w : H → List ℕ) (command : the_port_command.PortCommand (Elements Q P) H)
-    → is_read (command_for q p w command) ≡ is_read command
-read_for q p w (ports.Read node n) = refl
-read_for q p w command = refl
+takes_for : {Q P H : Type 0} (q : Q → List ℕ) (p : P → List ℕ) (w : H → List ℕ) (command : the_port_command.PortCommand (Elements Q P) H)
+    → takes_memory (command_for q p w command) ≡ takes_memory command
+takes_for q p w (ports.Read node n) = refl
+takes_for q p w (ports.Loan node n k) = refl
+takes_for q p w (ports.SendCopy node n e) = refl
+takes_for q p w command = refl
 
 making_for : {Q P H : Type 0} (q : Q → List ℕ) (p : P → List ℕ) (w : H → List ℕ) (command : the_port_command.PortCommand (Elements Q P) H)
     → is_making (command_for q p w command) ≡ is_making command
@@ -165,7 +169,7 @@ making_for q p w command = refl
 pub port_given_wants : {Q P H L C : Type 0} (q : Q → List ℕ) (p : P → List ℕ) (w : H → List ℕ) (command : the_port_command.PortCommand (Elements Q P) H)
     (reply : the_reply.Reply L C) → PortWantsRightly (command_for q p w command) reply → PortWantsRightly command reply
 port_given_wants q p w command reply wants = record {
-  memory = λ e. sym (read_for q p w command) ∙ wants.memory e;
+  memory = λ e. sym (takes_for q p w command) ∙ wants.memory e;
   segment = λ e. sym (making_for q p w command) ∙ wants.segment e;
 }
 
@@ -173,7 +177,7 @@ pub given_wants : {Q P H C L D : Type 0} (q : Q → List ℕ) (p : P → List �
     (command : the_command.Command (Elements Q P) H (Option (the_refusal.Refusal C))) (reply : the_reply.Reply L D)
     → WantsRightly command reply → WantsRightly (command_given q p w cause command) reply
 given_wants q p w cause (commands.Port command) reply wants = record {
-  memory = λ e. read_for q p w command ∙ wants.memory e;
+  memory = λ e. takes_for q p w command ∙ wants.memory e;
   segment = λ e. making_for q p w command ∙ wants.segment e;
 }
 given_wants q p w cause command reply wants = tt

@@ -4,7 +4,7 @@ use Rattle.std.specs.declared.vec.Vec.{Vec}
 use Rattle.iox_model.specs.declared.command.Command as the_command
 use Rattle.iox_model.specs.declared.command.Command.TheVariants.{Join, Port, ListNodes, ListClients, ListServers}
 use Rattle.iox_model.specs.declared.command.PortCommand as the_port_command
-use Rattle.iox_model.specs.declared.command.PortCommand.TheVariants.{Client, Server, Read}
+use Rattle.iox_model.specs.declared.command.PortCommand.TheVariants.{Client, Server, Read, Loan, SendCopy}
 use Rattle.iox_model.specs.declared.reply.Refusal as the_refusal
 use Rattle.iox_model.specs.declared.reply.Refusal.TheVariants.{UnableToCreateDataSegment, WantOfMemory}
 use Rattle.iox_model.specs.declared.reply.Reply as the_reply
@@ -12,8 +12,8 @@ use Rattle.iox_model.specs.declared.reply.Reply.TheVariants.{Refused}
 use Rattle.iox_model.specs.Commands.{Cause, Command, Reply}
 use Rattle.iox_model.specs.Services.{IsCommand}
 use Rattle.iox_model.specs.States.{State}
-use Rattle.iox_port_commands.specs.Asking.{is_making, is_read}
-use Rattle.iox_port_commands.specs.Memory.{HadMemory}
+use Rattle.iox_port_commands.specs.Asking.{is_making, takes_memory}
+use Rattle.iox_port_commands.specs.Memory.{HadMemory, HasGrowing}
 use Rattle.iox_port_commands.specs.declared.elements.Elements.{Elements}
 use Rattle.iox_nodes.specs.Given.{command_given, reply_given}
 
@@ -43,8 +43,9 @@ abbrev pub is_wanting : {X C : Type 0} → Result X (the_refusal.Refusal C) → 
 is_wanting (Err WantOfMemory) = true
 is_wanting answer = false
 
--- Memory may be missing for the command: it is a listing, or a join, the making of a port or a read
--- that the machine may refuse for that. No other command takes memory.
+-- Memory may be missing for the command: it is a listing, or a join, the making of a port, a read,
+-- a loan or a copy that the machine may refuse for that. For loans and copies it is missing only
+-- where the messages of some port grow. No other command takes memory.
 abbrev pub MayLackMemory : State → Command → Type 0
 MayLackMemory s (Join id asked) = IsCommand s (Join id asked) (Refused WantOfMemory) s
 MayLackMemory s (Port (Client node id o)) =
@@ -52,6 +53,10 @@ MayLackMemory s (Port (Client node id o)) =
 MayLackMemory s (Port (Server node id o)) =
     IsCommand s (Port (Server node id o)) (Refused UnableToCreateDataSegment) s
 MayLackMemory s (Port (Read node n)) = IsCommand s (Port (Read node n)) (Refused WantOfMemory) s
+MayLackMemory s (Port (Loan node n k)) =
+    IsCommand s (Port (Loan node n k)) (Refused WantOfMemory) s × HasGrowing s
+MayLackMemory s (Port (SendCopy node n payload)) =
+    IsCommand s (Port (SendCopy node n payload)) (Refused WantOfMemory) s × HasGrowing s
 MayLackMemory s ListNodes = ⊤
 MayLackMemory s ListClients = ⊤
 MayLackMemory s ListServers = ⊤
@@ -67,11 +72,12 @@ MayFindNoMemory {C = C} q p words s command =
 -- ---- want of memory is told
 
 -- What a node asks of its ports is told want of memory only where memory is taken: `WantOfMemory`
--- only where it reads, `UnableToCreateDataSegment` only where it makes a port.
+-- only where it reads, or where a message may grow: at a loan or a copy. `UnableToCreateDataSegment`
+-- only where it makes a port.
 pub record PortWantsRightly {E H L C : Type 0} (command : the_port_command.PortCommand E H)
     (reply : the_reply.Reply L C) : Type 0
   where
-    pub memory : reply ≡ Refused WantOfMemory → is_read command ≡ true
+    pub memory : reply ≡ Refused WantOfMemory → takes_memory command ≡ true
     pub segment : reply ≡ Refused UnableToCreateDataSegment → is_making command ≡ true
 
 -- The same of a command of a service. Of all others the machine lets only a join be told so.
@@ -82,7 +88,7 @@ WantsRightly command reply = ⊤
 
 -- ---- only for proofs of this crate
 
--- how a command of a node is refused where memory is missing for it: it makes a port, or it reads
+-- how a command of a node is refused where memory is missing for it: the making of a port, or another
 abbrev pub want_of : {C : Type 0} → Bool → the_refusal.Refusal C
 want_of making = if making then UnableToCreateDataSegment else WantOfMemory
 

@@ -29,7 +29,7 @@ pub(crate) fn is_making<P, H>(command: &PortCommand<P, H>) -> bool
     )
 }
 
-/// How a command is refused where there is no memory for it: the making of a port, or a read.
+/// How a command is refused where there is no memory for it: the making of a port, or another.
 pub(crate) fn want_of<C>(making: bool) -> Refusal<C>
     ensures { result ≡ want_of making }
 {
@@ -42,8 +42,8 @@ pub(crate) fn want_of<C>(making: bool) -> Refusal<C>
 impl<Q: Payload, QH: Words, P: Payload, PH: Words> Service<Q, QH, P, PH> {
     /// A node makes a port, or calls a port or a handle by its number. A port gets the id with
     /// which its node joined. It is refused as `UnknownNode` or `NodeIsDead` before all that the
-    /// hub tests. Where there is no memory for a port or for what is read, that is a reply, too; no
-    /// other command is told so.
+    /// hub tests. Where there is no memory for a port, for what is read or for a message that grows,
+    /// that is a reply, too; no other command is told so.
     ///
     /// It stands in its callers, since a call would copy the command and the reply once more.
     #[inline(always)]
@@ -66,7 +66,7 @@ impl<Q: Payload, QH: Words, P: Payload, PH: Words> Service<Q, QH, P, PH> {
         }
     }
 
-    /// The same, where there is memory for a port and for what is read.
+    /// The same, where there is memory for a port, for what is read and for a message that grows.
     pub(crate) fn try_port<H: Words, C>(
         &mut self,
         alloc: Global,

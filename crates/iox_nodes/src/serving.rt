@@ -50,12 +50,11 @@ fn refusal_for_want<P, H, V, C>(command: &Command<P, H, V>) -> Option<Refusal<C>
 
 impl<Q: Payload, QH: Words, P: Payload, PH: Words> Service<Q, QH, P, PH> {
     /// Answers a command, where there is memory for it. Its replies are those of the machine with
-    /// memory. It fails only where there is none for a join, for a port, for what is read or for a
-    /// listing, and changes nothing then.
+    /// memory. It fails only where there is none for a join, for a port, for what is read, for a
+    /// message that grows or for a listing, and changes nothing then.
     ///
-    /// For a port that is too large, that has a handler or whose messages would grow, a service
-    /// never has memory. Nor has it for a join once 2^64 - 1 nodes joined, or where what is asked
-    /// says `WantOfMemory` itself.
+    /// For a port that is too large or has a handler, a service never has memory. Nor has it for a
+    /// join once 2^64 - 1 nodes joined, or where what is asked says `WantOfMemory` itself.
     pub fn try_serve<H: Words, C: Copy>(
         &mut self,
         alloc: Global,
@@ -80,8 +79,8 @@ impl<Q: Payload, QH: Words, P: Payload, PH: Words> Service<Q, QH, P, PH> {
     }
 
     /// Answers a command. It fails only for want of memory for a listing, and changes nothing then.
-    /// Want of memory for a join, for a port and for a read is a reply, as the machine has it; no
-    /// other command is told so.
+    /// Want of memory for a join, for a port, for a read and for a message that grows is a reply, as
+    /// the machine has it; no other command is told so.
     pub fn serve<H: Words, C: Copy>(
         &mut self,
         alloc: Global,

@@ -3,3 +3,4 @@ pub mod Making
 pub mod Wanting
 pub mod Shaping
 pub mod Lacking
+pub mod Growing

@@ -53,6 +53,13 @@ abbrev pub is_read : {E H : Type 0} → the_command.PortCommand E H → Bool
 is_read (commands.Read node n) = true
 is_read command = false
 
+-- whether the command takes memory, but for that of a port: what is read, and a message that grows
+abbrev pub takes_memory : {E H : Type 0} → the_command.PortCommand E H → Bool
+takes_memory (commands.Read node n) = true
+takes_memory (commands.Loan node n k) = true
+takes_memory (commands.SendCopy node n e) = true
+takes_memory command = false
+
 -- whether the command makes a port
 abbrev pub is_making : {E H : Type 0} → the_command.PortCommand E H → Bool
 is_making (commands.Client node id o) = true

@@ -6,6 +6,10 @@ ghost use Rattle.iox_hub.specs.Replies.{reply_of_receive};
 ghost use Rattle.iox_hub.specs.Answers as responses;
 ghost use Rattle.iox_hub.specs.Fills.{reply_of_write};
 ghost use Rattle.iox_hub.specs.Lends.{refusal_of as loan_refusal, reply_of_loan};
+ghost use Rattle.iox_hub.specs.Lent.TheVariants as lents;
+ghost use Rattle.iox_hub.specs.LoanRefusal.TheVariants.{WantOfMemory};
+ghost use Rattle.iox_hub.specs.Copied.TheVariants as copies;
+ghost use Rattle.iox_hub.specs.Answered.TheVariants as answers;
 ghost use Rattle.iox_hub.specs.NotMade.TheVariants.{DataSegment};
 ghost use Rattle.iox_hub.specs.MadePorts.{refusal_of as making_refusal};
 ghost use Rattle.iox_hub.specs.Asking.{refusal_of};
@@ -60,28 +64,31 @@ pub(crate) fn not_made<C>(role: Role, reason: NotMade) -> Result<PortReply<Vec<u
     Ok(PortReply::Refused(refusal))
 }
 
-/// No loan was made, not even for a copy.
-fn not_lent<C>(reason: LoanRefusal) -> PortReply<Vec<u64>, C>
-    ensures reply { IsTheReply result (Refused (loan_refusal reason)) }
-    ensures memory { tells_want result ≡ false }
+/// No loan was made, not even for a copy. It fails where there was no memory for it.
+fn not_lent<C>(reason: LoanRefusal) -> Result<PortReply<Vec<u64>, C>, AllocError>
+    ensures reply { IfOk result (λ reply. IsTheReply reply (Refused (loan_refusal reason))) }
+    ensures memory { IfOk result (λ reply. tells_want reply ≡ false) }
+    ensures wanting { OnErr result (reason ≡ WantOfMemory) }
 {
-    PortReply::Refused(match reason {
+    Ok(PortReply::Refused(match reason {
         LoanRefusal::CallsSpent => Refusal::CallsSpent,
         LoanRefusal::WrongLength => Refusal::WrongLength,
         LoanRefusal::ExceedsMaxLoanSize => Refusal::ExceedsMaxLoanSize,
         LoanRefusal::ExceedsMaxLoans => Refusal::ExceedsMaxLoans,
-    })
+        LoanRefusal::WantOfMemory => return Err(AllocError),
+    }))
 }
 
-/// What a loan came to.
-pub(crate) fn lent<C>(lent: Lent) -> PortReply<Vec<u64>, C>
-    ensures reply { IsTheReply result (reply_of_loan lent) }
-    ensures memory { tells_want result ≡ false }
+/// What a loan came to. It fails where there was no memory for it.
+pub(crate) fn lent<C>(lent: Lent) -> Result<PortReply<Vec<u64>, C>, AllocError>
+    ensures reply { IfOk result (λ reply. IsTheReply reply (reply_of_loan lent)) }
+    ensures memory { IfOk result (λ reply. tells_want reply ≡ false) }
+    ensures wanting { OnErr result (lent ≡ lents.Refused WantOfMemory) }
 {
     match lent {
-        Lent::Handle(loan) => PortReply::Handle(loan.number),
+        Lent::Handle(loan) => Ok(PortReply::Handle(loan.number)),
         Lent::Refused(reason) => not_lent(reason),
-        Lent::OutOfMemory => PortReply::Refused(Refusal::OutOfMemory),
+        Lent::OutOfMemory => Ok(PortReply::Refused(Refusal::OutOfMemory)),
     }
 }
 
@@ -121,35 +128,37 @@ pub(crate) fn responded<C>(responded: Responded) -> PortReply<Vec<u64>, C>
     }
 }
 
-/// What the copy of a request came to.
-pub(crate) fn copied<C>(copied: Copied) -> PortReply<Vec<u64>, C>
-    ensures reply { IsTheReply result (requests.reply_of_copy copied) }
-    ensures memory { tells_want result ≡ false }
+/// What the copy of a request came to. It fails where there was no memory for it.
+pub(crate) fn copied<C>(copied: Copied) -> Result<PortReply<Vec<u64>, C>, AllocError>
+    ensures reply { IfOk result (λ reply. IsTheReply reply (requests.reply_of_copy copied)) }
+    ensures memory { IfOk result (λ reply. tells_want reply ≡ false) }
+    ensures wanting { OnErr result (copied ≡ copies.Refused WantOfMemory) }
 {
-    match copied {
+    Ok(match copied {
         Copied::To {
             number,
             servers: _,
             place: _,
         } => PortReply::Handle(number),
-        Copied::Refused(reason) => not_lent(reason),
+        Copied::Refused(reason) => return not_lent(reason),
         Copied::OutOfMemory => PortReply::Refused(Refusal::OutOfMemory),
         Copied::ExceedsMaxActiveRequests => PortReply::Refused(Refusal::ExceedsMaxActiveRequests),
         Copied::UnableToDeliver => PortReply::Refused(Refusal::UnableToDeliver),
-    }
+    })
 }
 
-/// What the copy of a response came to.
-pub(crate) fn answered<C>(answered: Answered) -> PortReply<Vec<u64>, C>
-    ensures reply { IsTheReply result (responses.reply_of_copy answered) }
-    ensures memory { tells_want result ≡ false }
+/// What the copy of a response came to. It fails where there was no memory for it.
+pub(crate) fn answered<C>(answered: Answered) -> Result<PortReply<Vec<u64>, C>, AllocError>
+    ensures reply { IfOk result (λ reply. IsTheReply reply (responses.reply_of_copy answered)) }
+    ensures memory { IfOk result (λ reply. tells_want reply ≡ false) }
+    ensures wanting { OnErr result (answered ≡ answers.Refused WantOfMemory) }
 {
-    match answered {
+    Ok(match answered {
         Answered::Done(_) => PortReply::Done,
-        Answered::Refused(reason) => not_lent(reason),
+        Answered::Refused(reason) => return not_lent(reason),
         Answered::OutOfMemory => PortReply::Refused(Refusal::OutOfMemory),
         Answered::Undelivered => PortReply::Refused(Refusal::UnableToDeliver),
-    }
+    })
 }
 
 /// What a receive came to.

@@ -5,9 +5,9 @@ ghost use Rattle.iox_model.specs.declared.reply.PortReply.TheVariants.{Refused};
 ghost use Rattle.iox_model.specs.declared.reply.Refusal.TheVariants as refusals;
 ghost use Rattle.iox_hub.specs.Making.{StaysAs};
 ghost use Rattle.iox_hub.specs.Keeping.{HaveSameShapes};
-ghost use Rattle.iox_port_commands.specs.Applying.{HadMemoryFor, HaveDefaults};
+ghost use Rattle.iox_port_commands.specs.Applying.{GrowsIfLent, HadMemoryFor, HaveDefaults};
 ghost use Rattle.iox_port_commands.specs.Applying.{IsApplied, LacksMemoryFor};
-ghost use Rattle.iox_port_commands.specs.Asking.{is_making, is_read};
+ghost use Rattle.iox_port_commands.specs.Asking.{is_making, takes_memory};
 ghost use Rattle.iox_port_commands.specs.Telling.{tells_want, wants_memory, wants_segment};
 
 use crate::copies::send_copy;
@@ -40,7 +40,8 @@ fn dispatch<Q: Payload, QH: Words, P: Payload, PH: Words, H: Words, C>(
     ensures memory { IfOk result (λ reply. tells_want reply ≡ false) }
     ensures wanting { OnErr result
         (LacksMemoryFor Q.Element.words P.Element.words H.words hub.old command hub.new) }
-    ensures takes { OnErr result ((is_making command || is_read command) ≡ true) }
+    ensures takes { OnErr result ((is_making command || takes_memory command) ≡ true) }
+    ensures grows { OnErr result (GrowsIfLent hub.old command) }
     ensures unchanged { OnErr result (StaysAs hub.old hub.new) }
 {
     // One place for the replies of all calls: each place is cleared before it is filled.
@@ -56,7 +57,7 @@ fn dispatch<Q: Payload, QH: Words, P: Payload, PH: Words, H: Words, C>(
             node,
             number,
             elements,
-        } => loan(hub, node, number, elements),
+        } => return loan(hub, node, number, elements),
         PortCommand::Write {
             node,
             number,
@@ -67,7 +68,7 @@ fn dispatch<Q: Payload, QH: Words, P: Payload, PH: Words, H: Words, C>(
             node,
             number,
             payload,
-        } => send_copy(hub, node, number, &payload),
+        } => return send_copy(hub, node, number, &payload),
         PortCommand::Receive { node, number } => receive(hub, node, number),
         PortCommand::Release { node, number } => release(hub, node, number),
         PortCommand::IsConnected { node, number } => is_connected(hub, node, number),
@@ -82,9 +83,9 @@ fn dispatch<Q: Payload, QH: Words, P: Payload, PH: Words, H: Words, C>(
 /// by the first test that fails, as the machine has it. A node is whoever the command says: which
 /// nodes there are is the service's matter.
 ///
-/// It fails only where there is no memory for a port or for what is read, and changes nothing then.
-/// Its replies are those of the machine with memory. For a port that is too large, that has a
-/// handler or whose messages would grow, a hub never has memory.
+/// It fails only where there is no memory for a port, for what is read, or for a message that has to
+/// grow, and changes nothing then. Its replies are those of the machine with memory. For a port that
+/// is too large or has a handler, a hub never has memory.
 pub fn try_apply<Q: Payload, QH: Words, P: Payload, PH: Words, H: Words, C>(
     hub: &mut Hub<Q, QH, P, PH>,
     alloc: Global,
@@ -97,7 +98,8 @@ pub fn try_apply<Q: Payload, QH: Words, P: Payload, PH: Words, H: Words, C>(
         hub.old command reply) }
     ensures wanting { OnErr result
         (LacksMemoryFor Q.Element.words P.Element.words H.words hub.old command hub.new) }
-    ensures takes { OnErr result ((is_making command || is_read command) ≡ true) }
+    ensures takes { OnErr result ((is_making command || takes_memory command) ≡ true) }
+    ensures grows { OnErr result (GrowsIfLent hub.old command) }
     ensures unchanged { OnErr result (StaysAs hub.old hub.new) }
     ensures shapes { HaveSameShapes hub.old hub.new }
     ensures defaults { HaveDefaults hub.new }
@@ -115,7 +117,7 @@ fn is_making<P, H>(command: &PortCommand<P, H>) -> bool
     )
 }
 
-/// How a command is refused where there is no memory for it: the making of a port, or a read.
+/// How a command is refused where there is no memory for it: the making of a port, or another.
 fn lacking<C>(making: bool) -> PortReply<Vec<u64>, C>
     ensures { result ≡ Refused (if making then refusals.UnableToCreateDataSegment
         else refusals.WantOfMemory) }
@@ -127,7 +129,8 @@ fn lacking<C>(making: bool) -> PortReply<Vec<u64>, C>
 }
 
 /// The same as [`try_apply`], where want of memory is a reply as well: `UnableToCreateDataSegment`
-/// for a port, `WantOfMemory` for a read. No other command is refused so.
+/// for a port, `WantOfMemory` for a read, and for a loan or a copy where the messages of some port
+/// grow. No other command is refused so.
 pub fn apply<Q: Payload, QH: Words, P: Payload, PH: Words, H: Words, C>(
     hub: &mut Hub<Q, QH, P, PH>,
     alloc: Global,
@@ -136,7 +139,8 @@ pub fn apply<Q: Payload, QH: Words, P: Payload, PH: Words, H: Words, C>(
     requires { HaveDefaults hub.old }
     ensures whole { IsApplied Q.Element.words P.Element.words H.words hub.old command result
         hub.new }
-    ensures memory { wants_memory result ≡ true → is_read command ≡ true }
+    ensures memory { wants_memory result ≡ true → takes_memory command ≡ true }
+    ensures grows { wants_memory result ≡ true → GrowsIfLent hub.old command }
     ensures segment { wants_segment result ≡ true → is_making command ≡ true }
     ensures unchanged { tells_want result ≡ true → StaysAs hub.old hub.new }
     ensures shapes { HaveSameShapes hub.old hub.new }

@@ -1,9 +1,10 @@
 //! Copies by number: loan, write and send in one.
-ghost use Rattle.std.specs.Prelude.{◌≡◌, false, flat_map, length};
+ghost use Rattle.std.specs.Prelude.{◌≡◌, IfOk, OnErr, false, flat_map, length};
 ghost use Rattle.iox_model.specs.declared.call.Call.TheVariants.{SendCopy};
 ghost use Rattle.iox_model.specs.declared.kind.Role.TheVariants as roles;
+ghost use Rattle.iox_model.specs.Commands.{Use};
 ghost use Rattle.iox_hub.specs.Lending.{payload_of};
-ghost use Rattle.iox_port_commands.specs.Applying.{IsCalled};
+ghost use Rattle.iox_port_commands.specs.Applying.{HasGrowingPort, IsCalled, LacksMemory};
 ghost use Rattle.iox_port_commands.specs.Asking.{payload_for};
 ghost use Rattle.iox_port_commands.specs.Telling.{tells_want};
 
@@ -15,19 +16,27 @@ use iox_model::kind::{Kind, Role};
 use iox_model::reply::PortReply;
 use iox_store::Payload;
 use iox_words::Words;
+use std::alloc::AllocError;
 
-/// Sends a request of a client.
+/// Sends a request of a client. It fails only where the message has to grow, and there is no memory
+/// for it.
 pub fn copy_request<Q: Payload, QH: Words, P: Payload, PH: Words, C>(
     hub: &mut Hub<Q, QH, P, PH>,
     node: u64,
     number: u64,
     values: &[Q::Element],
-) -> PortReply<Vec<u64>, C>
-    ensures whole { IsCalled hub.old node
+) -> Result<PortReply<Vec<u64>, C>, AllocError>
+    ensures whole { IfOk result (λ reply. IsCalled hub.old node
         (SendCopy number (payload_of roles.Client (length values.now)
-        (flat_map Q.Element.words values.now))) result hub.new }
-    ensures memory { tells_want result ≡ false }
+        (flat_map Q.Element.words values.now))) reply hub.new) }
+    ensures memory { IfOk result (λ reply. tells_want reply ≡ false) }
+    ensures wanting { OnErr result (LacksMemory hub.old node
+        (Use (SendCopy number (payload_of roles.Client (length values.now)
+        (flat_map Q.Element.words values.now)))) hub.new) }
+    ensures grows { OnErr result (HasGrowingPort hub.old) }
+    ensures unchanged { OnErr result (hub.new ≡ hub.old) }
 {
+    hub.is_in_order();
     match begin(
         hub,
         node,
@@ -38,22 +47,29 @@ pub fn copy_request<Q: Payload, QH: Words, P: Payload, PH: Words, C>(
     ) {
         Ok(Kind::Client) => copied(hub.copy_request(node, number, values)),
         Ok(_) => unreachable!(),
-        Err(reply) => reply,
+        Err(reply) => Ok(reply),
     }
 }
 
-/// Sends a response to the client of an active request.
+/// Sends a response to the client of an active request. It fails only where the message has to grow,
+/// and there is no memory for it.
 pub fn copy_response<Q: Payload, QH: Words, P: Payload, PH: Words, C>(
     hub: &mut Hub<Q, QH, P, PH>,
     node: u64,
     number: u64,
     values: &[P::Element],
-) -> PortReply<Vec<u64>, C>
-    ensures whole { IsCalled hub.old node
+) -> Result<PortReply<Vec<u64>, C>, AllocError>
+    ensures whole { IfOk result (λ reply. IsCalled hub.old node
         (SendCopy number (payload_of roles.Server (length values.now)
-        (flat_map P.Element.words values.now))) result hub.new }
-    ensures memory { tells_want result ≡ false }
+        (flat_map P.Element.words values.now))) reply hub.new) }
+    ensures memory { IfOk result (λ reply. tells_want reply ≡ false) }
+    ensures wanting { OnErr result (LacksMemory hub.old node
+        (Use (SendCopy number (payload_of roles.Server (length values.now)
+        (flat_map P.Element.words values.now)))) hub.new) }
+    ensures grows { OnErr result (HasGrowingPort hub.old) }
+    ensures unchanged { OnErr result (hub.new ≡ hub.old) }
 {
+    hub.is_in_order();
     match begin(
         hub,
         node,
@@ -64,21 +80,25 @@ pub fn copy_response<Q: Payload, QH: Words, P: Payload, PH: Words, C>(
     ) {
         Ok(Kind::ActiveRequest) => answered(hub.copy_response(node, number, NOWHERE, values)),
         Ok(_) => unreachable!(),
-        Err(reply) => reply,
+        Err(reply) => Ok(reply),
     }
 }
 
 /// Sends a message with copies of these elements: a request of a client, or a response to an active
-/// request.
+/// request. It fails only where the message has to grow, and there is no memory for it.
 pub(crate) fn send_copy<Q: Payload, QH: Words, P: Payload, PH: Words, C>(
     hub: &mut Hub<Q, QH, P, PH>,
     node: u64,
     number: u64,
     payload: &Elements<Q::Element, P::Element>,
-) -> PortReply<Vec<u64>, C>
-    ensures whole { IsCalled hub.old node
-        (SendCopy number (payload_for Q.Element.words P.Element.words payload.now)) result hub.new }
-    ensures memory { tells_want result ≡ false }
+) -> Result<PortReply<Vec<u64>, C>, AllocError>
+    ensures whole { IfOk result (λ reply. IsCalled hub.old node
+        (SendCopy number (payload_for Q.Element.words P.Element.words payload.now)) reply hub.new) }
+    ensures memory { IfOk result (λ reply. tells_want reply ≡ false) }
+    ensures wanting { OnErr result (LacksMemory hub.old node
+        (Use (SendCopy number (payload_for Q.Element.words P.Element.words payload.now))) hub.new) }
+    ensures grows { OnErr result (HasGrowingPort hub.old) }
+    ensures unchanged { OnErr result (hub.new ≡ hub.old) }
 {
     match payload {
         Elements::Requests(values) => copy_request(hub, node, number, values),

@@ -1,7 +1,8 @@
 //! Loans by number.
-ghost use Rattle.std.specs.Prelude.{◌≡◌, false};
+ghost use Rattle.std.specs.Prelude.{◌≡◌, IfOk, OnErr, false};
 ghost use Rattle.iox_model.specs.declared.call.Call.TheVariants.{Loan};
-ghost use Rattle.iox_port_commands.specs.Applying.{HaveDefaults, IsCalled};
+ghost use Rattle.iox_model.specs.Commands.{Use};
+ghost use Rattle.iox_port_commands.specs.Applying.{HasGrowingPort, HaveDefaults, IsCalled, LacksMemory};
 ghost use Rattle.iox_port_commands.specs.Telling.{tells_want};
 
 use crate::answers::lent;
@@ -11,18 +12,26 @@ use iox_model::kind::Kind;
 use iox_model::reply::PortReply;
 use iox_store::Payload;
 use iox_words::Words;
+use std::alloc::AllocError;
 
-/// Lends a message of a client, or for an active request, in which each element is the default.
+/// Lends a message of a client, or for an active request, in which each element is the default. It
+/// fails only where the message has to grow, and there is no memory for it.
 pub(crate) fn loan<Q: Payload, QH: Words, P: Payload, PH: Words, C>(
     hub: &mut Hub<Q, QH, P, PH>,
     node: u64,
     number: u64,
     elements: u64,
-) -> PortReply<Vec<u64>, C>
+) -> Result<PortReply<Vec<u64>, C>, AllocError>
     requires { HaveDefaults hub.old }
-    ensures whole { IsCalled hub.old node (Loan number elements) result hub.new }
-    ensures memory { tells_want result ≡ false }
+    ensures whole { IfOk result (λ reply.
+        IsCalled hub.old node (Loan number elements) reply hub.new) }
+    ensures memory { IfOk result (λ reply. tells_want reply ≡ false) }
+    ensures wanting { OnErr result
+        (LacksMemory hub.old node (Use (Loan number elements)) hub.new) }
+    ensures grows { OnErr result (HasGrowingPort hub.old) }
+    ensures unchanged { OnErr result (hub.new ≡ hub.old) }
 {
+    hub.is_in_order();
     let count = elements as usize;
     match begin(
         hub,
@@ -35,6 +44,6 @@ pub(crate) fn loan<Q: Payload, QH: Words, P: Payload, PH: Words, C>(
         Ok(Kind::Client) => lent(hub.lend_request(node, number, count, false)),
         Ok(Kind::ActiveRequest) => lent(hub.lend_response(node, number, NOWHERE, count, false)),
         Ok(_) => unreachable!(),
-        Err(reply) => reply,
+        Err(reply) => Ok(reply),
     }
 }

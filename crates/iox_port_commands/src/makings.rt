@@ -17,7 +17,7 @@ use iox_words::Words;
 use std::alloc::{AllocError, Global};
 
 /// Makes a port of that role, with no handler. It fails where there is no memory for the port: none
-/// was found, the port is too large, or its messages would grow. All stays then.
+/// was found, or the port is too large. All stays then.
 pub fn make_port<Q: Payload, QH: Words, P: Payload, PH: Words, C>(
     hub: &mut Hub<Q, QH, P, PH>,
     alloc: Global,

@@ -3,9 +3,9 @@ ghost use Rattle.std.specs.Prelude.{◌≡◌, ◌||◌, IfOk, OnErr, true};
 ghost use Rattle.iox_hub.specs.Hubs.{HubState};
 ghost use Rattle.iox_hub.specs.Making.{StaysAs};
 ghost use Rattle.iox_hub.specs.Keeping.{HaveSameShapes};
-ghost use Rattle.iox_port_commands.specs.Applying.{HadMemoryFor, HaveDefaults};
+ghost use Rattle.iox_port_commands.specs.Applying.{GrowsIfLent, HadMemoryFor, HaveDefaults};
 ghost use Rattle.iox_port_commands.specs.Applying.{IsApplied, LacksMemoryFor};
-ghost use Rattle.iox_port_commands.specs.Asking.{is_making, is_read};
+ghost use Rattle.iox_port_commands.specs.Asking.{is_making, takes_memory};
 ghost use Rattle.iox_port_commands.specs.Telling.{tells_want, wants_memory, wants_segment};
 
 use crate::applying::{apply, try_apply};
@@ -36,7 +36,8 @@ pub trait ApplyCommand {
         requires { HaveDefaults (shown self.old) }
         ensures whole { IsApplied Self.Request.words Self.Response.words H.words (shown self.old)
             command result (shown self.new) }
-        ensures memory { wants_memory result ≡ true → is_read command ≡ true }
+        ensures memory { wants_memory result ≡ true → takes_memory command ≡ true }
+        ensures grows { wants_memory result ≡ true → GrowsIfLent (shown self.old) command }
         ensures segment { wants_segment result ≡ true → is_making command ≡ true }
         ensures unchanged { tells_want result ≡ true → StaysAs (shown self.old) (shown self.new) }
         ensures shapes { HaveSameShapes (shown self.old) (shown self.new) }
@@ -55,7 +56,8 @@ pub trait ApplyCommand {
             H.words (shown self.old) command reply) }
         ensures wanting { OnErr result (LacksMemoryFor Self.Request.words Self.Response.words
             H.words (shown self.old) command (shown self.new)) }
-        ensures takes { OnErr result ((is_making command || is_read command) ≡ true) }
+        ensures takes { OnErr result ((is_making command || takes_memory command) ≡ true) }
+        ensures grows { OnErr result (GrowsIfLent (shown self.old) command) }
         ensures unchanged { OnErr result (StaysAs (shown self.old) (shown self.new)) }
         ensures shapes { HaveSameShapes (shown self.old) (shown self.new) }
         ensures defaults { HaveDefaults (shown self.new) };
@@ -77,7 +79,8 @@ impl<Q: Payload, QH: Words, P: Payload, PH: Words> ApplyCommand for Hub<Q, QH, P
         requires { HaveDefaults self.old }
         ensures whole { IsApplied Q.Element.words P.Element.words H.words self.old command result
             self.new }
-        ensures memory { wants_memory result ≡ true → is_read command ≡ true }
+        ensures memory { wants_memory result ≡ true → takes_memory command ≡ true }
+        ensures grows { wants_memory result ≡ true → GrowsIfLent self.old command }
         ensures segment { wants_segment result ≡ true → is_making command ≡ true }
         ensures unchanged { tells_want result ≡ true → StaysAs self.old self.new }
         ensures shapes { HaveSameShapes self.old self.new }
@@ -99,7 +102,8 @@ impl<Q: Payload, QH: Words, P: Payload, PH: Words> ApplyCommand for Hub<Q, QH, P
             self.old command reply) }
         ensures wanting { OnErr result (LacksMemoryFor Q.Element.words P.Element.words H.words
             self.old command self.new) }
-        ensures takes { OnErr result ((is_making command || is_read command) ≡ true) }
+        ensures takes { OnErr result ((is_making command || takes_memory command) ≡ true) }
+        ensures grows { OnErr result (GrowsIfLent self.old command) }
         ensures unchanged { OnErr result (StaysAs self.old self.new) }
         ensures shapes { HaveSameShapes self.old self.new }
         ensures defaults { HaveDefaults self.new }

@@ -1,11 +1,11 @@
 //! Callers of commands, proved from their clauses alone.
-ghost use Rattle.std.specs.Prelude.{◌≡◌, false, flat_map, length};
+ghost use Rattle.std.specs.Prelude.{◌≡◌, flat_map, length, true};
 ghost use Rattle.iox_model.specs.declared.call.Call.TheVariants.{Read, SendCopy};
 ghost use Rattle.iox_model.specs.declared.kind.Role.TheVariants as roles;
 ghost use Rattle.iox_hub.specs.Hubs.{IsReached};
 ghost use Rattle.iox_hub.specs.Lending.{payload_of};
 ghost use Rattle.iox_hub.specs.Keeping.{HaveSameShapes};
-ghost use Rattle.iox_port_commands.specs.Applying.{HaveDefaults, IsCalled};
+ghost use Rattle.iox_port_commands.specs.Applying.{HasGrowingPort, HaveDefaults, IsCalled};
 ghost use Rattle.iox_port_commands.specs.Telling.{wants_memory};
 
 use crate::{Elements, apply};
@@ -37,7 +37,7 @@ fn plain() -> PortOptions<u64> {
 }
 
 /// A client is asked to send a copy of these elements: that is one whole call of the machine. It is
-/// not refused for want of memory.
+/// refused for want of memory only where the messages of some port grow.
 pub fn sends_a_copy<E: Words>(
     hub: &mut Hub<Many<E>, (), One<u64>, ()>,
     alloc: Global,
@@ -49,7 +49,7 @@ pub fn sends_a_copy<E: Words>(
     ensures whole { IsCalled hub.old node
         (SendCopy client (payload_of roles.Client (length values.items)
         (flat_map E.words values.items))) result hub.new }
-    ensures memory { wants_memory result ≡ false }
+    ensures memory { wants_memory result ≡ true → HasGrowingPort hub.old }
 {
     let command: Command<E> = PortCommand::SendCopy {
         node,

@@ -1,5 +1,5 @@
 //! A bounded queue in a ring of cells, on which the queues stand.
-ghost use Rattle.std.specs.Prelude.{◌≡◌, ◌<◌, ◌≤◌, ◌↔◌, [], IfNone, IsTrue, OnSome, length};
+ghost use Rattle.std.specs.Prelude.{◌≡◌, ◌<◌, ◌≤◌, ◌↔◌, [], IfNone, IsTrue, OnSome, length, slice_get};
 ghost use Rattle.std.specs.Bool.{OnFalse, OnTrue};
 ghost use Rattle.iox_queues.specs.BoundedQueues.{HasRoom, empty_queue, first, handed_back, is_full, is_spent, with_overflow, with_pushed, without_first};
 
@@ -67,6 +67,21 @@ impl<T: Copy> Ring<T> {
         places.oldest += 1;
         places.full_end = 0;
         Some(value)
+    }
+
+    /// The value that waits at that rank, the oldest at 0.
+    #[inline]
+    pub(crate) fn get(&self, rank: usize) -> Option<T>
+        ensures { result ≡ slice_get self.now.waiting rank }
+    {
+        if self.len() <= rank {
+            return None;
+        }
+        let before_end = self.cells.len() - self.places.oldest;
+        if rank < before_end {
+            return Some(self.cells[self.places.oldest + rank]);
+        }
+        Some(self.cells[rank - before_end])
     }
 
     /// Adds a value behind the others, in the place of the oldest if the queue is full, and hands

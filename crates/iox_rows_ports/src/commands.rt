@@ -4,6 +4,7 @@ ghost use Rattle.std.specs.Prelude.{IfOk};
 ghost use Rattle.iox_port_commands.specs.Applying.{HaveDefaults};
 
 mod exchanges;
+mod growing;
 mod limits;
 mod names;
 mod numbers;
@@ -135,6 +136,8 @@ enum Given {
     Longest(u64),
     Pool(u64),
     Allocation(AllocationStrategy),
+    /// So many messages, which grow.
+    GrowingPool(u64),
     Handler,
 }
 
@@ -179,6 +182,11 @@ fn options(given: Given) -> PortOptions<u64> {
         },
         Given::Allocation(strategy) => PortOptions {
             allocation: Some(strategy),
+            ..OPTIONS
+        },
+        Given::GrowingPool(messages) => PortOptions {
+            pool: Some(messages),
+            allocation: Some(AllocationStrategy::BestFit),
             ..OPTIONS
         },
         Given::Handler => PortOptions {

@@ -14,6 +14,8 @@ mod expected;
 #[cfg(test)]
 mod fillings;
 #[cfg(test)]
+mod growing;
+#[cfg(test)]
 mod long_requests;
 #[cfg(test)]
 mod overrides;

@@ -104,10 +104,8 @@ fn refused_server(
 #[test]
 fn ports_are_refused_by_name(rt: HostRuntime) -> Result<(), Fail> {
     let mut hub = hub(rt.alloc(), true, BackpressureStrategy::DiscardData)?;
-    let growing = PortFactoryServer::new(1, NODE).allocation_strategy(
-        AllocationStrategy::PowerOfTwo,
-    );
-    let first = refused_server(rt.alloc(), &mut hub, growing);
+    let large = PortFactoryServer::new(1, NODE).initial_max_slice_len(u64::MAX);
+    let first = refused_server(rt.alloc(), &mut hub, large);
     let single = PortFactoryClient::new(0, NODE).allocation_strategy(
         AllocationStrategy::PowerOfTwo,
     );

@@ -1,41 +1,77 @@
 -- What a service is asked by a line, and what it answers.
-use Rattle.std.specs.Prelude.{◌≡◌, ℕ, Bool, true, false, Option, Some, MatchOption, Result, Ok, Err, IfOk, OnErr, IsTrue}
+use Rattle.std.specs.Prelude.{◌≡◌, ℕ, Bool, true, false, unwrap_or, Option, Some, None, MatchOption, Result, Ok, Err, IfOk, OnErr, IsTrue}
+use Rattle.std.specs.List.{list_any}
 use Rattle.std.specs.declared.convert.Infallible.{Infallible}
 use Rattle.std.specs.declared.vec.Vec.{Vec}
-use Rattle.std.proofs.Common.{subst, sym, true≢false}
+use Rattle.std.proofs.Common.{ap, subst, sym, true≢false, ◌∙◌}
 use Rattle.std.proofs.lemmas.Option.{none-some, same_Some}
 use Rattle.iox_words.specs.Numbers.{no_word, one_word}
 use Rattle.iox_types.specs.declared.identifiers.system_id.UniqueSystemId.{UniqueSystemId}
+use Rattle.iox_model.specs.declared.call.Call.TheVariants as calls
 use Rattle.iox_model.specs.declared.command.Command as the_command
 use Rattle.iox_model.specs.declared.command.Command.TheVariants.{Join, Port}
 use Rattle.iox_model.specs.declared.command.PortCommand.TheVariants as ports
 use Rattle.iox_model.specs.declared.kind.Role.{Role}
 use Rattle.iox_model.specs.declared.kind.Role.TheVariants as roles
 use Rattle.iox_model.specs.declared.reply.Refusal as the_refusal
-use Rattle.iox_model.specs.declared.reply.Refusal.TheVariants.{UnableToCreateDataSegment}
+use Rattle.iox_model.specs.declared.reply.Refusal.TheVariants.{UnableToCreateDataSegment, WantOfMemory}
 use Rattle.iox_model.specs.declared.reply.Reply as the_reply
 use Rattle.iox_model.specs.declared.reply.Reply.TheVariants.{Refused}
-use Rattle.iox_model.specs.Commands.{Command, Reply}
-use Rattle.iox_model.specs.Makings.{is_large}
+use Rattle.iox_model.specs.Commands.{Command, Create, Reply, Use}
+use Rattle.iox_model.specs.Makings.{allocation_of, is_large}
 use Rattle.iox_model.specs.Services.{IsCommand}
-use Rattle.iox_model.specs.Settings.{Limits}
-use Rattle.iox_model.specs.States.{State}
+use Rattle.iox_model.specs.Settings.{Limits, is_static}
+use Rattle.iox_model.specs.States.{Port as ThePort, State}
 use Rattle.iox_nodes.specs.Given as nodes
 use Rattle.iox_nodes.specs.Given.{command_given}
 use Rattle.iox_nodes.specs.Memory.{IsAnsweredWithMemory, IsDoneWithMemory, MayFindNoMemory, MayLackMemory}
 use Rattle.iox_nodes.specs.Shown.{ServiceTables, service_of}
+use Rattle.iox_nodes.specs.PortMemory.{HasGrowing}
 use Rattle.iox_nodes.proofs.Reaching.{limits_stay}
+use Rattle.iox_nodes.proofs.Still.{joins_keep, port_commands_keep}
 use Rattle.iox_nodes.specs.Elements.{Elements}
 use Rattle.iox_script.specs.Grammar.{options_of}
 use Rattle.iox_script.specs.Commands.{Options, ServiceCommand, ServiceReply}
-use Rattle.iox_session.specs.Answers.{command_asked, no_cause, options_given, reply_given}
+use Rattle.iox_session.specs.Answers.{command_asked, no_cause, options_given, payload_given, reply_given}
 use Rattle.iox_session.specs.Limits.{limits_with}
-use Rattle.iox_session.specs.Sessions.{IsAsked, IsServed, WantsMemory}
-use Rattle.iox_session.specs.Shown.{IsLimited, IsTold, makes_large}
+use Rattle.iox_session.specs.Sessions.{IsAsked, IsPlain, IsServed, WantsMemory}
+use Rattle.iox_session.specs.Shown.{IsLimited, IsOfScript, IsTold, makes_large}
+
+-- a line does not say that messages grow, and nor does the service
+static_limits : (l : Limits) (role : Role) → IsLimited l → is_static (allocation_of l role) ≡ true
+static_limits l roles.Client limited = ap (λ (k : Limits). is_static k.client_allocation) limited.2
+static_limits l roles.Server limited = ap (λ (k : Limits). is_static k.server_allocation) limited.2
+
+plain_is_still : (l : Limits) (role : Role) (o : Options) → IsLimited l → IsPlain o
+    → is_static (unwrap_or (options_given o).allocation (allocation_of l role)) ≡ true
+plain_is_still l role o limited plain =
+    ap (λ (p : Options). is_static (unwrap_or p.allocation (allocation_of l role))) plain ∙ static_limits l role limited
 
 -- the limits stay
 pub limited_then : (s : State) (c : Command) (reply : Reply) (t : State) → IsLimited s.fixed.limits → IsCommand s c reply t → IsLimited t.fixed.limits
 limited_then s c reply t limited done = subst IsLimited (sym (limits_stay s c reply t done)) limited
+
+-- and so do the messages of ports as long as they are
+still_then : (s t : State) (command : ServiceCommand) (c : Command) (reply : Reply) → Some c ≡ command_asked s command → IsAsked command → IsOfScript s
+    → IsCommand s c reply t → list_any (λ (p : ThePort). p.grows) t.fixed.ports ≡ false
+still_then s t (Join id asked) c reply asks said of done =
+    joins_keep s id None reply t of.still (subst (λ k. IsCommand s k reply t) (same_Some c (Join id None) asks) done)
+still_then s t (Port (ports.Client node id o)) c reply asks said of done =
+    port_commands_keep s node (Create roles.Client id (options_given o)) reply t (plain_is_still s.fixed.limits roles.Client o of.limits said) of.still
+    (subst (λ k. IsCommand s k reply t) (same_Some c (Port (ports.Client node id (options_given o))) asks) done)
+still_then s t (Port (ports.Server node id o)) c reply asks said of done =
+    port_commands_keep s node (Create roles.Server id (options_given o)) reply t (plain_is_still s.fixed.limits roles.Server o of.limits said) of.still
+    (subst (λ k. IsCommand s k reply t) (same_Some c (Port (ports.Server node id (options_given o))) asks) done)
+still_then s t (Port (ports.SendCopy node n words)) c reply asks said of done =
+    port_commands_keep s node (Use (calls.SendCopy n (payload_given s node n words))) reply t tt of.still
+    (subst (λ k. IsCommand s k reply t) (same_Some c (Port (ports.SendCopy node n (payload_given s node n words))) asks) done)
+still_then s t (Port (ports.Receive node n)) c reply asks said of done =
+    port_commands_keep s node (Use (calls.Receive n)) reply t tt of.still
+    (subst (λ k. IsCommand s k reply t) (same_Some c (Port (ports.Receive node n)) asks) done)
+still_then s t (Port (ports.Read node n)) c reply asks said of done =
+    port_commands_keep s node (Use (calls.Read n)) reply t tt of.still
+    (subst (λ k. IsCommand s k reply t) (same_Some c (Port (ports.Read node n)) asks) done)
+still_then s t command c reply asks said of done = absurd (none-some c (sym asks))
 
 -- what is answered
 pub served_so : (s : State) (command : ServiceCommand) (c : Command) (reply : Reply) (answer : ServiceReply) (s' : State)
@@ -50,14 +86,17 @@ lacks : (s : State) (c d : Command) → Some c ≡ Some d → MayLackMemory s c 
 lacks s c d asks may = subst (λ k. MayLackMemory s k) (same_Some c d asks) may
 
 -- the command is one of those that take memory
-pub wants_so : (s : State) (command : ServiceCommand) (c : Command) → Some c ≡ command_asked s command → MayLackMemory s c → WantsMemory command
-wants_so s (Join id asked) c asks may = tt
-wants_so s (Port (ports.Client node id o)) c asks may = tt
-wants_so s (Port (ports.Server node id o)) c asks may = tt
-wants_so s (Port (ports.Read node n)) c asks may = tt
-wants_so s (Port (ports.SendCopy node n words)) c asks may = absurd (lacks s c _ asks may)
-wants_so s (Port (ports.Receive node n)) c asks may = absurd (lacks s c _ asks may)
-wants_so s command c asks may = absurd (none-some c (sym asks))
+pub wants_so : (s : State) (command : ServiceCommand) (c : Command) → Some c ≡ command_asked s command → IsOfScript s → MayLackMemory s c → WantsMemory command
+wants_so s (Join id asked) c asks of may = tt
+wants_so s (Port (ports.Client node id o)) c asks of may = tt
+wants_so s (Port (ports.Server node id o)) c asks of may = tt
+wants_so s (Port (ports.Read node n)) c asks of may = tt
+wants_so s (Port (ports.SendCopy node n words)) c asks of may =
+    let grows : IsCommand s (Port (ports.SendCopy node n (payload_given s node n words))) (Refused WantOfMemory) s × HasGrowing s
+    = lacks s c (Port (ports.SendCopy node n (payload_given s node n words))) asks may in
+    absurd (true≢false (sym grows.1 ∙ of.still))
+wants_so s (Port (ports.Receive node n)) c asks of may = absurd (lacks s c _ asks may)
+wants_so s command c asks of may = absurd (none-some c (sym asks))
 
 large_by : (l : Limits) (role : Role) (o : Options) → IsLimited l
     → ((requests responses : Bool) → true ≡ is_large (limits_with requests responses) role (options_given o)) → IsTrue (is_large l role (options_given o))
@@ -118,17 +157,20 @@ told_stays v v' (Err e) large (Err f) stays told = stays
 told_stays v v' (Ok reply) large (Err f) stays told = absurd told
 
 pub told_wants : {Z E : Type 0} (s : State) (command : ServiceCommand) (c : Command) (r : Result (the_reply.Reply (Vec ℕ Z) Infallible) E) (large : Bool)
-    (told : Result ServiceReply E) → Some c ≡ command_asked s command → OnErr r (MayLackMemory s c) → IsTold r large told → OnErr told (WantsMemory command)
-told_wants s command c r large (Ok answer) asks lacks told = tt
-told_wants s command c (Err e) large (Err f) asks lacks told = wants_so s command c asks lacks
-told_wants s command c (Ok reply) large (Err f) asks lacks told = absurd told
+    (told : Result ServiceReply E) → Some c ≡ command_asked s command → IsOfScript s → OnErr r (MayLackMemory s c) → IsTold r large told → OnErr told (WantsMemory command)
+told_wants s command c r large (Ok answer) asks of lacks told = tt
+told_wants s command c (Err e) large (Err f) asks of lacks told = wants_so s command c asks of lacks
+told_wants s command c (Ok reply) large (Err f) asks of lacks told = absurd told
 
-pub limited_after : {Z E : Type 0} (v v' : ServiceTables) (c : Command) (r : Result (the_reply.Reply (Vec ℕ Z) Infallible) E)
+pub of_script_after : {Z E : Type 0} (v v' : ServiceTables) (command : ServiceCommand) (c : Command) (r : Result (the_reply.Reply (Vec ℕ Z) Infallible) E)
+    → Some c ≡ command_asked (service_of v) command → IsAsked command
     → IfOk r (λ reply. IsDoneWithMemory (service_of v) c (nodes.reply_given no_cause reply) (service_of v')) → OnErr r (v' ≡ v)
-    → IsLimited (service_of v).fixed.limits → IsLimited (service_of v').fixed.limits
-limited_after v v' c (Ok reply) done stays limited =
-    limited_then (service_of v) c (nodes.reply_given no_cause reply) (service_of v') limited done.done
-limited_after v v' c (Err e) done stays limited = subst (λ w. IsLimited (service_of w).fixed.limits) (sym stays) limited
+    → IsOfScript (service_of v) → IsOfScript (service_of v')
+of_script_after v v' command c (Ok reply) asks said done stays of = record {
+  limits = limited_then (service_of v) c (nodes.reply_given no_cause reply) (service_of v') of.limits done.done;
+  still = still_then (service_of v) (service_of v') command c (nodes.reply_given no_cause reply) asks said of done.done;
+}
+of_script_after v v' command c (Err e) asks said done stays of = subst (λ w. IsOfScript (service_of w)) (sym stays) of
 
 -- the same, of what a service says of its answer
 pub done_so : {Z E : Type 0} (s s' : State) (c : the_command.Command (Elements ℕ ℕ) (Unit {0}) (Option (the_refusal.Refusal Infallible)))

@@ -1,5 +1,6 @@
 -- What the creation of a script's service comes to.
 use Rattle.std.specs.Prelude.{◌≡◌, Bool, true, false, not, Option, Some, None, Result, Ok, Err, refl}
+use Rattle.std.specs.List.{list_any}
 use Rattle.std.specs.declared.convert.Infallible.{Infallible}
 use Rattle.std.proofs.Common.{ap, true≢false}
 use Rattle.std.proofs.lemmas.Option.{same_Some}
@@ -12,7 +13,7 @@ use Rattle.iox_model.specs.Defaults.{follow}
 use Rattle.iox_model.specs.Maps.{or_else, refused_if}
 use Rattle.iox_model.specs.Runs.{MakesUnless, created, creation_refusal, is_too_large}
 use Rattle.iox_model.specs.Settings.{Limits}
-use Rattle.iox_model.specs.States.{State}
+use Rattle.iox_model.specs.States.{Port, State}
 use Rattle.iox_members.specs.Steps.{answer_in}
 use Rattle.iox_nodes.specs.Served as nodes
 use Rattle.iox_nodes.specs.Served.{made_in}
@@ -24,20 +25,24 @@ use Rattle.iox_session.specs.Answers.{no_cause}
 use Rattle.iox_session.specs.Limits.{limits_with}
 use Rattle.iox_session.specs.Sessions.{IsCreated, with_service}
 use Rattle.iox_session.specs.SessionStates.{SessionState}
-use Rattle.iox_session.specs.Shown.{IsLimited}
+use Rattle.iox_session.specs.Shown.{IsOfScript}
 
--- ---- the limits of what is made
+-- ---- what is made
 
-limited_by : (q : Option Refusal) (requests responses : Bool) (id : UniqueSystemId) (s : State)
-    → MakesUnless q (created (limits_with requests responses) follow id) (replies.Node 0) (Some s) → IsLimited s.fixed.limits
-limited_by (Some r) requests responses id s made = let e : replies.Node 0 ≡ replies.Refused r = made.0 in absurd (cc)
-limited_by None requests responses id s made =
-    (requests, responses, ap (λ (t : State). t.fixed.limits) (same_Some s (created (limits_with requests responses) follow id) made.1))
+first_by : (q : Option Refusal) (requests responses : Bool) (id : UniqueSystemId) (s : State)
+    → MakesUnless q (created (limits_with requests responses) follow id) (replies.Node 0) (Some s) → IsOfScript s
+first_by (Some r) requests responses id s made = let e : replies.Node 0 ≡ replies.Refused r = made.0 in absurd (cc)
+first_by None requests responses id s made =
+    let first : s ≡ created (limits_with requests responses) follow id = same_Some s (created (limits_with requests responses) follow id) made.1 in
+    record {
+      limits = (requests, responses, ap (λ (t : State). t.fixed.limits) first);
+      still = ap (λ (t : State). list_any (λ (p : Port). p.grows) t.fixed.ports) first;
+    }
 
-pub made_is_limited : (requests responses : Bool) (id : UniqueSystemId) (v : ServiceTables)
-    → nodes.IsCreated {C = Infallible} (limits_with requests responses) id None (Ok v) → IsLimited (service_of v).fixed.limits
-made_is_limited requests responses id v made =
-    limited_by (creation_refusal (limits_with requests responses) id None (made no_cause).0) requests responses id (service_of v) (made no_cause).1
+pub made_is_of_script : (requests responses : Bool) (id : UniqueSystemId) (v : ServiceTables)
+    → nodes.IsCreated {C = Infallible} (limits_with requests responses) id None (Ok v) → IsOfScript (service_of v)
+made_is_of_script requests responses id v made =
+    first_by (creation_refusal (limits_with requests responses) id None (made no_cause).0) requests responses id (service_of v) (made no_cause).1
 
 -- ---- where there is memory
 

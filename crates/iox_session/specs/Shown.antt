@@ -1,5 +1,6 @@
 -- What a session keeps in memory, and the session that this shows.
 use Rattle.std.specs.Prelude.{◌≡◌, ℕ, ⊤, Bool, true, false, Option, Result, Ok, Err}
+use Rattle.std.specs.List.{list_any}
 use Rattle.std.specs.Option.{option_map}
 use Rattle.std.specs.declared.convert.Infallible.{Infallible}
 use Rattle.std.specs.declared.vec.Vec.{Vec}
@@ -11,6 +12,7 @@ use Rattle.iox_model.specs.declared.reply.Reply as the_reply
 use Rattle.iox_model.specs.declared.reply.Reply.TheVariants.{Refused}
 use Rattle.iox_model.specs.Makings.{is_large}
 use Rattle.iox_model.specs.Settings.{Limits}
+use Rattle.iox_model.specs.States.{Port as ThePort, State}
 use Rattle.iox_nodes.specs.Given as nodes
 use Rattle.iox_nodes.specs.Shown.{ServiceTables, service_of}
 use Rattle.iox_script.specs.Commands.{ServiceCommand, ServiceReply}
@@ -37,6 +39,11 @@ session_of v = record {
 -- the service has the limits of a script's service
 abbrev pub IsLimited : Limits → Type 0
 IsLimited l = (requests responses : Bool) × (l ≡ limits_with requests responses)
+
+-- The service has the limits of a script's service, and the messages of none of its ports grow.
+pub record IsOfScript (s : State) : Type 0 where
+  pub limits : IsLimited s.fixed.limits
+  pub still : list_any (λ (p : ThePort). p.grows) s.fixed.ports ≡ false
 
 -- whether the command makes a port that is too large
 abbrev pub makes_large : Limits → ServiceCommand → Bool

@@ -24,13 +24,13 @@ pub(crate) struct Service {
 
 impl Model for Service {
     ghost use Rattle.iox_nodes.specs.Shown.{ServiceTables, service_of};
-    ghost use Rattle.iox_session.specs.Shown.{IsLimited};
+    ghost use Rattle.iox_session.specs.Shown.{IsOfScript};
 
     ghost Value = { ServiceTables };
 
     ghost view = { λ s. s.nodes };
 
-    ghost invariant = { λ s. IsLimited (service_of s.nodes).fixed.limits };
+    ghost invariant = { λ s. IsOfScript (service_of s.nodes) };
 }
 
 impl Service {

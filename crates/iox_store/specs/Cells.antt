@@ -3,7 +3,7 @@ use Rattle.std.specs.Prelude.{ℕ, ◌≡◌, ◌≤◌, List, length, flat_map,
 use Rattle.iox_store.specs.Stored.{Stored}
 
 -- a cell as words: the words of an element, those of the user header, for how many elements it was
--- lent and has room, and the filled ones
+-- lent, for how many it may be lent, and the filled ones
 abbrev pub stored_as : {E : Type 0} → (E → List ℕ) → List ℕ → ℕ → ℕ → List E → Stored
 stored_as words user elements room items = record {
   room = room;
@@ -13,11 +13,12 @@ stored_as words user elements room items = record {
   payload = flat_map words items;
 }
 
--- No more elements are filled than it was lent for, there is room for these, and user header and
--- elements have as many words as their types say.
+-- No more elements are filled than it was lent for. There is memory for these, and for as many as
+-- it may be lent for. User header and elements have as many words as their types say.
 pub record IsCell {E : Type 0} (count : ℕ) (words : E → List ℕ) (user_count : ℕ)
-    (user_words : List ℕ) (elements room : ℕ) (items : List E) : Type 0 where
+    (user_words : List ℕ) (elements room capacity : ℕ) (items : List E) : Type 0 where
   pub within : length items ≤ elements
-  pub fits : elements ≤ room
+  pub fits : elements ≤ capacity
+  pub kept : room ≤ capacity
   pub user : length user_words ≡ user_count
   pub payload : All (λ item. length (words item) ≡ count) items

@@ -1,10 +1,10 @@
 -- What the messages of a sender carry, as words: a list of messages by their places.
-use Rattle.std.specs.Prelude.{ℕ, suc, ◌≡◌, ◌≤◌, ◌+◌, ◌*◌, List, [], ◌++◌, drop, flat_map, replicate, take, slice_index_or, slice_set}
+use Rattle.std.specs.Prelude.{ℕ, suc, ◌≡◌, ◌+◌, ◌*◌, List, [], ◌++◌, Option, Some, None, drop, flat_map, max, replicate, take, slice_index_or, slice_set}
 use Rattle.std.specs.List.{range_with_len}
 
 -- What a message carries.
 pub record Stored : Type 0 where
-  -- for how many elements there is memory
+  -- for how many elements it may be lent, with no room given for it
   pub room : ℕ
   -- how many elements it was lent for, and how many of them are filled
   pub elements : ℕ
@@ -17,6 +17,11 @@ pub record Stored : Type 0 where
 pub record Contents : Type 0 where
   pub longest : ℕ
   pub messages : List Stored
+
+-- for how many elements such a message may be lent, with this room given for it, if any
+abbrev pub room_with : ℕ → Option ℕ → ℕ
+room_with room None = room
+room_with room (Some spare) = max room spare
 
 -- a message that was lent for no element
 abbrev pub unlent : ℕ → List ℕ → Stored
@@ -80,10 +85,3 @@ abbrev pub with_element : ℕ → Stored → ℕ → List ℕ → Stored
 with_element width x index words = record x {
   payload = take (index * width) x.payload ++ words ++ drop (suc index * width) x.payload;
 }
-
--- From old, there is room for so many elements, which leaves new.
-pub record Grows (old : Stored) (elements : ℕ) (new : Stored) : Type 0 where
-  pub enough : elements ≤ new.room
-  pub more : old.room ≤ new.room
-  -- and nothing else changed
-  pub left : new ≡ record old { room = new.room }

@@ -1,10 +1,12 @@
 //! What one message carries.
-ghost use Rattle.std.specs.Prelude.{◌≡◌, ◌<◌, ◌≤◌, ◌*◌, ◌↔◌, IfOk, IsOk, IsTrue, OnErr, OnOk, flat_map, length};
-ghost use Rattle.iox_store.specs.Stored.{Grows, unlent, lent_uninit, emptied, written_next, with_user};
+ghost use Rattle.std.specs.Prelude.{◌≡◌, ◌<◌, ◌≤◌, ◌*◌, IfOk, flat_map, length};
+ghost use Rattle.iox_store.specs.Stored.{unlent, lent_uninit, emptied, room_with, written_next, with_user};
 
+use crate::spare::Spare;
 use iox_words::Words;
 use std::alloc::{AllocError, Global};
 use std::marker::Model;
+use std::mem;
 
 mod fill;
 
@@ -12,6 +14,8 @@ mod fill;
 #[derive(Drop)]
 pub struct Cell<E: Words, H: Words> {
     elements: usize,
+    // How many elements there was room for from the start.
+    room: usize,
     user: H,
     payload: Vec<E>,
 }
@@ -23,10 +27,9 @@ impl<E: Words, H: Words> Model for Cell<E, H> {
 
     ghost Value = { Stored };
 
-    ghost view = { λ c. stored_as E.words (H.words c.user) c.elements (vec_capacity c.payload)
-        c.payload.items };
+    ghost view = { λ c. stored_as E.words (H.words c.user) c.elements c.room c.payload.items };
 
-    ghost invariant = { λ c. IsCell E.WORDS E.words H.WORDS (H.words c.user) c.elements
+    ghost invariant = { λ c. IsCell E.WORDS E.words H.WORDS (H.words c.user) c.elements c.room
         (vec_capacity c.payload) c.payload.items };
 }
 
@@ -39,24 +42,24 @@ impl<E: Words, H: Words> Cell<E, H> {
         let payload = Vec::with_capacity(alloc, room)?;
         Ok(Cell {
             elements: 0,
+            room,
             user,
             payload,
         })
     }
 
-    /// How many elements there is room for.
+    /// For how many elements it may be lent, with no room given for it.
     #[inline]
     pub fn room(&self) -> usize
         ensures { result ≡ self.now.room }
     {
-        self.payload.capacity()
+        self.room
     }
 
     /// How many elements it was lent for.
     #[inline]
     pub fn elements(&self) -> usize
-        ensures elements { result ≡ self.now.elements }
-        ensures within { result ≤ self.now.room }
+        ensures { result ≡ self.now.elements }
     {
         self.elements
     }
@@ -98,15 +101,30 @@ impl<E: Words, H: Words> Cell<E, H> {
         self.user = user;
     }
 
-    /// Lends it for so many elements, none of which is filled.
-    pub fn lend_uninit(&mut self, elements: usize, user: H)
-        requires { elements ≤ self.old.room }
+    /// Lends it for so many elements, none of which is filled. Where its own room is too small, it
+    /// takes the room that is given. It hands back the room that it does not use.
+    pub fn lend_uninit(
+        &mut self,
+        elements: usize,
+        user: H,
+        spare: Option<Spare<E>>,
+    ) -> Option<Spare<E>>
+        requires { elements ≤ room_with self.old.room spare }
         ensures { self.new ≡ lent_uninit self.old elements (H.words user) }
     {
         user.known();
         self.elements = elements;
         self.user = user;
         self.payload.clear();
+        if elements <= self.payload.capacity() {
+            return spare;
+        }
+        match spare {
+            Some(spare) => Some(Spare {
+                payload: mem::replace(&mut self.payload, spare.payload),
+            }),
+            None => unreachable!(),
+        }
     }
 
     /// No element is filled any more.
@@ -125,18 +143,5 @@ impl<E: Words, H: Words> Cell<E, H> {
     {
         value.known();
         self.payload.push_reserved(value);
-    }
-
-    /// Makes room for so many elements.
-    pub fn reserve(&mut self, elements: usize) -> Result<(), AllocError>
-        ensures grown { OnOk result (Grows self.old elements self.new) }
-        ensures enough { elements ≤ self.old.room → IsOk result × (self.new ≡ self.old) }
-        ensures unchanged { OnErr result (self.new ≡ self.old) }
-    {
-        if elements <= self.payload.capacity() {
-            return Ok(());
-        }
-        let more = elements - self.payload.len();
-        self.payload.reserve(more)
     }
 }

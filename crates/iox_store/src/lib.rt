@@ -4,7 +4,9 @@
 
 mod cell;
 mod payload;
+mod spare;
 mod store;
 
 pub use payload::{Many, One, Payload, is_length};
+pub use spare::Spare;
 pub use store::Store;

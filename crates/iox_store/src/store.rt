@@ -1,8 +1,9 @@
 //! What the messages of one sender carry.
-ghost use Rattle.std.specs.Prelude.{◌≡◌, ◌<◌, ◌≤◌, ◌*◌, ◌↔◌, IfOk, IsOk, IsTrue, OnErr, OnOk, flat_map, length};
-ghost use Rattle.iox_store.specs.Stored.{ChangesOnly, Grows, element_at, new_contents, stored_at};
+ghost use Rattle.std.specs.Prelude.{◌≡◌, ◌<◌, ◌≤◌, ◌*◌, ◌↔◌, IfOk, IsTrue, flat_map, length};
+ghost use Rattle.iox_store.specs.Stored.{element_at, new_contents, stored_at};
 
 use crate::cell::Cell;
+use crate::spare::Spare;
 use iox_words::Words;
 use std::alloc::{AllocError, Global};
 use std::marker::Model;
@@ -10,11 +11,14 @@ use std::marker::Model;
 mod lend;
 
 /// What the messages of one sender carry, by their places. It takes memory when it is made, and
-/// where more room is asked for, and never else.
+/// where room is asked for a message that grows, and never else.
 #[derive(Drop)]
 pub struct Store<E: Words, H: Words> {
     cells: Vec<Cell<E, H>>,
     longest: usize,
+    // Room that a message had no use for, for the next that grows.
+    spare: Option<Spare<E>>,
+    alloc: Global,
 }
 
 impl<E: Words, H: Words> Model for Store<E, H> {
@@ -38,7 +42,12 @@ impl<E: Words, H: Words> Store<E, H> {
         for _ in 0..count {
             cells.push_reserved(Cell::new(alloc, longest, user)?);
         }
-        Ok(Store { cells, longest })
+        Ok(Store {
+            cells,
+            longest,
+            spare: None,
+            alloc,
+        })
     }
 
     /// How many messages there are.
@@ -49,7 +58,7 @@ impl<E: Words, H: Words> Store<E, H> {
         self.cells.len()
     }
 
-    /// For how many elements each message has room.
+    /// For how many elements each message may be lent, with no room given for it.
     #[inline]
     pub fn longest(&self) -> usize
         ensures { result ≡ self.now.longest }
@@ -57,7 +66,7 @@ impl<E: Words, H: Words> Store<E, H> {
         self.longest
     }
 
-    /// For how many elements the message has room.
+    /// For how many elements the message may be lent, with no room given for it.
     #[inline]
     pub fn room(&self, place: usize) -> usize
         requires { place < length self.now.messages }
@@ -72,8 +81,7 @@ impl<E: Words, H: Words> Store<E, H> {
     #[inline]
     pub fn elements(&self, place: usize) -> usize
         requires { place < length self.now.messages }
-        ensures elements { result ≡ (stored_at self.now place).elements }
-        ensures within { result ≤ (stored_at self.now place).room }
+        ensures { result ≡ (stored_at self.now place).elements }
     {
         let cell = &self.cells[place];
         cell.elements()
@@ -135,17 +143,17 @@ impl<E: Words, H: Words> Store<E, H> {
         cell.user_header()
     }
 
-    /// Makes room for so many elements of the message.
-    pub fn reserve(&mut self, place: usize, elements: usize) -> Result<(), AllocError>
-        requires { place < length self.old.messages }
-        ensures grown { OnOk result (Grows (stored_at self.old place) elements
-            (stored_at self.new place)) }
-        ensures only { OnOk result (ChangesOnly place self.old self.new) }
-        ensures enough { elements ≤ (stored_at self.old place).room
-            → IsOk result × (self.new ≡ self.old) }
-        ensures unchanged { OnErr result (self.new ≡ self.old) }
+    /// Room for a message of so many elements, or more, which any message may be lent with. The
+    /// messages stay as they are.
+    pub fn spare(&mut self, elements: usize) -> Result<Spare<E>, AllocError>
+        ensures room { IfOk result (λ spare. elements ≤ spare) }
+        ensures unchanged { self.new ≡ self.old }
     {
-        let cell = &mut self.cells[place];
-        cell.reserve(elements)
+        if let Some(spare) = self.spare.take() {
+            if elements <= spare.room() {
+                return Ok(spare);
+            }
+        }
+        Spare::new(self.alloc, elements)
     }
 }

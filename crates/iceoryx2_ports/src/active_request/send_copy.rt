@@ -44,6 +44,7 @@ impl<Q: Payload, QH: Words, E: Words, PH: Words> ActiveRequest<Q, QH, One<E>, PH
         ensures left { IfErr result (λ error. LeavesUnsent hub.old error hub.new) }
     {
         hub.is_in_order();
+        hub.is_of_its_types();
         match copy_response(hub, self.node, self.number, self.hint, &[value]) {
             Answered::Done(_) => Ok(()),
             Answered::Refused(refusal) => Err(SendError::from(error_of_test(refusal))),

@@ -59,6 +59,7 @@ impl<E: Words, QH: Words, P: Payload, PH: Words> Client<One<E>, QH, P, PH> {
         ensures left { IfErr result (λ error. LeavesUnasked hub.old error hub.new) }
     {
         hub.is_in_order();
+        hub.is_of_its_types();
         match copy_request(hub, self.node, self.number, &[value]) {
             Copied::To {
                 number,

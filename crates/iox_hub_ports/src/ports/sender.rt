@@ -3,7 +3,7 @@
 
 ghost use Rattle.std.specs.Option.{option_map};
 ghost use Rattle.std.specs.Prelude.{◌≡◌, IfSome, None, Some, false, is_some, slice_get, true};
-ghost use Rattle.iox_tables.specs.Lanes.{IsSound, LaneState, has_room, is_full, offered, oldest, without_oldest, without_returned};
+ghost use Rattle.iox_tables.specs.Lanes.{IsSound, LaneState, has_room, is_full, offered, oldest, returned_times, without_oldest, without_returned};
 ghost use Rattle.iox_tables.specs.HubStates.Tables.{PortState, pipes_to};
 ghost use Rattle.iox_tables.specs.HubStates.Ways.{lane_on, with_lane_on};
 ghost use Rattle.iox_hub_ports.specs.Ports.{lane_to_get_at, lane_to_get_on, on_way, on_way_at, pushed, pushed_out, way_from, with_lane_at, with_ports};
@@ -119,6 +119,18 @@ impl Ports {
             ≡ with_ports self.old (with_lane_at without_returned self.old.ports at sender lane) }
     {
         on_lane_at(&mut self.ports, at, sender, lane as usize, &GetBack)
+    }
+
+    /// How often the port in that place gave the message back on the lane from the sender, so that
+    /// it is left to get back.
+    pub fn returned_times_at(&self, at: usize, sender: u64, lane: u64, place: u64) -> usize
+        ensures { result
+            ≡ on_way_at (λ l. returned_times l place) 0 self.now.ports at sender lane }
+    {
+        if at < self.ports.len() {
+            return self.ports[at].returned_times(sender, lane as usize, place);
+        }
+        0
     }
 
     /// Whether as many messages wait for the port in that place, on the lane from the sender, as

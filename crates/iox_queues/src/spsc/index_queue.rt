@@ -1,5 +1,5 @@
 //! A queue of numbers that refuses a number when it is full.
-ghost use Rattle.std.specs.Prelude.{◌≡◌, ◌≤◌, ◌↔◌, [], IfOk, IsTrue, length};
+ghost use Rattle.std.specs.Prelude.{◌≡◌, ◌≤◌, ◌↔◌, [], IfOk, IsTrue, length, slice_get};
 ghost use Rattle.std.specs.Bool.{OnFalse, OnTrue};
 ghost use Rattle.iox_queues.specs.BoundedQueues.{HasRoom, empty_queue, first, with_pushed, without_first};
 
@@ -69,6 +69,14 @@ impl IndexQueue {
         ensures left { self.new ≡ without_first self.old }
     {
         self.ring.pop()
+    }
+
+    /// The number that waits at that rank, the oldest at 0; `None` past the last.
+    #[inline]
+    pub fn get(&self, rank: usize) -> Option<u64>
+        ensures { result ≡ slice_get self.now.waiting rank }
+    {
+        self.ring.get(rank)
     }
 
     /// How many numbers may wait at once.

@@ -47,6 +47,20 @@ fn numbers_leave_in_order_around_the_end(rt: HostRuntime) -> Result<(), Fail> {
 }
 
 #[test]
+fn what_waits_is_told_by_its_rank_around_the_end(rt: HostRuntime) -> Result<(), Fail> {
+    let mut queue = IndexQueue::new(rt.alloc(), 3)?;
+    holds(&rt, queue.push(1));
+    holds(&rt, queue.push(2));
+    equal(&rt, queue.pop(), Some(1));
+    holds(&rt, queue.push(3));
+    holds(&rt, queue.push(4));
+    equal(&rt, (queue.get(0), queue.get(1)), (Some(2), Some(3)));
+    equal(&rt, (queue.get(2), queue.get(3)), (Some(4), None));
+    equal(&rt, queue.len(), 3);
+    Ok(())
+}
+
+#[test]
 fn a_queue_of_capacity_zero_is_empty_and_full(rt: HostRuntime) -> Result<(), Fail> {
     let mut queue = FixedSizeIndexQueue::<0>::new(rt.alloc())?;
     holds(&rt, queue.is_empty());

@@ -1,7 +1,6 @@
 //! How many messages a port has by its options, and in which order a port is refused.
 use super::{Asked, Given, Told, plays};
 use iox_model::reply::Refusal;
-use iox_types::AllocationStrategy;
 use std::test::Fail;
 
 #[test]
@@ -50,11 +49,6 @@ fn want_of_memory_is_told_before_too_many_ports(rt: HostRuntime) -> Result<(), F
             (0, Asked::Client(Given::Nothing), Told::Client(1)),
             (0, Asked::Client(Given::Nothing), Told::Client(2)),
             (0, Asked::Client(Given::Longest(1 << 60)), refused),
-            (
-                0,
-                Asked::Client(Given::Allocation(AllocationStrategy::BestFit)),
-                refused,
-            ),
             (0, Asked::Client(Given::Handler), refused),
             (
                 0,

@@ -132,26 +132,20 @@ fn a_server_of_single_elements_is_made_though_its_messages_are_to_grow(
         equal(&rt, server, Ok(expected));
     }
     let made = client(&mut hub, rt.alloc(), OPTIONS);
-    equal(&rt, made, Err(NotMade::DataSegment));
+    equal(&rt, made, Ok(2));
     Ok(())
 }
 
 #[test]
-fn a_port_that_is_too_large_or_would_grow_is_refused(rt: HostRuntime) -> Result<(), Fail> {
+fn a_port_that_is_too_large_is_refused_though_it_would_grow(rt: HostRuntime) -> Result<(), Fail> {
     let mut hub = hub(rt.alloc(), AllocationStrategy::BestFit)?;
-    let growing = client(&mut hub, rt.alloc(), OPTIONS);
-    equal(&rt, growing, Err(NotMade::DataSegment));
-    let fixed = Options {
-        allocation: Some(AllocationStrategy::Static),
-        ..OPTIONS
-    };
     let large = Options {
         max_slice_len: 1 << 60,
-        ..fixed
+        ..OPTIONS
     };
     let refused = client(&mut hub, rt.alloc(), large);
     equal(&rt, refused, Err(NotMade::DataSegment));
-    let made = client(&mut hub, rt.alloc(), fixed);
+    let made = client(&mut hub, rt.alloc(), OPTIONS);
     equal(&rt, made, Ok(0));
     Ok(())
 }

@@ -13,6 +13,8 @@ enum Asked {
     IsAtLimit,
     Waiting,
     Taken,
+    /// How often this place was given back.
+    Returned(u64),
     Deliver(u64),
     Take,
     Release(u64),
@@ -45,6 +47,7 @@ fn look(lane: &Lane, asked: Asked) -> Told {
         Asked::IsFull => Told::Is(lane.is_full()),
         Asked::IsAtLimit => Told::Is(lane.is_at_limit()),
         Asked::Waiting => Told::Count(lane.waiting_len()),
+        Asked::Returned(place) => Told::Count(lane.returned_times(place)),
         _ => Told::Count(lane.taken_len()),
     }
 }
@@ -90,7 +93,10 @@ fn what_is_delivered_goes_around(rt: HostRuntime) -> Result<(), Fail> {
             (Asked::Release(7), Told::Is(true)),
             (Asked::Release(7), Told::Is(false)),
             (Asked::Taken, Told::Count(0)),
+            (Asked::Returned(7), Told::Count(1)),
+            (Asked::Returned(8), Told::Count(0)),
             (Asked::GetBack, Told::Place(7)),
+            (Asked::Returned(7), Told::Count(0)),
             (Asked::GetBack, Told::NoPlace),
             (Asked::PassOver, Told::Place(8)),
             (Asked::GetBack, Told::Place(8)),

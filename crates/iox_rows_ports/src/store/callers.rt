@@ -12,7 +12,7 @@ pub fn written_and_read(store: &mut Store<u64, u32>, user: u32, value: u64) -> u
     requires room { 1 ≤ (stored_at store.old 0).room }
     ensures { result ≡ value }
 {
-    store.lend_uninit(0, 1, user);
+    store.lend_uninit(0, 1, user, None);
     store.write_next(0, value);
     store.element(0, 0)
 }
@@ -28,7 +28,7 @@ pub fn copied_and_read<'a, E: Words, H: Words>(
     requires room { length values.now ≤ (stored_at store.old place).room }
     ensures { flat_map E.words result.now ≡ flat_map E.words values.now }
 {
-    store.lend_uninit(place, values.len(), user);
+    store.lend_uninit(place, values.len(), user, None);
     store.write_from_slice(place, values);
     store.payload(place)
 }
@@ -39,7 +39,7 @@ pub fn kept_beside_another(store: &mut Store<u64, u32>, user: u32, value: u64)
     requires room { 1 ≤ (stored_at store.old 1).room }
     ensures { stored_at store.new 0 ≡ stored_at store.old 0 }
 {
-    store.lend(1, 1, user, 7);
+    store.lend(1, 1, user, 7, None);
     store.write_payload(1, value);
 }
 
@@ -62,17 +62,15 @@ pub fn lent_longer(
     requires { place < length store.old.messages }
     ensures { IfOk result (λ _. (stored_at store.new place).elements ≡ elements) }
 {
-    if store.room(place) < elements {
-        store.reserve(place, elements)?;
-    }
-    store.lend_uninit(place, elements, user);
+    let spare = store.spare(elements)?;
+    store.lend_uninit(place, elements, user, Some(spare));
     Ok(())
 }
 
 /// In a new store every message may be lent for the greatest length, with no test.
 pub fn lent_from_the_start(alloc: Global, user: u32) -> Result<Store<u64, u32>, AllocError> {
     let mut store = Store::new(alloc, 3, 5, user)?;
-    store.lend_uninit(2, 5, user);
+    store.lend_uninit(2, 5, user, None);
     store.write_next(2, 1);
     Ok(store)
 }

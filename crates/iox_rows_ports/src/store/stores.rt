@@ -15,7 +15,7 @@ fn lend_uninit<E: Words, H: Words>(
     user: H,
 ) {
     assert!(rt; place < store.len() && elements <= store.room(place));
-    store.lend_uninit(place, elements, user);
+    store.lend_uninit(place, elements, user, None);
 }
 
 fn lend<E: Words, H: Words>(
@@ -27,7 +27,7 @@ fn lend<E: Words, H: Words>(
     value: E,
 ) {
     assert!(rt; place < store.len() && elements <= store.room(place));
-    store.lend(place, elements, user, value);
+    store.lend(place, elements, user, value, None);
 }
 
 fn write_next<E: Words, H: Words>(
@@ -180,23 +180,36 @@ fn elements_without_words_are_counted(rt: HostRuntime) -> Result<(), Fail> {
     Ok(())
 }
 
-/// Whether there was memory for a message of so many elements.
-fn reserves(rt: &impl Abort, store: &mut Store<u64, ()>, place: usize, elements: usize) -> bool {
+/// Lends the message for so many elements, more than it has room for, and fills each with the
+/// value. Whether there was memory.
+fn lends_longer(
+    rt: &impl Abort,
+    store: &mut Store<u64, ()>,
+    place: usize,
+    elements: usize,
+    value: u64,
+) -> bool {
     assert!(rt; place < store.len());
-    store.reserve(place, elements).is_ok()
+    let Ok(spare) = store.spare(elements) else {
+        return false;
+    };
+    store.lend(place, elements, (), value, Some(spare));
+    true
 }
 
 #[test]
 fn a_message_grows_where_there_is_memory(rt: HostRuntime) -> Result<(), Fail> {
     let mut store = Store::<u64, ()>::new(rt.alloc(), 2, 1, ())?;
-    lend(&rt, &mut store, 0, 1, (), 7);
-    holds(&rt, reserves(&rt, &mut store, 0, 100));
-    holds(&rt, room(&rt, &store, 0) >= 100);
-    equal(&rt, room(&rt, &store, 1), 1);
-    has(&rt, &store, 0, &[7], true);
-    holds(&rt, !reserves(&rt, &mut store, 0, usize::MAX));
-    has(&rt, &store, 0, &[7], true);
-    holds(&rt, reserves(&rt, &mut store, 1, 1));
+    lend(&rt, &mut store, 1, 1, (), 7);
+    holds(&rt, lends_longer(&rt, &mut store, 0, 3, 5));
+    has(&rt, &store, 0, &[5, 5, 5], true);
+    holds(&rt, !lends_longer(&rt, &mut store, 0, usize::MAX, 6));
+    has(&rt, &store, 0, &[5, 5, 5], true);
+    holds(&rt, lends_longer(&rt, &mut store, 0, 2, 8));
+    has(&rt, &store, 0, &[8, 8], true);
+    holds(&rt, lends_longer(&rt, &mut store, 1, 2, 9));
+    has(&rt, &store, 1, &[9, 9], true);
+    equal(&rt, room(&rt, &store, 0), 1);
     Ok(())
 }
 

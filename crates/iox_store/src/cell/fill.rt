@@ -1,19 +1,18 @@
 //! How all elements of a message are filled at once.
-ghost use Rattle.std.specs.Prelude.{◌≡◌, ◌<◌, ◌≤◌, IsTrue, flat_map, length};
-ghost use Rattle.iox_store.specs.Stored.{element_at, filled_with, lent, with_element};
+ghost use Rattle.std.specs.Prelude.{◌≡◌, ◌<◌, flat_map, length};
+ghost use Rattle.iox_store.specs.Stored.{copies, element_at, filled_with, with_element};
 ghost use Rattle.iox_store.specs.Answering.{FillsByAnswers};
 
 use super::Cell;
 use iox_words::Words;
 
 impl<E: Words, H: Words> Cell<E, H> {
-    /// Lends it for so many elements, each filled with the same value.
-    pub fn lend(&mut self, elements: usize, user: H, value: E)
-        requires { elements ≤ self.old.room }
-        ensures { self.new ≡ lent self.old elements (H.words user) (E.words value) }
+    /// Fills all elements, each with the same value.
+    pub fn fill(&mut self, value: E)
+        ensures { self.new ≡ filled_with self.old (copies (E.words value) self.old.elements) }
     {
-        self.lend_uninit(elements, user);
-        for _ in 0..elements {
+        self.empty();
+        for _ in 0..self.elements() {
             self.write_next(value);
         }
     }

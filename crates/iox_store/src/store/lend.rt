@@ -1,34 +1,56 @@
 //! How messages are lent and filled.
 ghost use Rattle.std.specs.Prelude.{◌≡◌, ◌<◌, ◌≤◌, flat_map, length};
 ghost use Rattle.iox_store.specs.Answering.{FillsByAnswers};
-ghost use Rattle.iox_store.specs.Stored.{ChangesOnly, filled_with, lent, lent_uninit, stored_at, with_element, with_stored, with_user, written_next};
+ghost use Rattle.iox_store.specs.Stored.{ChangesOnly, filled_with, lent, lent_uninit, room_with, stored_at, with_element, with_stored, with_user, written_next};
 
 use super::Store;
+use crate::spare::Spare;
 use iox_words::Words;
 
 impl<E: Words, H: Words> Store<E, H> {
-    /// Lends the message for so many elements, none of which is filled.
+    /// Keeps room that a message had no use for.
+    fn keep(&mut self, left: Option<Spare<E>>)
+        ensures { self.new ≡ self.old }
+    {
+        if left.is_some() {
+            self.spare = left;
+        }
+    }
+
+    /// Lends the message for so many elements, none of which is filled. Where it has no room for
+    /// them, it takes the room that is given.
     #[inline]
-    pub fn lend_uninit(&mut self, place: usize, elements: usize, user: H)
+    pub fn lend_uninit(&mut self, place: usize, elements: usize, user: H, spare: Option<Spare<E>>)
         requires there { place < length self.old.messages }
-        requires room { elements ≤ (stored_at self.old place).room }
+        requires room { elements ≤ room_with (stored_at self.old place).room spare }
         ensures { self.new ≡ with_stored self.old place
             (lent_uninit (stored_at self.old place) elements (H.words user)) }
     {
         let cell = &mut self.cells[place];
-        cell.lend_uninit(elements, user);
+        let left = cell.lend_uninit(elements, user, spare);
+        self.keep(left);
     }
 
-    /// Lends the message for so many elements, each filled with the same value.
+    /// Lends the message for so many elements, each filled with the same value. Where it has no
+    /// room for them, it takes the room that is given.
     #[inline]
-    pub fn lend(&mut self, place: usize, elements: usize, user: H, value: E)
+    pub fn lend(
+        &mut self,
+        place: usize,
+        elements: usize,
+        user: H,
+        value: E,
+        spare: Option<Spare<E>>,
+    )
         requires there { place < length self.old.messages }
-        requires room { elements ≤ (stored_at self.old place).room }
+        requires room { elements ≤ room_with (stored_at self.old place).room spare }
         ensures { self.new ≡ with_stored self.old place
             (lent (stored_at self.old place) elements (H.words user) (E.words value)) }
     {
         let cell = &mut self.cells[place];
-        cell.lend(elements, user, value);
+        let unused = cell.lend_uninit(elements, user, spare);
+        cell.fill(value);
+        self.keep(unused);
     }
 
     /// Fills the message's next element.

@@ -4,7 +4,7 @@ use Rattle.iox_tables.specs.HubLoans.Loans.{loan_call}
 use Rattle.iox_hub_laws.specs.Lends.{refusal_of, reply_of_loan}
 use Rattle.iox_hub_laws.specs.LoanRefusal.TheVariants as refusals
 use Rattle.iox_hub_laws.specs.Lent.TheVariants as lents
-use Rattle.iceoryx2_ports.proofs.LoanLimits.{lends_one_more, refused_at_limit, result_of}
+use Rattle.iceoryx2_ports.proofs.LoanLimits.{lends_one_more, loan_never_wants, refused_at_limit, result_of}
 use Rattle.iceoryx2_ports.proofs.Reaching.{loan_keeps_room}
 use Rattle.iceoryx2_ports.proofs.Staying.{loan_asks_as_before}
 use Rattle.iceoryx2_ports.proofs.Telling.{called_as}
@@ -36,6 +36,12 @@ returns-in-Refused-ExceedsMaxLoans-clause-whole g c =
     called_as c.args.hub.now c.lend_request.new.hub c.args.node (loan_call c.args.uninit c.args.client c.args.elements)
     (replies.Refused (refusal_of c.in-Refused-ExceedsMaxLoans.field-0)) (replies.Refused (refusal_of refusals.ExceedsMaxLoans))
     (ap (λ r. replies.Refused (refusal_of r)) c.in-Refused-ExceedsMaxLoans.field-0-is) c.in-Refused-ExceedsMaxLoans.ensures.whole
+
+pub returns-in-Refused-WantOfMemory-clause-whole : goal.returns-in-Refused-WantOfMemory-clause-whole
+returns-in-Refused-WantOfMemory-clause-whole g c =
+    called_as c.args.hub.now c.lend_request.new.hub c.args.node (loan_call c.args.uninit c.args.client c.args.elements)
+    (replies.Refused (refusal_of c.in-Refused-WantOfMemory.field-0)) (replies.Refused (refusal_of refusals.WantOfMemory))
+    (ap (λ r. replies.Refused (refusal_of r)) c.in-Refused-WantOfMemory.field-0-is) c.in-Refused-WantOfMemory.ensures.whole
 
 pub returns-in-Handle-clause-asks : goal.returns-in-Handle-clause-asks
 returns-in-Handle-clause-asks g c =
@@ -93,6 +99,13 @@ returns-in-Refused-ExceedsMaxLoanSize-clause-past g c =
     ∙ refused_at_limit c.args.hub.now c.is_in_order.ensures c.args.node c.args.client c.args.elements (lents.Refused c.in-Refused-ExceedsMaxLoanSize.field-0) c.requires.has
     c.in-Refused-ExceedsMaxLoanSize.ensures.answers all
 
+pub returns-in-Refused-WantOfMemory-clause-past : goal.returns-in-Refused-WantOfMemory-clause-past
+returns-in-Refused-WantOfMemory-clause-past g c =
+    λ all.
+    ap (λ r. result_of (lents.Refused r)) (sym c.in-Refused-WantOfMemory.field-0-is)
+    ∙ refused_at_limit c.args.hub.now c.is_in_order.ensures c.args.node c.args.client c.args.elements (lents.Refused c.in-Refused-WantOfMemory.field-0) c.requires.has
+    c.in-Refused-WantOfMemory.ensures.answers all
+
 pub returns-in-Handle-clause-quiet : goal.returns-in-Handle-clause-quiet
 returns-in-Handle-clause-quiet g c =
     lends_quietly c.args.hub.now c.lend_request.new.hub c.is_in_order.ensures c.args.node c.args.client c.args.elements c.args.uninit c.in-Handle.loan.number
@@ -134,3 +147,12 @@ returns-in-Refused-ExceedsMaxLoanSize-clause-within g c = λ can. absurd (c.in-R
 
 pub returns-in-Refused-ExceedsMaxLoans-clause-within : goal.returns-in-Refused-ExceedsMaxLoans-clause-within
 returns-in-Refused-ExceedsMaxLoans-clause-within g c = λ can. absurd (c.in-Refused-ExceedsMaxLoans.ensures.within can.port can.there can.limits can.pools)
+
+pub returns-in-Refused-WantOfMemory-clause-within : goal.returns-in-Refused-WantOfMemory-clause-within
+returns-in-Refused-WantOfMemory-clause-within g c = λ can. absurd (c.in-Refused-WantOfMemory.ensures.within can.port can.there can.limits can.pools)
+
+pub returns-in-Refused-WantOfMemory-clause-never : goal.returns-in-Refused-WantOfMemory-clause-never
+returns-in-Refused-WantOfMemory-clause-never g c =
+    λ short e.
+    loan_never_wants c.args.hub.now c.is_in_order.ensures c.args.node c.args.client c.args.elements c.in-Refused-WantOfMemory.field-0
+    c.in-Refused-WantOfMemory.field-0-is c.requires.has c.in-Refused-WantOfMemory.ensures.answers short

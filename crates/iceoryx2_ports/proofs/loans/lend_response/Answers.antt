@@ -6,7 +6,7 @@ use Rattle.iox_hub_laws.specs.LoanRefusal.TheVariants as refusals
 use Rattle.iox_hub_laws.specs.Lent.TheVariants as lents
 use Rattle.iceoryx2_ports.proofs.LoanLimits.{result_of}
 use Rattle.iceoryx2_ports.proofs.Reaching.{loan_keeps_room}
-use Rattle.iceoryx2_ports.proofs.ResponseLimits.{responds_one_more, response_refused_at_limit}
+use Rattle.iceoryx2_ports.proofs.ResponseLimits.{responds_one_more, response_never_wants, response_refused_at_limit}
 use Rattle.iceoryx2_ports.proofs.Staying.{loan_asks_as_before}
 use Rattle.iceoryx2_ports.proofs.Telling.{called_as}
 use Rattle.iceoryx2_ports.proofs.Lent.{lends_for}
@@ -37,6 +37,12 @@ returns-in-Refused-ExceedsMaxLoans-clause-whole g c =
     called_as c.args.hub.now c.lend_response.new.hub c.args.node (loan_call c.args.uninit c.args.number c.args.elements)
     (replies.Refused (refusal_of c.in-Refused-ExceedsMaxLoans.field-0)) (replies.Refused (refusal_of refusals.ExceedsMaxLoans))
     (ap (λ r. replies.Refused (refusal_of r)) c.in-Refused-ExceedsMaxLoans.field-0-is) c.in-Refused-ExceedsMaxLoans.ensures.whole
+
+pub returns-in-Refused-WantOfMemory-clause-whole : goal.returns-in-Refused-WantOfMemory-clause-whole
+returns-in-Refused-WantOfMemory-clause-whole g c =
+    called_as c.args.hub.now c.lend_response.new.hub c.args.node (loan_call c.args.uninit c.args.number c.args.elements)
+    (replies.Refused (refusal_of c.in-Refused-WantOfMemory.field-0)) (replies.Refused (refusal_of refusals.WantOfMemory))
+    (ap (λ r. replies.Refused (refusal_of r)) c.in-Refused-WantOfMemory.field-0-is) c.in-Refused-WantOfMemory.ensures.whole
 
 pub returns-in-Handle-clause-asks : goal.returns-in-Handle-clause-asks
 returns-in-Handle-clause-asks g c =
@@ -94,6 +100,13 @@ returns-in-Refused-ExceedsMaxLoanSize-clause-past g c =
     ∙ response_refused_at_limit c.args.hub.now c.is_in_order.ensures c.args.node c.args.number c.args.elements
     (lents.Refused c.in-Refused-ExceedsMaxLoanSize.field-0) c.requires.has c.in-Refused-ExceedsMaxLoanSize.ensures.answers all
 
+pub returns-in-Refused-WantOfMemory-clause-past : goal.returns-in-Refused-WantOfMemory-clause-past
+returns-in-Refused-WantOfMemory-clause-past g c =
+    λ all.
+    ap (λ r. result_of (lents.Refused r)) (sym c.in-Refused-WantOfMemory.field-0-is)
+    ∙ response_refused_at_limit c.args.hub.now c.is_in_order.ensures c.args.node c.args.number c.args.elements
+    (lents.Refused c.in-Refused-WantOfMemory.field-0) c.requires.has c.in-Refused-WantOfMemory.ensures.answers all
+
 pub returns-in-Handle-clause-answers : goal.returns-in-Handle-clause-answers
 returns-in-Handle-clause-answers g c =
     lends_for c.args.hub.now c.lend_response.new.hub c.is_in_order.ensures c.args.node c.args.number c.args.elements c.args.uninit c.in-Handle.loan.number
@@ -133,3 +146,12 @@ returns-in-Refused-ExceedsMaxLoanSize-clause-within g c = λ can. absurd (c.in-R
 
 pub returns-in-Refused-ExceedsMaxLoans-clause-within : goal.returns-in-Refused-ExceedsMaxLoans-clause-within
 returns-in-Refused-ExceedsMaxLoans-clause-within g c = λ can. absurd (c.in-Refused-ExceedsMaxLoans.ensures.within can.active can.named can.port can.there can.limits can.pools)
+
+pub returns-in-Refused-WantOfMemory-clause-within : goal.returns-in-Refused-WantOfMemory-clause-within
+returns-in-Refused-WantOfMemory-clause-within g c = λ can. absurd (c.in-Refused-WantOfMemory.ensures.within can.active can.named can.port can.there can.limits can.pools)
+
+pub returns-in-Refused-WantOfMemory-clause-never : goal.returns-in-Refused-WantOfMemory-clause-never
+returns-in-Refused-WantOfMemory-clause-never g c =
+    λ short e.
+    response_never_wants c.args.hub.now c.is_in_order.ensures c.args.node c.args.number c.args.elements c.in-Refused-WantOfMemory.field-0
+    c.in-Refused-WantOfMemory.field-0-is c.requires.has c.in-Refused-WantOfMemory.ensures.answers short

@@ -9,3 +9,6 @@ pub returns-clause-only : goal.returns-clause-only
 returns-clause-only g c =
     copy_brings_only c.args.hub.now c.copy_request.new.self c.is_in_order.ensures c.args.node c.args.client
     (payload_of Client (length c.args.values.now) _) (replies.reply_of_copy c.copy_request.result) c.copy_request.ensures.whole
+
+pub returns-clause-memory : goal.returns-clause-memory
+returns-clause-memory g c = λ e p there. (c.copy_request.ensures.memory e p there).grows

@@ -15,3 +15,6 @@ pub returns-clause-brings : goal.returns-clause-brings
 returns-clause-brings g c =
     brings_response_copy c.args.hub.now c.copy_response.new.self c.is_in_order.ensures c.args.node c.args.number (length c.args.values.now) _
     c.copy_response.result c.requires.has c.copy_response.ensures.whole
+
+pub returns-clause-memory : goal.returns-clause-memory
+returns-clause-memory g c = λ e h p named there. (c.copy_response.ensures.memory e h p named there).grows

@@ -1,14 +1,61 @@
+use Rattle.std.specs.Prelude.{◌≡◌, false}
+use Rattle.std.proofs.Common.{ap, subst}
 use Rattle.iox_model.specs.declared.call.Call.TheVariants.{Loan}
+use Rattle.iox_model.specs.declared.reply.Refusal.TheVariants as refusals
+use Rattle.iox_model.specs.declared.reply.Reply.TheVariants as replies
 use Rattle.iox_hub.specs.Lends.{reply_of_loan}
-use Rattle.iox_port_commands.proofs.Calling.{called}
+use Rattle.iox_hub.specs.Lent.{Lent}
+use Rattle.iox_hub.specs.Lent.TheVariants.{Refused}
+use Rattle.iox_hub.specs.LoanRefusal.TheVariants.{WantOfMemory}
+use Rattle.iox_model.specs.declared.kind.Kind.{Kind}
+use Rattle.iox_hub.specs.Hubs.{HasValue}
+use Rattle.iox_port_commands.specs.Applying.{HasGrowingPort}
+use Rattle.iox_port_commands.proofs.Growing.{active_grows, client_grows}
+use Rattle.iox_port_commands.proofs.Calling.{called_if, lacking_if, loan_stays, on_err}
 use Rattle.iox_port_commands.proofs.lending.loan.Goals as goal
 
 pub returns-in-Ok-Client-clause-whole : goal.returns-in-Ok-Client-clause-whole
 returns-in-Ok-Client-clause-whole g c =
-    called c.args.hub.now c.lend_request.new.self c.args.node (Loan c.args.number c.args.elements) c.lent.result
+    called_if c.args.hub.now c.lend_request.new.self c.args.node (Loan c.args.number c.args.elements) c.lent.result
     (reply_of_loan c.lend_request.result) c.lent.ensures.reply c.lend_request.ensures.whole
+
+pub returns-in-Ok-Client-clause-wanting : goal.returns-in-Ok-Client-clause-wanting
+returns-in-Ok-Client-clause-wanting g c =
+    lacking_if c.args.hub.now c.lend_request.new.self c.args.node (Loan c.args.number c.args.elements) c.lent.result (reply_of_loan c.lend_request.result)
+    (on_err c.lent.result (c.lend_request.result ≡ Refused WantOfMemory) (reply_of_loan c.lend_request.result ≡ replies.Refused refusals.WantOfMemory)
+    (λ e. ap (λ (l : Lent). reply_of_loan l) e) c.lent.ensures.wanting) c.lend_request.ensures.whole
+
+pub returns-in-Ok-Client-clause-unchanged : goal.returns-in-Ok-Client-clause-unchanged
+returns-in-Ok-Client-clause-unchanged g c =
+    on_err c.lent.result (c.lend_request.result ≡ Refused WantOfMemory) (c.lend_request.new.self ≡ c.args.hub.now)
+    (loan_stays c.args.hub.now c.lend_request.new.self c.args.hub.now.request false c.args.elements c.lend_request.result c.lend_request.ensures.left) c.lent.ensures.wanting
 
 pub returns-in-Ok-ActiveRequest-clause-whole : goal.returns-in-Ok-ActiveRequest-clause-whole
 returns-in-Ok-ActiveRequest-clause-whole g c =
-    called c.args.hub.now c.lend_response.new.self c.args.node (Loan c.args.number c.args.elements) c.lent-in-Ok-ActiveRequest.result
+    called_if c.args.hub.now c.lend_response.new.self c.args.node (Loan c.args.number c.args.elements) c.lent-in-Ok-ActiveRequest.result
     (reply_of_loan c.lend_response.result) c.lent-in-Ok-ActiveRequest.ensures.reply c.lend_response.ensures.whole
+
+pub returns-in-Ok-ActiveRequest-clause-wanting : goal.returns-in-Ok-ActiveRequest-clause-wanting
+returns-in-Ok-ActiveRequest-clause-wanting g c =
+    lacking_if c.args.hub.now c.lend_response.new.self c.args.node (Loan c.args.number c.args.elements) c.lent-in-Ok-ActiveRequest.result (reply_of_loan c.lend_response.result)
+    (on_err c.lent-in-Ok-ActiveRequest.result (c.lend_response.result ≡ Refused WantOfMemory) (reply_of_loan c.lend_response.result ≡ replies.Refused refusals.WantOfMemory)
+    (λ e. ap (λ (l : Lent). reply_of_loan l) e) c.lent-in-Ok-ActiveRequest.ensures.wanting) c.lend_response.ensures.whole
+
+pub returns-in-Ok-ActiveRequest-clause-unchanged : goal.returns-in-Ok-ActiveRequest-clause-unchanged
+returns-in-Ok-ActiveRequest-clause-unchanged g c =
+    on_err c.lent-in-Ok-ActiveRequest.result (c.lend_response.result ≡ Refused WantOfMemory) (c.lend_response.new.self ≡ c.args.hub.now)
+    (loan_stays c.args.hub.now c.lend_response.new.self c.args.hub.now.response false c.args.elements c.lend_response.result c.lend_response.ensures.left) c.lent-in-Ok-ActiveRequest.ensures.wanting
+
+pub returns-in-Ok-Client-clause-grows : goal.returns-in-Ok-Client-clause-grows
+returns-in-Ok-Client-clause-grows g c =
+    on_err c.lent.result (c.lend_request.result ≡ Refused WantOfMemory) (HasGrowingPort c.args.hub.now)
+    (λ e. client_grows c.args.hub.now c.is_in_order.ensures c.args.node c.args.number c.args.elements
+    (subst (λ (kind : Kind). HasValue c.args.hub.now c.args.node c.args.number kind) c.in-Ok-Client.field-0-is c.in-Ok-Client.ensures.has)
+    (c.lend_request.ensures.memory e)) c.lent.ensures.wanting
+
+pub returns-in-Ok-ActiveRequest-clause-grows : goal.returns-in-Ok-ActiveRequest-clause-grows
+returns-in-Ok-ActiveRequest-clause-grows g c =
+    on_err c.lent-in-Ok-ActiveRequest.result (c.lend_response.result ≡ Refused WantOfMemory) (HasGrowingPort c.args.hub.now)
+    (λ e. active_grows c.args.hub.now c.is_in_order.ensures c.args.node c.args.number c.args.elements
+    (subst (λ (kind : Kind). HasValue c.args.hub.now c.args.node c.args.number kind) c.in-Ok-ActiveRequest.field-0-is c.in-Ok-ActiveRequest.ensures.has)
+    (c.lend_response.ensures.memory e)) c.lent-in-Ok-ActiveRequest.ensures.wanting

@@ -1,113 +1,29 @@
-use Rattle.std.specs.Prelude.{flat_map, length}
-use Rattle.std.proofs.Common.{sym, ◌∙◌}
-use Rattle.iox_control.specs.Entries.{handle_state}
-use Rattle.iox_hub.proofs.CopyingResponses.{answer_call, none_is, other_hub, other_left, other_whole, put_hub, put_left, put_of, put_room, put_whole, put_within}
-use Rattle.iox_hub.proofs.CopyingWords.{asked_is}
-use Rattle.iox_hub.proofs.KeepingCopies.{other_response_keeps, response_keeps_all}
-use Rattle.iox_hub.proofs.LendingNamed.{active_of_hub}
+use Rattle.std.specs.Prelude.{flat_map, length, refl}
+use Rattle.iox_hub.proofs.GrowingWants.{answer_lacks}
+use Rattle.iox_hub.proofs.Keeping.{all_kept}
 use Rattle.iox_hub.proofs.hub.Hub.copy_response.Goals as goal
 
-pub copy_response-answered-requires-clause-active : goal.copy_response-answered-requires-clause-active
-copy_response-answered-requires-clause-active g c =
-    active_of_hub c.self.invariant c.args.self.now c.self.view_is c.args.node c.args.number c.requires.has
+pub copy_response_in_room-requires-clause-has : goal.copy_response_in_room-requires-clause-has
+copy_response_in_room-requires-clause-has g c = rw c.room_for_response.ensures.unchanged c.requires.has
 
-pub copy_response_in-requires-clause-responses : goal.copy_response_in-requires-clause-responses
-copy_response_in-requires-clause-responses g c =
-    put_of c.self.invariant (length c.args.values.now) (flat_map g.P.Element.Words.words c.args.values.now) c.args.node c.args.number c.copy_response-answered.new.control c.copy_response-answered.result c.in-Some-place_of.place (sym c.place_of.ensures ∙ c.in-Some-place_of.is)
-    (answer_call c.self.invariant (handle_state c.in-Some.entry) c.args.node c.args.number c.in-Some.ensures c.fails_when_full-fails.result c.fails_when_full-fails.ensures
-    c.asked_of-asked.result (length c.args.values.now) (flat_map g.P.Element.Words.words c.args.values.now) c.copy_response-answered.new.control c.copy_response-answered.result
-    (asked_is g.P.Payload.MANY g.P.Element.Words.WORDS g.P.Element.Words.words g.PH.Words.words c.self.inside.response (length c.args.values.now) c.asked_of-asked.result c.asked_of-asked.ensures)
-    (active_of_hub c.self.invariant c.args.self.now c.self.view_is c.args.node c.args.number c.requires.has)
-    c.copy_response-answered.ensures.left c.copy_response-answered.ensures.order c.copy_response-answered.ensures.whole)
+pub copy_response_in_room-requires-clause-room : goal.copy_response_in_room-requires-clause-room
+copy_response_in_room-requires-clause-room g c = rw c.room_for_response.ensures.unchanged c.in-Ok.ensures.room
 
-pub copy_response_in-requires-clause-there : goal.copy_response_in-requires-clause-there
-copy_response_in-requires-clause-there g c =
-    put_within c.self.invariant (length c.args.values.now) (flat_map g.P.Element.Words.words c.args.values.now) c.args.node c.args.number c.copy_response-answered.new.control c.copy_response-answered.result c.in-Some-place_of.place (sym c.place_of.ensures ∙ c.in-Some-place_of.is)
-    (answer_call c.self.invariant (handle_state c.in-Some.entry) c.args.node c.args.number c.in-Some.ensures c.fails_when_full-fails.result c.fails_when_full-fails.ensures
-    c.asked_of-asked.result (length c.args.values.now) (flat_map g.P.Element.Words.words c.args.values.now) c.copy_response-answered.new.control c.copy_response-answered.result
-    (asked_is g.P.Payload.MANY g.P.Element.Words.WORDS g.P.Element.Words.words g.PH.Words.words c.self.inside.response (length c.args.values.now) c.asked_of-asked.result c.asked_of-asked.ensures)
-    (active_of_hub c.self.invariant c.args.self.now c.self.view_is c.args.node c.args.number c.requires.has)
-    c.copy_response-answered.ensures.left c.copy_response-answered.ensures.order c.copy_response-answered.ensures.whole)
-
-pub copy_response_in-requires-clause-room : goal.copy_response_in-requires-clause-room
-copy_response_in-requires-clause-room g c =
-    put_room c.self.invariant (length c.args.values.now) (flat_map g.P.Element.Words.words c.args.values.now) c.args.node c.args.number c.copy_response-answered.new.control c.copy_response-answered.result c.in-Some-place_of.place (sym c.place_of.ensures ∙ c.in-Some-place_of.is)
-    (answer_call c.self.invariant (handle_state c.in-Some.entry) c.args.node c.args.number c.in-Some.ensures c.fails_when_full-fails.result c.fails_when_full-fails.ensures
-    c.asked_of-asked.result (length c.args.values.now) (flat_map g.P.Element.Words.words c.args.values.now) c.copy_response-answered.new.control c.copy_response-answered.result
-    (asked_is g.P.Payload.MANY g.P.Element.Words.WORDS g.P.Element.Words.words g.PH.Words.words c.self.inside.response (length c.args.values.now) c.asked_of-asked.result c.asked_of-asked.ensures)
-    (active_of_hub c.self.invariant c.args.self.now c.self.view_is c.args.node c.args.number c.requires.has)
-    c.copy_response-answered.ensures.left c.copy_response-answered.ensures.order c.copy_response-answered.ensures.whole)
-
-pub invariant_of-self : goal.invariant_of-self
-invariant_of-self g c =
-    put_hub c.self.invariant (length c.args.values.now) (flat_map g.P.Element.Words.words c.args.values.now) c.args.node c.args.number c.copy_response-answered.new.control c.copy_response-answered.result c.in-Some-place_of.place (sym c.place_of.ensures ∙ c.in-Some-place_of.is)
-    (answer_call c.self.invariant (handle_state c.in-Some.entry) c.args.node c.args.number c.in-Some.ensures c.fails_when_full-fails.result c.fails_when_full-fails.ensures
-    c.asked_of-asked.result (length c.args.values.now) (flat_map g.P.Element.Words.words c.args.values.now) c.copy_response-answered.new.control c.copy_response-answered.result
-    (asked_is g.P.Payload.MANY g.P.Element.Words.WORDS g.P.Element.Words.words g.PH.Words.words c.self.inside.response (length c.args.values.now) c.asked_of-asked.result c.asked_of-asked.ensures)
-    (active_of_hub c.self.invariant c.args.self.now c.self.view_is c.args.node c.args.number c.requires.has)
-    c.copy_response-answered.ensures.left c.copy_response-answered.ensures.order c.copy_response-answered.ensures.whole) _ c.copy_response_in.ensures
-
-pub invariant_of-self-in_default-place_of : goal.invariant_of-self-in_default-place_of
-invariant_of-self-in_default-place_of g c =
-    other_hub c.self.invariant (length c.args.values.now) (flat_map g.P.Element.Words.words c.args.values.now) c.args.node c.args.number c.copy_response-answered.new.control c.copy_response-answered.result (none_is c.self.invariant (length c.args.values.now) (flat_map g.P.Element.Words.words c.args.values.now) c.args.node c.args.number c.copy_response-answered.new.control c.copy_response-answered.result (sym c.place_of.ensures ∙ c.in_default-place_of.is))
-    (answer_call c.self.invariant (handle_state c.in-Some.entry) c.args.node c.args.number c.in-Some.ensures c.fails_when_full-fails.result c.fails_when_full-fails.ensures
-    c.asked_of-asked.result (length c.args.values.now) (flat_map g.P.Element.Words.words c.args.values.now) c.copy_response-answered.new.control c.copy_response-answered.result
-    (asked_is g.P.Payload.MANY g.P.Element.Words.WORDS g.P.Element.Words.words g.PH.Words.words c.self.inside.response (length c.args.values.now) c.asked_of-asked.result c.asked_of-asked.ensures)
-    (active_of_hub c.self.invariant c.args.self.now c.self.view_is c.args.node c.args.number c.requires.has)
-    c.copy_response-answered.ensures.left c.copy_response-answered.ensures.order c.copy_response-answered.ensures.whole)
-
-pub returns-in-Some-place_of : goal.returns-in-Some-place_of
-returns-in-Some-place_of g c =
-    rw (← c.self.view_is) (record {
-      reply = (answer_call c.self.invariant (handle_state c.in-Some.entry) c.args.node c.args.number c.in-Some.ensures c.fails_when_full-fails.result c.fails_when_full-fails.ensures
-          c.asked_of-asked.result (length c.args.values.now) (flat_map g.P.Element.Words.words c.args.values.now) c.copy_response-answered.new.control c.copy_response-answered.result
-          (asked_is g.P.Payload.MANY g.P.Element.Words.WORDS g.P.Element.Words.words g.PH.Words.words c.self.inside.response (length c.args.values.now) c.asked_of-asked.result c.asked_of-asked.ensures)
-          (active_of_hub c.self.invariant c.args.self.now c.self.view_is c.args.node c.args.number c.requires.has)
-          c.copy_response-answered.ensures.left c.copy_response-answered.ensures.order c.copy_response-answered.ensures.whole).reply;
-      left = put_left c.self.invariant (length c.args.values.now) (flat_map g.P.Element.Words.words c.args.values.now) c.args.node c.args.number c.copy_response-answered.new.control c.copy_response-answered.result c.in-Some-place_of.place (sym c.place_of.ensures ∙ c.in-Some-place_of.is)
-          (answer_call c.self.invariant (handle_state c.in-Some.entry) c.args.node c.args.number c.in-Some.ensures c.fails_when_full-fails.result c.fails_when_full-fails.ensures
-          c.asked_of-asked.result (length c.args.values.now) (flat_map g.P.Element.Words.words c.args.values.now) c.copy_response-answered.new.control c.copy_response-answered.result
-          (asked_is g.P.Payload.MANY g.P.Element.Words.WORDS g.P.Element.Words.words g.PH.Words.words c.self.inside.response (length c.args.values.now) c.asked_of-asked.result c.asked_of-asked.ensures)
-          (active_of_hub c.self.invariant c.args.self.now c.self.view_is c.args.node c.args.number c.requires.has)
-          c.copy_response-answered.ensures.left c.copy_response-answered.ensures.order c.copy_response-answered.ensures.whole) _ c.copy_response_in.ensures;
-      whole = put_whole c.self.invariant (length c.args.values.now) (flat_map g.P.Element.Words.words c.args.values.now) c.args.node c.args.number c.copy_response-answered.new.control c.copy_response-answered.result c.in-Some-place_of.place (sym c.place_of.ensures ∙ c.in-Some-place_of.is)
-          (answer_call c.self.invariant (handle_state c.in-Some.entry) c.args.node c.args.number c.in-Some.ensures c.fails_when_full-fails.result c.fails_when_full-fails.ensures
-          c.asked_of-asked.result (length c.args.values.now) (flat_map g.P.Element.Words.words c.args.values.now) c.copy_response-answered.new.control c.copy_response-answered.result
-          (asked_is g.P.Payload.MANY g.P.Element.Words.WORDS g.P.Element.Words.words g.PH.Words.words c.self.inside.response (length c.args.values.now) c.asked_of-asked.result c.asked_of-asked.ensures)
-          (active_of_hub c.self.invariant c.args.self.now c.self.view_is c.args.node c.args.number c.requires.has)
-          c.copy_response-answered.ensures.left c.copy_response-answered.ensures.order c.copy_response-answered.ensures.whole) _ c.copy_response_in.ensures;
-      keeps = response_keeps_all c.self.invariant (length c.args.values.now) (flat_map g.P.Element.Words.words c.args.values.now) c.args.node c.args.number c.copy_response-answered.new.control c.copy_response-answered.result c.in-Some-place_of.place (sym c.place_of.ensures ∙ c.in-Some-place_of.is)
-          (answer_call c.self.invariant (handle_state c.in-Some.entry) c.args.node c.args.number c.in-Some.ensures c.fails_when_full-fails.result c.fails_when_full-fails.ensures
-          c.asked_of-asked.result (length c.args.values.now) (flat_map g.P.Element.Words.words c.args.values.now) c.copy_response-answered.new.control c.copy_response-answered.result
-          (asked_is g.P.Payload.MANY g.P.Element.Words.WORDS g.P.Element.Words.words g.PH.Words.words c.self.inside.response (length c.args.values.now) c.asked_of-asked.result c.asked_of-asked.ensures)
-          (active_of_hub c.self.invariant c.args.self.now c.self.view_is c.args.node c.args.number c.requires.has)
-          c.copy_response-answered.ensures.left c.copy_response-answered.ensures.order c.copy_response-answered.ensures.whole) _ _ c.copy_response_in.ensures;
+pub returns-in-Ok : goal.returns-in-Ok
+returns-in-Ok g c =
+    rw (← c.room_for_response.ensures.unchanged) (record {
+      reply = λ h named p there never. c.copy_response_in_room.ensures.reply h named p there;
+      left = c.copy_response_in_room.ensures.left;
+      whole = c.copy_response_in_room.ensures.whole;
+      keeps = c.copy_response_in_room.ensures.keeps;
+      memory = λ e. absurd (c.copy_response_in_room.ensures.memory e);
     })
 
-pub returns-in_default-place_of : goal.returns-in_default-place_of
-returns-in_default-place_of g c =
-    rw (← c.self.view_is) (record {
-      reply = (answer_call c.self.invariant (handle_state c.in-Some.entry) c.args.node c.args.number c.in-Some.ensures c.fails_when_full-fails.result c.fails_when_full-fails.ensures
-          c.asked_of-asked.result (length c.args.values.now) (flat_map g.P.Element.Words.words c.args.values.now) c.copy_response-answered.new.control c.copy_response-answered.result
-          (asked_is g.P.Payload.MANY g.P.Element.Words.WORDS g.P.Element.Words.words g.PH.Words.words c.self.inside.response (length c.args.values.now) c.asked_of-asked.result c.asked_of-asked.ensures)
-          (active_of_hub c.self.invariant c.args.self.now c.self.view_is c.args.node c.args.number c.requires.has)
-          c.copy_response-answered.ensures.left c.copy_response-answered.ensures.order c.copy_response-answered.ensures.whole).reply;
-      left = other_left c.self.invariant (length c.args.values.now) (flat_map g.P.Element.Words.words c.args.values.now) c.args.node c.args.number c.copy_response-answered.new.control c.copy_response-answered.result (none_is c.self.invariant (length c.args.values.now) (flat_map g.P.Element.Words.words c.args.values.now) c.args.node c.args.number c.copy_response-answered.new.control c.copy_response-answered.result (sym c.place_of.ensures ∙ c.in_default-place_of.is))
-          (answer_call c.self.invariant (handle_state c.in-Some.entry) c.args.node c.args.number c.in-Some.ensures c.fails_when_full-fails.result c.fails_when_full-fails.ensures
-          c.asked_of-asked.result (length c.args.values.now) (flat_map g.P.Element.Words.words c.args.values.now) c.copy_response-answered.new.control c.copy_response-answered.result
-          (asked_is g.P.Payload.MANY g.P.Element.Words.WORDS g.P.Element.Words.words g.PH.Words.words c.self.inside.response (length c.args.values.now) c.asked_of-asked.result c.asked_of-asked.ensures)
-          (active_of_hub c.self.invariant c.args.self.now c.self.view_is c.args.node c.args.number c.requires.has)
-          c.copy_response-answered.ensures.left c.copy_response-answered.ensures.order c.copy_response-answered.ensures.whole);
-      whole = other_whole c.self.invariant (length c.args.values.now) (flat_map g.P.Element.Words.words c.args.values.now) c.args.node c.args.number c.copy_response-answered.new.control c.copy_response-answered.result (none_is c.self.invariant (length c.args.values.now) (flat_map g.P.Element.Words.words c.args.values.now) c.args.node c.args.number c.copy_response-answered.new.control c.copy_response-answered.result (sym c.place_of.ensures ∙ c.in_default-place_of.is))
-          (answer_call c.self.invariant (handle_state c.in-Some.entry) c.args.node c.args.number c.in-Some.ensures c.fails_when_full-fails.result c.fails_when_full-fails.ensures
-          c.asked_of-asked.result (length c.args.values.now) (flat_map g.P.Element.Words.words c.args.values.now) c.copy_response-answered.new.control c.copy_response-answered.result
-          (asked_is g.P.Payload.MANY g.P.Element.Words.WORDS g.P.Element.Words.words g.PH.Words.words c.self.inside.response (length c.args.values.now) c.asked_of-asked.result c.asked_of-asked.ensures)
-          (active_of_hub c.self.invariant c.args.self.now c.self.view_is c.args.node c.args.number c.requires.has)
-          c.copy_response-answered.ensures.left c.copy_response-answered.ensures.order c.copy_response-answered.ensures.whole);
-      keeps = other_response_keeps c.self.invariant (length c.args.values.now) (flat_map g.P.Element.Words.words c.args.values.now) c.args.node c.args.number c.copy_response-answered.new.control c.copy_response-answered.result (none_is c.self.invariant (length c.args.values.now) (flat_map g.P.Element.Words.words c.args.values.now) c.args.node c.args.number c.copy_response-answered.new.control c.copy_response-answered.result (sym c.place_of.ensures ∙ c.in_default-place_of.is))
-          (answer_call c.self.invariant (handle_state c.in-Some.entry) c.args.node c.args.number c.in-Some.ensures c.fails_when_full-fails.result c.fails_when_full-fails.ensures
-          c.asked_of-asked.result (length c.args.values.now) (flat_map g.P.Element.Words.words c.args.values.now) c.copy_response-answered.new.control c.copy_response-answered.result
-          (asked_is g.P.Payload.MANY g.P.Element.Words.WORDS g.P.Element.Words.words g.PH.Words.words c.self.inside.response (length c.args.values.now) c.asked_of-asked.result c.asked_of-asked.ensures)
-          (active_of_hub c.self.invariant c.args.self.now c.self.view_is c.args.node c.args.number c.requires.has)
-          c.copy_response-answered.ensures.left c.copy_response-answered.ensures.order c.copy_response-answered.ensures.whole);
-    })
+pub returns-in-Err : goal.returns-in-Err
+returns-in-Err g c = record {
+  reply = λ h named p there never. absurd (never refl);
+  left = c.room_for_response.ensures.unchanged;
+  whole = λ x. answer_lacks c.is_in_order.ensures c.args.node c.args.number (length c.args.values.now) c.room_for_response.new.self c.room_for_response.ensures.unchanged c.requires.has (c.in-Err.ensures.wants refl) (flat_map g.P.Element.Words.words c.args.values.now) x;
+  keeps = all_kept c.args.self.now c.room_for_response.new.self c.room_for_response.ensures.unchanged;
+  memory = λ e. c.in-Err.ensures.wants refl;
+}

@@ -39,7 +39,7 @@ invariant_of-self-2 g c =
     (all_carried c.make_room.new.words.items) (ap all_carried c.make_room.ensures.unchanged)
     c.in-Some.place (c.in-Some.ensures ∙ ap place_for_one c.pools.ensures) (carried c.in-Ok.words) c.in-Ok.ensures
     (all_carried c.put.new.words.items) c.put.ensures c.make_port.new.control c.in-Ok-make_port.ensures.made
-    c.in-Ok-make_port.ensures.whole c.if-asked.false (sym c.would_grow-grows.ensures ∙ c.if-grows.false) c.make_port.ensures.order
+    c.in-Ok-make_port.ensures.whole c.if-asked.false c.make_port.ensures.order
 
 pub returns-clause-whole : goal.returns-clause-whole
 returns-clause-whole g c =
@@ -79,7 +79,7 @@ returns-clause-new g c =
 pub returns-clause-allowed : goal.returns-clause-allowed
 returns-clause-allowed g c =
     allowed _ c.args.self.now c.self.view_is c.self.invariant c.args.node c.args.role c.args.id c.asked-asked.result c.args.options c.asked-asked.ensures
-    c.if-asked.false (sym c.would_grow-grows.ensures ∙ c.if-grows.false)
+    c.if-asked.false
 
 pub returns-clause-messages : goal.returns-clause-messages
 returns-clause-messages g c =

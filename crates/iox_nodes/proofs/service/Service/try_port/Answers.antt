@@ -42,4 +42,4 @@ returns-in_err-try_apply-in-Ok-clause-wanting g c =
     c.self.view_is
     (port_lacks g.Q.Element.Words.words g.P.Element.Words.words g.H.Words.words c.self.inside.members.members c.self.inside.hub c.try_apply.new.hub
     c.in-Ok.id c.asker.result c.args.command c.put_id.new.command c.asker.ensures c.in-Ok.ensures.lives c.put_id.ensures
-    c.in_err-try_apply-in-Ok.ensures.wanting c.in_err-try_apply-in-Ok.ensures.takes c.in_err-try_apply-in-Ok.ensures.unchanged))
+    c.in_err-try_apply-in-Ok.ensures.wanting c.in_err-try_apply-in-Ok.ensures.takes c.in_err-try_apply-in-Ok.ensures.grows c.in_err-try_apply-in-Ok.ensures.unchanged))

@@ -1,5 +1,4 @@
 use Rattle.std.proofs.Common.{ℕ, List, [], ◌<◌, ap, ap₂, subst, sym, length}
-use Rattle.std.specs.Vec.{vec_capacity}
 use Rattle.std.proofs.lemmas.List.{length-set}
 use Rattle.iox_store.specs.Stored.{Stored}
 use Rattle.iox_store.proofs.WidthLemmas.{words-set}
@@ -16,6 +15,6 @@ returns g c =
     subst (λ (n : ℕ). c.args.index < n) (ap (λ (x : Stored). x.filled) (sym c.self.view_is)) c.requires in
     rw (← c.self.view_is)
     (ap₂
-    (with_words (record { room = vec_capacity c.self.inside.payload; elements = c.self.inside.elements; filled = 0; user = g.H.Words.words c.self.inside.user; payload = [] }))
+    (with_words (record { room = c.self.inside.room; elements = c.self.inside.elements; filled = 0; user = g.H.Words.words c.self.inside.user; payload = [] }))
     (length-set c.self.inside.payload.items c.args.index c.args.value)
     (words-set g.E.Words.WORDS g.E.Words.words c.self.inside.payload.items c.args.index c.args.value c.self.invariant.payload within))

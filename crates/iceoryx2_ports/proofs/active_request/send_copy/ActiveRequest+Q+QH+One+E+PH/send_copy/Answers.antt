@@ -1,5 +1,5 @@
 use Rattle.std.specs.Prelude.{◌∷◌, [], flat_map}
-use Rattle.std.proofs.Common.{ap, sym, ◌∙◌}
+use Rattle.std.proofs.Common.{ap, subst, sym, ◌∙◌}
 use Rattle.iox_model.specs.declared.call.Call.TheVariants.{SendCopy}
 use Rattle.iox_model.specs.declared.kind.Role.TheVariants as roles
 use Rattle.iox_model.specs.declared.reply.Refusal.TheVariants as refusals
@@ -9,9 +9,12 @@ use Rattle.iox_hub_laws.specs.Lends.{refusal_of}
 use Rattle.iox_hub_laws.specs.Lending.{payload_of}
 use Rattle.iox_hub_laws.specs.Hubs.{nothing_given}
 use Rattle.iox_hub_laws.specs.Shown.{shown}
-use Rattle.iceoryx2_ports.specs.Copies.{copy_reply}
+use Rattle.iox_hub_laws.specs.Answered.TheVariants as answered
+use Rattle.iceoryx2_ports.specs.Copies.{LeavesUnloaned, LeavesUnsent, copy_reply}
+use Rattle.iceoryx2_ports.specs.declared.errors.LoanError.{LoanError}
+use Rattle.iceoryx2_ports.specs.declared.errors.SendError.{SendError}
 use Rattle.iceoryx2_ports.specs.Loans.{loan_refusal}
-use Rattle.iceoryx2_ports.proofs.Copying.{copy_asks_as_before, test_is_told}
+use Rattle.iceoryx2_ports.proofs.Copying.{copy_asks_as_before, response_never_wants, test_is_told, test_leaves}
 use Rattle.iceoryx2_ports.proofs.Responding.{copy_has_as_before, copy_reaches_asker}
 use Rattle.iceoryx2_ports.proofs.Telling.{called_as}
 use Rattle.iceoryx2_ports.proofs.Unclosed.{copy_keeps_requests}
@@ -84,3 +87,11 @@ pub returns-in-Undelivered-clause-shapes : goal.returns-in-Undelivered-clause-sh
 returns-in-Undelivered-clause-shapes g c =
     same_shapes c.args.hub.now c.copy_response.new.hub c.args.self.now.node (SendCopy c.args.self.now.number (payload_of roles.Server 1 (flat_map g.E.Words.words (c.args.value ∷ [])))) (reply_of_copy c.copy_response.result)
     c.copy_response.ensures.whole
+
+pub returns-in-Refused-clause-left : goal.returns-in-Refused-clause-left
+returns-in-Refused-clause-left g c =
+    subst (λ (e : SendError). LeavesUnsent c.args.hub.now e c.copy_response.new.hub) (sym c.from.ensures)
+    (subst (λ (e : LoanError). LeavesUnloaned c.args.hub.now e c.copy_response.new.hub) (sym c.error_of_test.ensures)
+    (test_leaves c.args.hub.now c.copy_response.new.hub c.in-Refused.refusal
+    (response_never_wants c.args.hub.now c.is_in_order.ensures c.args.self.now.node c.args.self.now.number c.in-Refused.refusal c.requires.has
+    c.is_of_its_types.ensures.responses.many (λ e. c.in-Refused.ensures.memory (ap answered.Refused e))) c.in-Refused.ensures.left))

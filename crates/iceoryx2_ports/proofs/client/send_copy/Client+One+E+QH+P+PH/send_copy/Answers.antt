@@ -1,5 +1,5 @@
 use Rattle.std.specs.Prelude.{ℕ, ◌∷◌, [], flat_map}
-use Rattle.std.proofs.Common.{ap, subst₂, sym, ◌∙◌}
+use Rattle.std.proofs.Common.{ap, subst, subst₂, sym, ◌∙◌}
 use Rattle.iox_model.specs.declared.call.Call.TheVariants.{SendCopy}
 use Rattle.iox_model.specs.declared.kind.Role.TheVariants as roles
 use Rattle.iox_model.specs.declared.reply.Refusal.TheVariants as refusals
@@ -7,9 +7,12 @@ use Rattle.iox_model.specs.declared.reply.Reply.TheVariants as replies
 use Rattle.iox_hub_laws.specs.Copies.{reply_of_copy}
 use Rattle.iox_hub_laws.specs.Lends.{refusal_of}
 use Rattle.iox_hub_laws.specs.Lending.{payload_of}
-use Rattle.iceoryx2_ports.specs.Copies.{unasked_reply}
+use Rattle.iox_hub_laws.specs.Copied.TheVariants as copied
+use Rattle.iceoryx2_ports.specs.Copies.{LeavesUnasked, LeavesUnloaned, unasked_reply}
+use Rattle.iceoryx2_ports.specs.declared.errors.LoanError.{LoanError}
+use Rattle.iceoryx2_ports.specs.declared.errors.RequestSendError.{RequestSendError}
 use Rattle.iceoryx2_ports.specs.Loans.{loan_refusal}
-use Rattle.iceoryx2_ports.proofs.Copying.{copy_asks_as_before, test_is_told}
+use Rattle.iceoryx2_ports.proofs.Copying.{copy_asks_as_before, request_never_wants, test_is_told, test_leaves}
 use Rattle.iceoryx2_ports.proofs.Reaching.{copy_brings_one, copy_is_sent, copy_reaches}
 use Rattle.iceoryx2_ports.proofs.Telling.{called_as}
 use Rattle.iceoryx2_ports.proofs.CopyAsked.{copy_asks_quietly, copy_brings_its_request, copy_opens}
@@ -99,3 +102,11 @@ pub returns-in-UnableToDeliver-clause-shapes : goal.returns-in-UnableToDeliver-c
 returns-in-UnableToDeliver-clause-shapes g c =
     same_shapes c.args.hub.now c.copy_request.new.hub c.args.self.now.node (SendCopy c.args.self.now.number (payload_of roles.Client 1 (flat_map g.E.Words.words (c.args.value ∷ [])))) (reply_of_copy c.copy_request.result)
     c.copy_request.ensures.whole
+
+pub returns-in-Refused-clause-left : goal.returns-in-Refused-clause-left
+returns-in-Refused-clause-left g c =
+    subst (λ (e : RequestSendError). LeavesUnasked c.args.hub.now e c.copy_request.new.hub) (sym c.from.ensures)
+    (subst (λ (e : LoanError). LeavesUnloaned c.args.hub.now e c.copy_request.new.hub) (sym c.error_of_test.ensures)
+    (test_leaves c.args.hub.now c.copy_request.new.hub c.in-Refused.refusal
+    (request_never_wants c.args.hub.now c.is_in_order.ensures c.args.self.now.node c.args.self.now.number c.in-Refused.refusal c.requires.has
+    c.is_of_its_types.ensures.requests.many (λ e. c.in-Refused.ensures.memory (ap copied.Refused e))) c.in-Refused.ensures.left))

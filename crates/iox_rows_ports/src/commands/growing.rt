@@ -1,0 +1,91 @@
+//! Messages that grow past the greatest length, which is 2.
+use super::{Asked, Given, Told, plays};
+use iox_model::reply::Refusal;
+use iox_types::AllocationStrategy;
+use std::test::Fail;
+
+/// A client whose messages grow.
+const GROWING: Asked = Asked::Client(Given::Allocation(AllocationStrategy::BestFit));
+
+#[test]
+fn a_loan_past_the_greatest_length_is_written_sent_and_read(rt: HostRuntime) -> Result<(), Fail> {
+    plays(
+        &rt,
+        rt.alloc(),
+        &[
+            (1, Asked::Server, Told::Server(0)),
+            (0, GROWING, Told::Client(1)),
+            (0, Asked::Loan(1, 33), Told::Handle(2)),
+            (0, Asked::Write(2, 5, 33), Told::Done),
+            (0, Asked::Send(2), Told::Sent(1)),
+            (1, Asked::Receive(0), Told::Handle(3)),
+            (1, Asked::Read(3), Told::Words(34, 37)),
+        ],
+    )
+}
+
+#[test]
+fn a_copy_past_the_greatest_length_is_read_whole(rt: HostRuntime) -> Result<(), Fail> {
+    plays(
+        &rt,
+        rt.alloc(),
+        &[
+            (1, Asked::Server, Told::Server(0)),
+            (0, GROWING, Told::Client(1)),
+            (0, Asked::Request(1, 9, 40), Told::Handle(2)),
+            (1, Asked::Receive(0), Told::Handle(3)),
+            (1, Asked::Read(3), Told::Words(41, 48)),
+        ],
+    )
+}
+
+#[test]
+fn a_loan_without_a_layout_or_memory_is_refused(rt: HostRuntime) -> Result<(), Fail> {
+    plays(
+        &rt,
+        rt.alloc(),
+        &[
+            (0, GROWING, Told::Client(0)),
+            (
+                0,
+                Asked::Loan(0, 1 << 62),
+                Told::Refused(Refusal::ExceedsMaxLoanSize),
+            ),
+            (
+                0,
+                Asked::Loan(0, 1 << 58),
+                Told::Refused(Refusal::WantOfMemory),
+            ),
+            (0, Asked::Loan(0, 3), Told::Handle(1)),
+            (0, Asked::Loan(0, 2), Told::Handle(2)),
+            (
+                0,
+                Asked::Loan(0, 1 << 58),
+                Told::Refused(Refusal::ExceedsMaxLoans),
+            ),
+        ],
+    )
+}
+
+#[test]
+fn a_pool_that_is_dry_is_told_before_want_of_memory(rt: HostRuntime) -> Result<(), Fail> {
+    plays(
+        &rt,
+        rt.alloc(),
+        &[
+            (0, Asked::Client(Given::GrowingPool(1)), Told::Client(0)),
+            (0, Asked::Loan(0, 1), Told::Handle(1)),
+            (
+                0,
+                Asked::Loan(0, 1 << 58),
+                Told::Refused(Refusal::OutOfMemory),
+            ),
+            (0, Asked::Release(1), Told::Done),
+            (
+                0,
+                Asked::Loan(0, 1 << 58),
+                Told::Refused(Refusal::WantOfMemory),
+            ),
+        ],
+    )
+}
