@@ -44,6 +44,7 @@ use Rattle.iox_hub_laws.proofs.Phases.{sends_fits}
 use Rattle.iox_hub_laws.proofs.Values.{IsHandleOf, value_is_handle}
 use Rattle.iceoryx2_ports.specs.Responses.{ReachesItsAsker, answerer_in}
 use Rattle.iceoryx2_ports.proofs.Resting.{HaveAsBefore, have_same}
+use Rattle.iceoryx2_ports.proofs.Reaching.{port_connected}
 use Rattle.iceoryx2_ports.proofs.Responding.{reaches_asker}
 
 -- ---- what a send of a response leaves to receivers
@@ -174,4 +175,4 @@ module _ (old new : HubState) (after : IsHub new) (node n : ℕ) (has : HasValue
     pub loan_reaches_asker : ReachesItsAsker old node n new
     loan_reaches_asker owner is =
         reaches_asker old new node n loan.handle loan.named.there g.message refl (sends loan.handle loan.named.there (connected owner is))
-        (have (connected owner is))
+        (have (connected owner is)) (port_connected old hub node n loan.handle loan.named.there)

@@ -177,7 +177,7 @@ release_idles old new hub after node n whole x idle =
     record {
       none = none;
       room = record {
-        buffers = λ sender. empty_room new after (way_to x sender) (none.empty sender);
+        buffers = λ sender there. empty_room new after (way_to x sender) (none.empty sender);
         borrows = may_have old new hub after node n whole x idle.handle idle.there idle.borrows;
       };
     }
@@ -186,6 +186,6 @@ release_idles old new hub after node n whole x idle =
 pub release_gives_room : (old new : HubState) → IsHub old → IsHub new → (node n : ℕ)
     → ((x : Given) → IsWholeCall (state_of_hub x old) node (Release n) replies.Done (state_of_hub x new)) → (x : Receiver) → HasRoomBut old x node n → HasRoom new x
 release_gives_room old new hub after node n whole x room = record {
-  buffers = λ sender. buffers old new after node n replies.Done whole (way_to x sender) (room.buffers sender);
+  buffers = λ sender there. buffers old new after node n replies.Done whole (way_to x sender) there (room.buffers sender);
   borrows = may_have old new hub after node n whole x room.handle room.there room.borrows;
 }

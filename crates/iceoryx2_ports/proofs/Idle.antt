@@ -1,5 +1,6 @@
 -- A port that is made has nothing, has nothing on loan, and has room; for all others nothing comes, and who had room has it still.
 use Rattle.std.specs.Prelude.{◌≡◌, ◌⊎◌, ℕ, ◌<◌, ◌≤◌, Bool, true, false, ◌||◌, ◌==◌, nat_le, if◌then◌else◌, List, [], ◌∷◌, ◌++◌, filter, find, length, map, max, Option, None, Some, is_some, refl}
+use Rattle.std.specs.List.{list_any}
 use Rattle.std.specs.Option.{option_map_or}
 use Rattle.std.proofs.Common.{sym, ap, ◌∙◌, arith, inl, inr, eqb-true, true≢false}
 use Rattle.iox_types.specs.declared.identifiers.system_id.UniqueSystemId.{UniqueSystemId}
@@ -14,7 +15,7 @@ use Rattle.iox_model.specs.Makings.{IsHubCommand, making_refusal, new_port, port
 use Rattle.iox_model.specs.Maps.{has_number}
 use Rattle.iox_model.specs.Messages.{Message}
 use Rattle.iox_model.specs.Handles.{count_of, is_request_loan}
-use Rattle.iox_model.specs.Peers.{borrow_limit_on, buffer_on, node_of_port, role_at}
+use Rattle.iox_model.specs.Peers.{borrow_limit_on, buffer_on, is_connected_port, node_of_port, role_at}
 use Rattle.iox_model.specs.Receives.{is_at_limit}
 use Rattle.iox_model.specs.Runs.{IsReachableState}
 use Rattle.iox_model.specs.Settings.{Limits, borrow_limit_of, buffer_of, other_role}
@@ -29,18 +30,19 @@ use Rattle.iox_lanes.specs.Lanes.{LaneState}
 use Rattle.iox_tables.specs.HubStates.Receives.{way_to}
 use Rattle.iox_tables.specs.HubStates.Shown.{waiting_in}
 use Rattle.iox_tables.specs.HubBooks.Handles.{IsOfPort}
+use Rattle.iox_tables.proofs.HubKeeping.Ordered.{order_is_ready_for_ports}
 use Rattle.iox_tables.specs.HubStates.Ends.{OfEachHandle}
-use Rattle.iox_tables.specs.HubStates.States.{Given, handle_of, message_of}
+use Rattle.iox_tables.specs.HubStates.States.{Given, expired_in, handle_of, message_of}
 use Rattle.iox_tables.specs.HubStates.Steps.{is_there}
 use Rattle.iox_tables.specs.HubStates.Tables.{HandleState, HubTables, PortState, numbers_of, port_in}
 use Rattle.iox_tables.specs.HubStates.Ways.{lane_on}
 use Rattle.iox_tables.proofs.HubLending.Owning.{handles_are_on_nodes}
 use Rattle.iox_tables.proofs.HubLoans.Counting.{each_count_is_the_same}
 use Rattle.iox_hub_laws.specs.Hubs.{HubState, IsHub, given_by, nothing_given, state_of_hub}
-use Rattle.iox_hub_laws.specs.Gone.{IsBetweenPorts}
+use Rattle.iox_hub_laws.specs.Gone.{IsToPort}
 use Rattle.iox_hub_laws.specs.Sends.{NothingComes}
 use Rattle.iox_hub_laws.specs.Shown.{shown}
-use Rattle.iox_hub_laws.proofs.OfHubs.{hub_keeps_no_gone}
+use Rattle.iox_hub_laws.proofs.OfHubs.{hub_keeps_few_gone}
 use Rattle.iceoryx2_ports.specs.Idling.{IsIdle}
 use Rattle.iceoryx2_ports.specs.LoanLimits.{LendsNone}
 use Rattle.iceoryx2_ports.specs.Reaching.{HasRoom, KeepsRoom}
@@ -88,13 +90,22 @@ empty_room h hub w none =
 
 -- ---- ways of a hub without one of their ends
 
--- the receiver or the sender is not there
+-- the sender is not there, and the receiver does not keep it
+pub record IsNoSender (h : HubState) (w : Way) : Type 0 where
+  pub there : is_there h.control.tables.ports w.sender ≡ false
+  pub kept : has_number w.sender (expired_in h.control.tables.ports w.receiver) ≡ false
+
+-- the receiver is not there, or nothing comes from the sender
 abbrev pub IsAway : HubState → Way → Type 0
-IsAway h w = (is_there h.control.tables.ports w.receiver ≡ false) ⊎ (is_there h.control.tables.ports w.sender ≡ false)
+IsAway h w = (is_there h.control.tables.ports w.receiver ≡ false) ⊎ IsNoSender h w
 
 module _ (h : HubState) (hub : IsHub h) (w : Way) (away : IsAway h w) where
   abbrev ts : HubTables
   ts = h.control.tables
+
+  none_from : IsNoSender h w → (is_there ts.ports w.sender ≡ true) ⊎ (has_number w.sender (expired_in ts.ports w.receiver) ≡ true) → ⊥
+  none_from is (inl there) = true≢false (sym there ∙ is.there)
+  none_from is (inr kept) = true≢false (sym kept ∙ is.kept)
 
   no_lane : lane_on ts.ports w ≡ None
   no_lane = step (lane_on ts.ports w) refl
@@ -102,10 +113,10 @@ module _ (h : HubState) (hub : IsHub h) (w : Way) (away : IsAway h w) where
       step : (l : Option LaneState) → lane_on ts.ports w ≡ l → lane_on ts.ports w ≡ None
       step None e = e
       step (Some l) e =
-          let between : IsBetweenPorts ts w = (hub_keeps_no_gone hub).lanes w l e in
+          let between : IsToPort ts w = (hub_keeps_few_gone hub).lanes w l e in
           elim away as (λ q. lane_on ts.ports w ≡ None) [
             | inl is ↦ absurd (true≢false (sym between.receiver ∙ is))
-            | inr is ↦ absurd (true≢false (sym between.sender ∙ is))
+            | inr is ↦ absurd (none_from is between.sender)
           ]
 
   empty : (shown h).waiting w ≡ []
@@ -113,10 +124,6 @@ module _ (h : HubState) (hub : IsHub h) (w : Way) (away : IsAway h w) where
 
   borrows_none : (shown h).fixed.borrowed w ≡ 0
   borrows_none = ap (λ (l : Option LaneState). option_map_or (λ (k : LaneState). length k.taken) l 0) no_lane
-
-  -- none waits there, so it is not full
-  pub has_none_full : is_full (shown h) w ≡ false
-  has_none_full = empty_room h hub w empty
 
   -- its receiver has none, so it may have one
   pub may_have_one : is_at_limit (shown h).fixed w ≡ false
@@ -152,6 +159,11 @@ found_still (q ∷ qs) p k e =
     (Some q) (find (λ (r : m.Port). r.number == k) (qs ++ p ∷ []))
     (λ same. sym (ap (λ (b : Bool). if b then Some q else find (λ (r : m.Port). r.number == k) qs) same))
     (λ other. found_still qs p k e ∙ sym (ap (λ (b : Bool). if b then Some q else find (λ (r : m.Port). r.number == k) qs) other))
+
+-- it is connected as before
+any_still : (ps : List m.Port) (p : m.Port) (k : ℕ) → (p.number == k) ≡ false → list_any (λ (q : m.Port). q.number == k) (ps ++ p ∷ []) ≡ list_any (λ (q : m.Port). q.number == k) ps
+any_still [] p k e = ap (λ (b : Bool). b || false) e
+any_still (q ∷ qs) p k e = ap (λ (b : Bool). q.number == k || b) (any_still qs p k e)
 
 -- ---- replies
 
@@ -261,7 +273,10 @@ module _ (old new : HubState) (hub : IsHub old) (node : ℕ) (role : Role) (id :
   end_away : (w : Way) → (w.receiver ≡ t.next_number) ⊎ (w.sender ≡ t.next_number) → IsAway old w
   end_away w is = elim is as (λ q. IsAway old w) [
     | inl e ↦ inl (ap (is_there t.ports) e ∙ away)
-    | inr e ↦ inr (ap (is_there t.ports) e ∙ away)
+    | inr e ↦ inr (record {
+      there = ap (is_there t.ports) e ∙ away;
+      kept = ap (λ k. has_number k (expired_in t.ports w.receiver)) e ∙ (order_is_ready_for_ports t hub.control.order).takes.unkept w.receiver;
+    })
   ]
 
   positive : ArePositive s.fixed.limits
@@ -282,13 +297,14 @@ module _ (old new : HubState) (hub : IsHub old) (node : ℕ) (role : Role) (id :
   same_role_at k e = ap (λ (q : Option m.Port). option_map_or (λ (r : m.Port). r.role) q Client) (found_still s.fixed.ports p k e)
 
   -- who had room has it in the new state
-  room_in : (x : Receiver) → HasRoom old x → (sender : ℕ) → (is_full u (way_to x sender) ≡ false) × (is_at_limit u.fixed (way_to x sender) ≡ false)
+  room_in : (x : Receiver) → HasRoom old x → (sender : ℕ)
+      → (is_connected_port u.fixed sender ≡ true → is_full u (way_to x sender) ≡ false) × (is_at_limit u.fixed (way_to x sender) ≡ false)
   room_in x room sender = (buffers (t.next_number == sender) refl, borrows (t.next_number == x.port) refl)
     where
-      buffers : (b : Bool) → (t.next_number == sender) ≡ b → is_full u (way_to x sender) ≡ false
-      buffers true e = not_full (way_to x sender) (inr (sym (eqb-true t.next_number sender e)))
-      buffers false e =
-          ap (λ (r : Role). nat_le (buffer_of s.fixed.limits r) (length (s.waiting (way_to x sender)))) (same_role_at sender e) ∙ room.buffers sender
+      buffers : (b : Bool) → (t.next_number == sender) ≡ b → is_connected_port u.fixed sender ≡ true → is_full u (way_to x sender) ≡ false
+      buffers true e there = not_full (way_to x sender) (inr (sym (eqb-true t.next_number sender e)))
+      buffers false e there =
+          ap (λ (r : Role). nat_le (buffer_of s.fixed.limits r) (length (s.waiting (way_to x sender)))) (same_role_at sender e) ∙ room.buffers sender (sym (any_still s.fixed.ports p sender e) ∙ there)
 
       borrows : (b : Bool) → (t.next_number == x.port) ≡ b → is_at_limit u.fixed (way_to x sender) ≡ false
       borrows true e = may_have (way_to x sender) (inl (sym (eqb-true t.next_number x.port e)))
@@ -298,11 +314,13 @@ module _ (old new : HubState) (hub : IsHub old) (node : ℕ) (role : Role) (id :
   pub making_keeps_room : KeepsRoom old new
   making_keeps_room x room = elim made as (λ q. HasRoom new x) [
     | inl c ↦ record {
-      buffers = λ sender. ap (λ (v : m.State). is_full v (way_to x sender)) c.1 ∙ room.buffers sender;
+      buffers = λ sender there.
+          ap (λ (v : m.State). is_full v (way_to x sender)) c.1 ∙ room.buffers sender (sym (ap (λ (v : m.State). is_connected_port v.fixed sender) c.1) ∙ there);
       borrows = λ sender. ap (λ (v : m.State). is_at_limit v.fixed (way_to x sender)) c.1 ∙ room.borrows sender;
     }
     | inr c ↦ record {
-      buffers = λ sender. ap (λ (v : m.State). is_full v (way_to x sender)) c.1 ∙ (room_in x room sender).0;
+      buffers = λ sender there.
+          ap (λ (v : m.State). is_full v (way_to x sender)) c.1 ∙ (room_in x room sender).0 (sym (ap (λ (v : m.State). is_connected_port v.fixed sender) c.1) ∙ there);
       borrows = λ sender. ap (λ (v : m.State). is_at_limit v.fixed (way_to x sender)) c.1 ∙ (room_in x room sender).1;
     }
   ]
@@ -322,7 +340,7 @@ module _ (old new : HubState) (hub : IsHub old) (node : ℕ) (role : Role) (id :
       idle c = record {
         none = record { empty = λ sender. waits (way_to x sender) ∙ empty old hub (way_to x sender) (end_away (way_to x sender) (inl its)) };
         room = record {
-          buffers = λ sender. ap (λ (v : m.State). is_full v (way_to x sender)) c.1 ∙ not_full (way_to x sender) (inl its);
+          buffers = λ sender there. ap (λ (v : m.State). is_full v (way_to x sender)) c.1 ∙ not_full (way_to x sender) (inl its);
           borrows = λ sender. ap (λ (v : m.State). is_at_limit v.fixed (way_to x sender)) c.1 ∙ may_have (way_to x sender) (inl its);
         };
       }

@@ -1,8 +1,8 @@
 -- A release leaves room to each receiver that had it.
-use Rattle.std.specs.Prelude.{◌≡◌, ℕ, ◌≤◌, ◌-◌, Bool, true, false, not, ◌==◌, nat_le, if◌then◌else◌, List, [], ◌∷◌, filter, find, length, map, Option, None, Some, refl}
+use Rattle.std.specs.Prelude.{◌≡◌, ℕ, ◌≤◌, ◌-◌, Bool, true, false, not, ◌||◌, ◌==◌, nat_le, if◌then◌else◌, List, [], ◌∷◌, filter, find, length, map, Option, None, Some, refl}
 use Rattle.std.specs.List.{list_any}
 use Rattle.std.specs.Option.{option_map_or}
-use Rattle.std.proofs.Common.{sym, ap, subst, ◌∙◌, arith, inl, inr, eqb-true, true≢false}
+use Rattle.std.proofs.Common.{sym, ap, subst, ◌∙◌, arith, inl, eqb-true, true≢false}
 use Rattle.iox_model.specs.declared.call.Call.TheVariants.{Release}
 use Rattle.iox_model.specs.declared.kind.Kind.TheVariants.{ActiveRequest, PendingResponse}
 use Rattle.iox_model.specs.declared.kind.Role.{Role}
@@ -41,13 +41,14 @@ use Rattle.iox_hub_laws.specs.Hubs.{HubState, IsHub, given_by, nothing_given, st
 use Rattle.iox_hub_laws.specs.Shown.{shown}
 use Rattle.iceoryx2_ports.specs.Reaching.{KeepsRoom}
 use Rattle.iceoryx2_ports.proofs.Answering.{none_left}
-use Rattle.iceoryx2_ports.proofs.Idle.{has_none_full, may_have_one}
+use Rattle.iceoryx2_ports.proofs.Idle.{may_have_one}
 
 -- ---- what a release leaves
 
 -- no more waits, and no more is had, than before; ports that are left have their roles
 pub record LeavesLess (s t : m.State) : Type 0 where
   pub limits : t.fixed.limits ≡ s.fixed.limits
+  pub ports : (k : ℕ) → is_connected_port t.fixed k ≡ true → is_connected_port s.fixed k ≡ true
   pub roles : (k : ℕ) → is_connected_port t.fixed k ≡ true → role_at t.fixed k ≡ role_at s.fixed k
   pub waiting : (w : Way) → length (t.waiting w) ≤ length (s.waiting w)
   pub borrowed : (w : Way) → t.fixed.borrowed w ≤ s.fixed.borrowed w
@@ -70,6 +71,7 @@ less_full b k n less e = grind (arith, e)
 same_leaves : (s : m.State) → LeavesLess s s
 same_leaves s = record {
   limits = refl;
+  ports = λ k there. there;
   roles = λ k there. refl;
   waiting = λ w. same_le (length (s.waiting w));
   borrowed = λ w. same_le (s.fixed.borrowed w);
@@ -79,6 +81,7 @@ same_leaves s = record {
 then_leaves : (s v t : m.State) → LeavesLess s v → ((k : ℕ) → role_at v.fixed k ≡ role_at s.fixed k) → LeavesLess v t → LeavesLess s t
 then_leaves s v t first roles last = record {
   limits = last.limits ∙ first.limits;
+  ports = λ k there. first.ports k (last.ports k there);
   roles = λ k there. last.roles k there ∙ roles k;
   waiting = λ w. both_le (length (t.waiting w)) (length (v.waiting w)) (length (s.waiting w)) (last.waiting w) (first.waiting w);
   borrowed = λ w. both_le (t.fixed.borrowed w) (v.fixed.borrowed w) (s.fixed.borrowed w) (last.borrowed w) (first.borrowed w);
@@ -108,9 +111,34 @@ found_left (p ∷ ps) gone k e =
         (λ same. absurd (true≢false (sym (ap (λ (n : ℕ). n == gone) (sym (eqb-true p.number k same)) ∙ is) ∙ e)))
         (λ no. no)
 
+-- a port that is left was there
+any_before : (ps : List m.Port) (gone k : ℕ) → list_any (λ (p : m.Port). p.number == k) (filter (λ (p : m.Port). not (p.number == gone)) ps) ≡ true
+    → list_any (λ (p : m.Port). p.number == k) ps ≡ true
+any_before [] gone k there = there
+any_before (p ∷ ps) gone k there = step (not (p.number == gone)) (any_before ps gone k) there
+  where
+    here : (c a b : Bool) → (a ≡ true → b ≡ true) → (c || a) ≡ true → (c || b) ≡ true
+    here true a b rest e = refl
+    here false a b rest e = rest e
+
+    behind : (c b : Bool) → b ≡ true → (c || b) ≡ true
+    behind true b e = refl
+    behind false b e = e
+
+    step : (b : Bool)
+        → (list_any (λ (q : m.Port). q.number == k) (filter (λ (q : m.Port). not (q.number == gone)) ps) ≡ true → list_any (λ (q : m.Port). q.number == k) ps ≡ true)
+        → list_any (λ (q : m.Port). q.number == k)
+        (if b then p ∷ filter (λ (q : m.Port). not (q.number == gone)) ps else filter (λ (q : m.Port). not (q.number == gone)) ps) ≡ true
+        → (p.number == k || list_any (λ (q : m.Port). q.number == k) ps) ≡ true
+    step true rest e =
+        here (p.number == k) (list_any (λ (q : m.Port). q.number == k) (filter (λ (q : m.Port). not (q.number == gone)) ps)) (list_any (λ (q : m.Port). q.number == k) ps)
+        rest e
+    step false rest e = behind (p.number == k) (list_any (λ (q : m.Port). q.number == k) ps) (rest e)
+
 disconnected_leaves : (s : m.State) (gone : ℕ) → LeavesLess s (disconnected s gone)
 disconnected_leaves s gone = record {
   limits = refl;
+  ports = λ k there. any_before s.fixed.ports gone k there;
   roles = λ k there.
       by_cases (k == gone)
       (λ same.
@@ -137,6 +165,7 @@ gives_up_leaves s h =
     (record (dropped s.fixed h) { borrowed = put s.fixed.borrowed (way_of h) (s.fixed.borrowed (way_of h) - 1) }) (dropped s.fixed h)
     (λ u. record {
       limits = refl;
+      ports = λ k there. there;
       roles = λ k there. refl;
       waiting = λ w. same_le (length (s.waiting w));
       borrowed = λ w.
@@ -146,6 +175,7 @@ gives_up_leaves s h =
     })
     (λ u. record {
       limits = refl;
+      ports = λ k there. there;
       roles = λ k there. refl;
       waiting = λ w. same_le (length (s.waiting w));
       borrowed = λ w. same_le (s.fixed.borrowed w);
@@ -191,6 +221,13 @@ dropped_roles (p ∷ ps) port k =
         ap (λ (b : Bool). option_map_or (λ (r : m.Port). r.role) (if b then Some q else find (λ (r : m.Port). r.number == k) (map (port_dropped port) ps)) Client) other
         ∙ more
         ∙ sym (ap (λ (b : Bool). option_map_or (λ (r : m.Port). r.role) (if b then Some p else find (λ (r : m.Port). r.number == k) ps) Client) other))
+
+-- the same ports are connected
+dropped_any : (ps : List m.Port) (port k : ℕ) → list_any (λ (p : m.Port). p.number == k) (map (port_dropped port) ps) ≡ list_any (λ (p : m.Port). p.number == k) ps
+dropped_any [] port k = refl
+dropped_any (p ∷ ps) port k =
+    either (λ (q : m.Port). (q.number == k || list_any (λ (r : m.Port). r.number == k) (map (port_dropped port) ps)) ≡ (p.number == k || list_any (λ (r : m.Port). r.number == k) ps))
+    (p.number == port) (record p { held = false }) p (λ u. ap (λ (b : Bool). p.number == k || b) (dropped_any ps port k)) (λ u. ap (λ (b : Bool). p.number == k || b) (dropped_any ps port k))
 
 -- ---- the course of a release
 
@@ -265,6 +302,7 @@ settled_leaves s i payload (Tells reply) p =
     either (LeavesLess s) (is_nothing reply) (with_fixed s (called s.fixed)) s
     (λ u. record {
       limits = refl;
+      ports = λ k there. there;
       roles = λ k there. refl;
       waiting = λ w. same_le (length (s.waiting w));
       borrowed = λ w. same_le (s.fixed.borrowed w);
@@ -278,6 +316,7 @@ settled_leaves s i payload (DropsPort port) p =
     then_leaves s v (released v port)
     (record {
       limits = refl;
+      ports = λ k there. sym (dropped_any s.fixed.ports port k) ∙ there;
       roles = λ k there. dropped_roles s.fixed.ports port k;
       waiting = λ w. same_le (length (s.waiting w));
       borrowed = λ w. same_le (s.fixed.borrowed w);
@@ -295,6 +334,7 @@ done_leaves s t node n reply done =
     let same : u.fixed ≡ s.fixed = moved_by-fixed s done.2 in
     subst (LeavesLess s) (sym done.9) (record {
       limits = l.limits ∙ ap (λ (f : m.Fixed). f.limits) same;
+      ports = λ k there. sym (ap (λ (f : m.Fixed). is_connected_port f k) same) ∙ l.ports k there;
       roles = λ k there. l.roles k there ∙ ap (λ (f : m.Fixed). role_at f k) same;
       waiting = λ w. subst (λ (ms : List Message). length ((settled u node done.6 done.4).waiting w) ≤ length ms) (q.1 w) (l.waiting w);
       borrowed = λ w. subst (λ (f : m.Fixed). (settled u node done.6 done.4).fixed.borrowed w ≤ f.borrowed w) same (l.borrowed w);
@@ -323,14 +363,13 @@ module _ (old new : HubState) (after : IsHub new) (node n : ℕ) (reply : Reply)
   pub role_is : (k : ℕ) → is_there u.ports k ≡ true → role_at (shown new).fixed k ≡ role_at (shown old).fixed k
   role_is k there = less.roles k (connected_is (given_by (nothing_given new) new) u.ports k ∙ there)
 
-  pub buffers : (w : Way) → is_full (shown old) w ≡ false → is_full (shown new) w ≡ false
-  buffers w room =
-      by_cases (is_there u.ports w.sender)
-      (λ there.
+  pub buffers : (w : Way) → is_connected_port (shown new).fixed w.sender ≡ true → (is_connected_port (shown old).fixed w.sender ≡ true → is_full (shown old) w ≡ false)
+      → is_full (shown new) w ≡ false
+  buffers w connected room =
+      let there : is_there u.ports w.sender ≡ true = sym (connected_is (given_by (nothing_given new) new) u.ports w.sender) ∙ connected in
       ap (λ (l : Limits). nat_le (buffer_of l (role_at (shown new).fixed w.sender)) (length ((shown new).waiting w))) less.limits
       ∙ ap (λ (r : Role). nat_le (buffer_of (shown old).fixed.limits r) (length ((shown new).waiting w))) (role_is w.sender there)
-      ∙ less_full (buffer_on (shown old).fixed w) (length ((shown new).waiting w)) (length ((shown old).waiting w)) (less.waiting w) room)
-      (λ gone. has_none_full new after w (inr gone))
+      ∙ less_full (buffer_on (shown old).fixed w) (length ((shown new).waiting w)) (length ((shown old).waiting w)) (less.waiting w) (room (less.ports w.sender connected))
 
   borrows : (w : Way) → is_at_limit (shown old).fixed w ≡ false → is_at_limit (shown new).fixed w ≡ false
   borrows w room =
@@ -344,6 +383,6 @@ module _ (old new : HubState) (after : IsHub new) (node n : ℕ) (reply : Reply)
   -- A release leaves room to each receiver that had it.
   pub release_keeps_room : KeepsRoom old new
   release_keeps_room x room = record {
-    buffers = λ sender. buffers (way_to x sender) (room.buffers sender);
+    buffers = λ sender there. buffers (way_to x sender) there (room.buffers sender);
     borrows = λ sender. borrows (way_to x sender) (room.borrows sender);
   }

@@ -1,5 +1,6 @@
 -- Where one message waited at most, a receive that gets one leaves none.
 use Rattle.std.specs.Prelude.{◌≡◌, ℕ, ◌≤◌, ◌+◌, ◌-◌, Bool, true, false, ◌==◌, nat_le, if◌then◌else◌, List, [], ◌∷◌, find, length, Option, refl}
+use Rattle.std.specs.List.{list_any}
 use Rattle.std.specs.Option.{option_map, option_map_or}
 use Rattle.std.proofs.Common.{sym, ap, subst, ◌∙◌, arith, eqb-true}
 use Rattle.std.proofs.lemmas.Option.{same_Some}
@@ -111,11 +112,11 @@ module _ (old new : HubState) (hub : IsHub old) (node n k : ℕ)
   -- who had room has it, once the handle gave up its message
   room_but : TakesOfRoom old x new node k
   room_but room = record {
-    buffers = λ a.
+    buffers = λ a there.
         ap (λ (l : Limits). nat_le (buffer_of l (role_by (shown new).fixed.ports a)) (length ((shown new).waiting (way_to x a)))) taken.limits
         ∙ ap (λ (ps : List m.Port). nat_le (buffer_of (shown old).fixed.limits (role_by ps a)) (length ((shown new).waiting (way_to x a)))) taken.ports
         ∙ less_full (buffer_on (shown old).fixed (way_to x a)) (length ((shown new).waiting (way_to x a))) (length ((shown old).waiting (way_to x a)))
-        (taken.fewer (way_to x a)) (room.buffers a);
+        (taken.fewer (way_to x a)) (room.buffers a (sym (ap (λ (ps : List m.Port). list_any (λ (p : m.Port). p.number == a) ps) taken.ports) ∙ there));
     handle = got.handle;
     there = got.there;
     borrows = may_have room.borrows;

@@ -1,5 +1,6 @@
 -- A request that is sent can be received by each server that had room; loans and writes leave room as it is.
 use Rattle.std.specs.Prelude.{◌≡◌, ◌+◌, ◌≤◌, nat_le, ℕ, Bool, true, false, ◌||◌, if◌then◌else◌, ◌==◌, List, [], ◌∷◌, ◌++◌, filter, length, map, Option, Some, is_some, refl}
+use Rattle.std.specs.List.{list_any}
 use Rattle.std.proofs.Common.{sym, ap, subst, ◌∙◌, arith, eqb-true, inl, inr}
 use Rattle.std.proofs.lemmas.Option.{none-some, same_Some}
 use Rattle.iox_model.specs.declared.call.Call.TheVariants.{Loan, LoanUninit, Send, SendCopy}
@@ -29,8 +30,10 @@ use Rattle.iox_tables.specs.HubLoans.Loans.{loan_call}
 use Rattle.iox_tables.specs.HubStates.Receives.{way_to}
 use Rattle.iox_tables.specs.HubStates.States.{Given, port_of}
 use Rattle.iox_tables.specs.HubStates.Steps.{is_there}
-use Rattle.iox_tables.specs.HubStates.Tables.{HubTables, PortState, port_in}
-use Rattle.iox_tables.specs.HubStates.Wirings.{IsServer, numbers_of_role}
+use Rattle.iox_tables.specs.HubStates.Tables.{HandleState, HubTables, PortState, port_in}
+use Rattle.iox_tables.specs.HubStates.Wirings.{IsServer, handle_in, numbers_of_role}
+use Rattle.iox_tables.specs.HubBooks.Handles.{IsOfPort}
+use Rattle.iox_tables.proofs.HubBooks.Used.{handle_is}
 use Rattle.iox_tables.proofs.HubStates.Fixing.{first_key, roles_are}
 use Rattle.iox_tables.proofs.HubStates.Naming.{each_port_is_named}
 use Rattle.iox_tables.proofs.HubStates.Steps.{connected_is}
@@ -58,7 +61,9 @@ pub keeps_room : (old new : HubState) (node : ℕ) (call : Call) (reply : Reply)
 keeps_room old new node call reply e whole x room =
     let r : RestsSo (shown old) (shown new) = whole_rests (shown old) (shown new) node call reply e (whole (nothing_given old)) in
     record {
-      buffers = λ sender. room_rests (shown old) (shown new) r (way_to x sender) ∙ room.buffers sender;
+      buffers = λ sender there.
+          room_rests (shown old) (shown new) r (way_to x sender)
+          ∙ room.buffers sender (sym (ap (λ (ps : List m.Port). list_any (λ (p : m.Port). p.number == sender) ps) r.fixed.ports) ∙ there);
       borrows = λ sender. limit_rests (shown old).fixed (shown new).fixed r.fixed (way_to x sender) ∙ room.borrows sender;
     }
 
@@ -137,7 +142,7 @@ comes_to_wait s t ws a w sent on room = subst (IsOneOf a) (sym (sent.sent w on �
 
 -- a request that is sent can be received by each server that had room
 module _ (old new : HubState) (hub : IsHub old) (g : m.Handle) (lane : g.message.lane ≡ g.lane) (request : g.message.request ≡ g.request)
-    (sent : IsRequestSent old new g) (have : HaveAsBefore (shown old).fixed (shown new).fixed) where
+    (sent : IsRequestSent old new g) (have : HaveAsBefore (shown old).fixed (shown new).fixed) (client : is_connected_port (shown old).fixed g.port ≡ true) where
   pub request_reaches : ReachesServers old new
   request_reaches i server is room = (g.port, g.message, record { waits = waits; fit = fit; room = may })
     where
@@ -153,7 +158,7 @@ module _ (old new : HubState) (hub : IsHub old) (g : m.Handle) (lane : g.message
       waits : IsOneOf g.message ((shown new).waiting w)
       waits =
           comes_to_wait (shown old) (shown new) (map (request_way g.port) (servers_of old)) g.message w sent.brought
-          (mapped g.port (servers_of old) server there) (room.buffers g.port)
+          (mapped g.port (servers_of old) server there) (room.buffers g.port client)
 
       named : names ((shown new).request_state (response_way g.port g.message.lane server)) g.message.request ≡ true
       named =
@@ -169,13 +174,20 @@ module _ (old new : HubState) (hub : IsHub old) (g : m.Handle) (lane : g.message
       may : is_at_limit (shown new).fixed w ≡ false
       may = limit_rests (shown old).fixed (shown new).fixed have w ∙ room.borrows g.port
 
+-- the port of a handle is connected
+pub port_connected : (h : HubState) → IsHub h → (node n : ℕ) (k : HandleState) → handle_in h.control.tables.handles node n ≡ Some k
+    → is_connected_port (shown h).fixed k.port ≡ true
+port_connected h hub node n k there =
+    connected_is (given_by (nothing_given h) h) h.control.tables.ports k.port
+    ∙ ap (λ (o : Option PortState). is_some o) (handle_is (IsOfPort h.control.tables) h.control.tables.handles node n k hub.control.order.ports there).there
+
 -- what the send of a loan reaches
 pub send_reaches : (old new : HubState) → IsHub old → (node n count : ℕ) → HasValue old node n RequestMut → SendsRequest old node n new
     → ((x : Given) → IsWholeCall (state_of_hub x old) node (Send n) (Sent count) (state_of_hub x new)) → ReachesServers old new
 send_reaches old new hub node n count has sends whole =
     let loan : IsHandleOf old.control.tables node n RequestMut = value_is_handle old.control.tables node n RequestMut refl has in
     request_reaches old new hub (handle_of old loan.handle) refl refl (sends loan.handle loan.named.there)
-    (sent_has (shown old) (shown new) node (Send n) count (whole (nothing_given old)))
+    (sent_has (shown old) (shown new) node (Send n) count (whole (nothing_given old))) (port_connected old hub node n loan.handle loan.named.there)
 
 -- where none waited, it is the one
 pub send_brings_one : (old new : HubState) → (node n count : ℕ) → HasValue old node n RequestMut → SendsRequest old node n new
@@ -258,6 +270,8 @@ module _ (old new : HubState) (hub : IsHub old) (node client k i : ℕ) (words :
   pub copy_reaches : ReachesServers old new
   copy_reaches =
       request_reaches old new hub g refl refl sent (record { limits = done.have.limits; ports = done.have.ports; borrowed = done.have.borrowed })
+      (connected_is (given_by (nothing_given old) old) t.ports lender.port.number ∙ ap (is_there t.ports) number
+      ∙ ap (λ (o : Option PortState). is_some o) lender.there)
 
   pub copy_brings_one : BringsOne old new
   copy_brings_one =

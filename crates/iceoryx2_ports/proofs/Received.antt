@@ -1,5 +1,6 @@
 -- A request that is received: it is the one that waited, and clients wait for responses as before.
-use Rattle.std.specs.Prelude.{◌≡◌, ℕ, ◌+◌, ◌≤◌, Bool, true, false, if◌then◌else◌, List, [], length, Option, Some, refl}
+use Rattle.std.specs.Prelude.{◌≡◌, ℕ, ◌+◌, ◌≤◌, Bool, true, false, if◌then◌else◌, ◌==◌, List, [], length, Option, Some, refl}
+use Rattle.std.specs.List.{list_any}
 use Rattle.std.specs.Option.{option_map, option_map_or}
 use Rattle.std.proofs.Common.{sym, ap, ap₂, subst, ◌∙◌, arith, true≢false}
 use Rattle.std.proofs.lemmas.Option.{same_Some}
@@ -15,6 +16,7 @@ use Rattle.iox_model.specs.Doings.{Receiver}
 use Rattle.iox_model.specs.Handles.{handle_at, same_kind, way_of}
 use Rattle.iox_model.specs.Maps.{same_way}
 use Rattle.iox_model.specs.Messages.{Message, request_way, response_way}
+use Rattle.iox_model.specs.States as m
 use Rattle.iox_model.specs.States.{Handle}
 use Rattle.iox_model.specs.WholeCalls.{IsWholeCall}
 use Rattle.iox_laws.proofs.RunLaws.Runs.{left_calm}
@@ -115,9 +117,9 @@ module _ (old new : HubState) (hub : IsHub old) (node server k : ℕ)
         (record {
           none = record { empty = empty };
           room = record {
-            buffers = λ sender.
+            buffers = λ sender connected.
                 full_by (shown old) (shown new) taken.limits taken.ports (way_to x sender) (empty sender ∙ sym (idle.none.empty sender))
-                ∙ idle.room.buffers sender;
+                ∙ idle.room.buffers sender (sym (ap (λ (ps : List m.Port). list_any (λ (p : m.Port). p.number == sender) ps) taken.ports) ∙ connected);
             borrows = λ sender.
                 limit_by (shown old).fixed (shown new).fixed taken.limits taken.ports (way_to x sender) (had sender) ∙ idle.room.borrows sender;
           };

@@ -1,5 +1,6 @@
 -- A request that is sent: its pending response is for it, it is what waits at servers, and it is open there.
 use Rattle.std.specs.Prelude.{◌≡◌, ℕ, ◌-◌, Bool, true, false, ◌&&◌, ◌||◌, ◌==◌, if◌then◌else◌, List, [], ◌∷◌, ◌++◌, drop, filter, map, Option, Some, None, refl}
+use Rattle.std.specs.List.{list_any}
 use Rattle.std.specs.Option.{option_map, option_map_or}
 use Rattle.std.proofs.Common.{zero, suc, sym, ap, ap₂, subst, ◌∙◌, inl, inr, true≢false}
 use Rattle.std.proofs.lemmas.Option.{none-some, same_Some}
@@ -26,6 +27,7 @@ use Rattle.iox_model.specs.Names.{misnamed}
 use Rattle.iox_model.specs.Peers.{buffer_on, is_connected_port}
 use Rattle.iox_model.specs.Runs.{IsReachableState}
 use Rattle.iox_model.specs.Settings.{same_role}
+use Rattle.iox_model.specs.States as m
 use Rattle.iox_model.specs.States.{Fixed, Handle, State}
 use Rattle.iox_model.specs.WholeCalls.{IsDone, IsWholeCall, UnlessRefused, left_by, moved_by, replied, spent}
 use Rattle.iox_laws.specs.MessageLaws.Lists.{IsOneOf}
@@ -212,7 +214,9 @@ module _ (old new : HubState) (hub : IsHub old) (g : Handle) (lane : g.message.l
       record {
         none = record { empty = λ sender. waits sender ∙ idle.none.empty sender };
         room = record {
-          buffers = λ sender. full_by (shown old) (shown new) have.limits have.ports (way_to x sender) (waits sender) ∙ idle.room.buffers sender;
+          buffers = λ sender there.
+              full_by (shown old) (shown new) have.limits have.ports (way_to x sender) (waits sender)
+              ∙ idle.room.buffers sender (sym (ap (λ (ps : List m.Port). list_any (λ (p : m.Port). p.number == sender) ps) have.ports) ∙ there);
           borrows = λ sender. limit_rests (shown old).fixed (shown new).fixed have (way_to x sender) ∙ idle.room.borrows sender;
         };
       }

@@ -16,6 +16,7 @@ use Rattle.iox_model.specs.Handles.{is_request_loan, own_state, same_kind, subje
 use Rattle.iox_model.specs.Maps.{has_way}
 use Rattle.iox_model.specs.Messages.{Message}
 use Rattle.iox_model.specs.Names.{misnamed, suits}
+use Rattle.iox_model.specs.Peers.{is_connected_port}
 use Rattle.iox_model.specs.States as m
 use Rattle.iox_model.specs.WholeCalls.{IsDone, IsWholeCall, UnlessRefused, left_by, moved_by, replied, spent}
 use Rattle.iox_laws.specs.CallFunctions.Looks.{connected_by}
@@ -31,6 +32,7 @@ use Rattle.iox_tables.specs.HubStates.Releases.{request_of}
 use Rattle.iox_tables.specs.HubStates.States.{Given}
 use Rattle.iox_tables.specs.HubStates.Tables.{HandleState, HubTables, PortState}
 use Rattle.iox_tables.specs.HubStates.Wirings.{handle_in}
+use Rattle.iox_tables.proofs.HubStates.Steps.{connected_is}
 use Rattle.iox_tables.proofs.HubLoans.Asked.{awaited_are_named, connections_are_told}
 use Rattle.iox_hub_laws.specs.Hubs.{HasValue, HubState, IsHub, given_by, nothing_given, state_of_hub}
 use Rattle.iox_hub_laws.proofs.LendingNamed.{active_of_hub}
@@ -101,7 +103,8 @@ copy_has_as_before s t node n p =
 
 module _ (old new : HubState) (node n : ℕ) (a : HandleState) (there : handle_in old.control.tables.handles node n ≡ Some a) (message : Message)
     (named : message.request ≡ request_of old.control.tables a)
-    (sent : IsSentOn (way_of_response old (handle_of old a)) (shown old) message (shown new)) (have : HaveAsBefore (shown old).fixed (shown new).fixed) where
+    (sent : IsSentOn (way_of_response old (handle_of old a)) (shown old) message (shown new)) (have : HaveAsBefore (shown old).fixed (shown new).fixed)
+    (server : is_connected_port (shown old).fixed a.port ≡ true) where
   abbrev t : HubTables
   t = old.control.tables
 
@@ -130,7 +133,7 @@ module _ (old new : HubState) (node n : ℕ) (a : HandleState) (there : handle_i
     message,
     record {
       waits = comes_to_wait (shown old) (shown new) (w ∷ []) message w (on awaited) (ap (λ (b : Bool). b || has_way w []) (same_way-refl w))
-          (room.buffers a.port);
+          (room.buffers a.port server);
       fit = ap (λ (i : ℕ). i == request_of t a) named ∙ eqb-refl (request_of t a);
       room = limit_rests (shown old).fixed (shown new).fixed have (way_to x a.port) ∙ room.borrows a.port;
     },
@@ -149,6 +152,7 @@ copy_reaches_asker old new hub node n k words has copies have =
     let is : IsActive old.control.tables node n = active_of_hub hub old refl node n has in
     reaches_asker old new node n is.handle is.named.there (response_of old is.handle is.port k words) refl
     (copies is.handle is.named.there is.port is.there) have
+    (connected_is (given_by (nothing_given old) old) old.control.tables.ports is.handle.port ∙ ap (λ (o : Option PortState). is_some o) is.there)
 
 -- ---- questions
 

@@ -32,6 +32,7 @@ pub use Rattle.iox_hub_laws.specs.Histories as HubHistories
 pub use Rattle.iox_hub_laws.specs.Limits as HubLimits
 pub use Rattle.iox_hub_laws.specs.Slots as HubSlots
 pub use Rattle.iox_hub_laws.specs.Gone as HubGone
+pub use Rattle.iox_tables.specs.HubKeeping.Connected as HubConnected
 -- of commands
 pub use Rattle.iox_model.specs.declared.command.PortCommand
 pub use Rattle.iox_model.specs.declared.command.PortOptions

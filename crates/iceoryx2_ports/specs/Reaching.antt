@@ -1,8 +1,9 @@
 -- What the send of a request lets servers receive.
-use Rattle.std.specs.Prelude.{◌≡◌, ℕ, false, List}
+use Rattle.std.specs.Prelude.{◌≡◌, ℕ, true, false, List}
 use Rattle.iox_model.specs.declared.kind.Kind.TheVariants.{Server}
 use Rattle.iox_model.specs.Doings.{Receiver}
 use Rattle.iox_model.specs.Messages.{Message}
+use Rattle.iox_model.specs.Peers.{is_connected_port}
 use Rattle.iox_model.specs.States.{Handle}
 use Rattle.iox_laws.specs.CallFunctions.Sends.{is_full}
 use Rattle.iox_tables.specs.HubStates.Receives.{way_to}
@@ -11,10 +12,12 @@ use Rattle.iox_hub_laws.specs.Sends.{IsRequestSent}
 use Rattle.iox_hub_laws.specs.Shown.{shown}
 use Rattle.iox_hub_laws.specs.Waiting.{CanCome, has_its_most, server_of}
 
--- The receiver has room for one more message of each sender: fewer wait than its buffer holds, and
--- it may have one more.
+-- The receiver has room for one more message of each connected sender: fewer wait than its buffer
+-- holds, and it may have one more.
 pub record HasRoom (h : HubState) (x : Receiver) : Type 0 where
-  pub buffers : (sender : ℕ) → is_full (shown h) (way_to x sender) ≡ false
+  pub buffers :
+      (sender : ℕ) → is_connected_port (shown h).fixed sender ≡ true
+      → is_full (shown h) (way_to x sender) ≡ false
   pub borrows : (sender : ℕ) → has_its_most h x sender ≡ false
 
 -- Each receiver that had room still has it.

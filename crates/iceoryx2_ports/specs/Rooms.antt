@@ -1,8 +1,9 @@
 -- Receivers that have room once they give up a message.
-use Rattle.std.specs.Prelude.{◌≡◌, ℕ, false, Some}
+use Rattle.std.specs.Prelude.{◌≡◌, ℕ, true, false, Some}
 use Rattle.iox_model.specs.declared.kind.Kind.{Kind}
 use Rattle.iox_model.specs.Counts.{gives_up}
 use Rattle.iox_model.specs.Doings.{Receiver}
+use Rattle.iox_model.specs.Peers.{is_connected_port}
 use Rattle.iox_model.specs.Receives.{is_at_limit}
 use Rattle.iox_laws.specs.CallFunctions.Sends.{is_full}
 use Rattle.iox_tables.specs.HubStates.Receives.{way_to}
@@ -12,10 +13,12 @@ use Rattle.iox_hub_laws.specs.Hubs.{HasValue, HubState}
 use Rattle.iox_hub_laws.specs.Shown.{handle_of, shown}
 use Rattle.iceoryx2_ports.specs.Reaching.{HasRoom}
 
--- The receiver has room for one more message of each sender, and once the node's handle of that
--- number gave up its message, it may have one more of each.
+-- The receiver has room for one more message of each connected sender, and once the node's handle
+-- of that number gave up its message, it may have one more of each.
 pub record HasRoomBut (h : HubState) (x : Receiver) (node n : ℕ) : Type 0 where
-  pub buffers : (sender : ℕ) → is_full (shown h) (way_to x sender) ≡ false
+  pub buffers :
+      (sender : ℕ) → is_connected_port (shown h).fixed sender ≡ true
+      → is_full (shown h) (way_to x sender) ≡ false
   pub handle : HandleState
   pub there : handle_in h.control.tables.handles node n ≡ Some handle
   pub borrows :

@@ -1,5 +1,6 @@
 //! Callers of the laws, proved from their clauses alone.
-ghost use Rattle.iceoryx2_ports.specs.HubGone.{KeepsNoGone};
+ghost use Rattle.iceoryx2_ports.specs.HubConnected.{KeepsNone};
+ghost use Rattle.iceoryx2_ports.specs.HubGone.{KeepsFewGone, KeepsNoGone};
 ghost use Rattle.iceoryx2_ports.specs.HubHistories.{AreAsDelivered, ComeAtMostOnce};
 ghost use Rattle.iceoryx2_ports.specs.HubHistories.{ComeAtTheirRequest, ComeInOrder, WereSent};
 ghost use Rattle.iceoryx2_ports.specs.HubLimits.{BorrowsHold, BuffersHold};
@@ -7,9 +8,9 @@ ghost use Rattle.iceoryx2_ports.specs.HubSlots.{SlotsAreOfHolders};
 ghost use Rattle.iceoryx2_ports.specs.Hubs.{IsReached};
 
 use crate::laws::{
-    borrows_hold, buffers_hold, messages_are_as_delivered, messages_come_at_most_once,
-    messages_come_at_their_request, messages_come_in_order, messages_were_sent,
-    nothing_is_kept_of_the_gone, slots_are_of_holders,
+    borrows_hold, buffers_hold, few_are_kept_of_the_gone, messages_are_as_delivered,
+    messages_come_at_most_once, messages_come_at_their_request, messages_come_in_order,
+    messages_were_sent, nothing_is_kept_of_the_gone, slots_are_of_holders,
 };
 use crate::{Hub, Payload, Words};
 
@@ -29,15 +30,17 @@ pub fn knows_its_messages<Q: Payload, QH: Words, P: Payload, PH: Words>(hub: &Hu
     messages_come_at_their_request(hub);
 }
 
-/// How many messages there may be, who has them, and that nothing is kept for ports that are gone.
+/// How many messages there may be, who has them, and how much is kept of ports that are gone.
 pub fn knows_its_limits<Q: Payload, QH: Words, P: Payload, PH: Words>(hub: &Hub<Q, QH, P, PH>)
     ensures buffers { BuffersHold hub.now.control.tables }
     ensures borrows { BorrowsHold hub.now }
     ensures slots { SlotsAreOfHolders hub.now.control.tables }
-    ensures gone { KeepsNoGone hub.now.control.tables }
+    ensures gone { KeepsFewGone hub.now.control.tables }
+    ensures none { KeepsNone hub.now.control.tables.settings → KeepsNoGone hub.now.control.tables }
 {
     buffers_hold(hub);
     borrows_hold(hub);
     slots_are_of_holders(hub);
+    few_are_kept_of_the_gone(hub);
     nothing_is_kept_of_the_gone(hub);
 }

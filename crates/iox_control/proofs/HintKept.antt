@@ -49,7 +49,6 @@ module _ (c : ControlState) (g : RequestState → RequestState) (ws : List Way) 
   -- all that is so of a hub stays so as request states change
   pub states_keep_control : IsControl (with_tables c left)
   states_keep_control = record {
-    none = order.none;
     buffers = order.buffers;
     order = (little_changes_keep_order t order.order).0 g ws;
     ports = room_as t left refl (states_seats g t.ports ws) order.ports;

@@ -14,7 +14,6 @@ use Rattle.iox_hub_ports.specs.HubStates.Ends.{DifferInHolders, with_call}
 use Rattle.iox_hub_ports.specs.HubStates.Receives as hub
 use Rattle.iox_hub_ports.specs.HubStates.Receives.{got_handle, got_reply, visits_at, with_visited}
 use Rattle.iox_hub_ports.specs.HubBooks.Hubs.{AreInOrder}
-use Rattle.iox_hub_ports.specs.HubKeeping.Connected.{KeepsNone}
 use Rattle.iox_hub_ports.specs.HubBooks.Rooms.{CanCountHolders, HasRoomForAll}
 use Rattle.iox_hub_ports.specs.HubBooks.Keeps.{HasMoreHolders, bare_pools, got_once}
 use Rattle.iox_slots.specs.Pools.{with_slot}
@@ -78,7 +77,6 @@ module _ (c : ControlState) (node n lane : ℕ) (wanted : Wanted) (role : Role) 
       bare = alike;
     };
     order = record {
-      none = subst KeepsNone (sym settings) order.none;
       buffers = subst HaveBuffers (sym settings) order.buffers;
       order = subst AreInOrder (sym same) (keeps new.tables.pools more);
       ports = room_as t new.tables settings (ap seats_of ports ∙ visit_seats wanted (labels_of t.pools) lane t.ports n) order.ports;
@@ -154,7 +152,6 @@ module _ (c : ControlState) (node n lane : ℕ) (wanted : Wanted) (role : Role) 
       bare = alike;
     };
     order = record {
-      none = subst KeepsNone (sym settings) order.none;
       buffers = subst HaveBuffers (sym settings) order.buffers;
       order = subst AreInOrder (sym same) (keeps new.tables.pools more);
       ports = room_as t new.tables settings (ap seats_of ports ∙ visit_seats wanted (labels_of t.pools) lane t.ports n) order.ports;

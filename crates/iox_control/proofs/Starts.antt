@@ -9,12 +9,10 @@ use Rattle.iox_hub_ports.specs.HubStates.States.{Given, limits_of, state_shown}
 use Rattle.iox_hub_ports.specs.HubMaking.Starts.{no_ports}
 use Rattle.iox_hub_ports.proofs.HubMaking.Starting.{each_start_is_shown}
 use Rattle.iox_hub_ports.proofs.HubKeeping.Starting.{starts_are_in_order}
-use Rattle.iox_hub_ports.specs.HubKeeping.Connected.{KeepsNone}
 use Rattle.iox_control.specs.Controls.{HaveBuffers, IsControl, new_control}
 
-pub new_is_control : (settings : HubSettings) → KeepsNone settings → HaveBuffers settings → IsControl (new_control settings)
-new_is_control settings none buffers = record {
-  none = none;
+pub new_is_control : (settings : HubSettings) → HaveBuffers settings → IsControl (new_control settings)
+new_is_control settings buffers = record {
   buffers = buffers;
   order = starts_are_in_order settings;
   ports = record { few = λ role. omega arith; most = λ n p there. absurd (none-some p there) };

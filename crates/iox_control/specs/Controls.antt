@@ -13,7 +13,6 @@ use Rattle.iox_model.specs.Messages.{hinted_for}
 use Rattle.iox_slots.specs.Pools.{with_slot}
 use Rattle.iox_slots.specs.Slots.{held}
 use Rattle.iox_hub_ports.specs.HubMaking.OneByOne.{HaveRoom}
-use Rattle.iox_hub_ports.specs.HubKeeping.Connected.{KeepsNone}
 use Rattle.iox_hub_ports.specs.HubBooks.Counts.{OfAll, OfAllLanes}
 use Rattle.iox_hub_ports.specs.HubBooks.Hubs.{AreInOrder}
 use Rattle.iox_hub_ports.specs.HubBooks.Keeps.{bare_pools}
@@ -115,9 +114,8 @@ pub record HaveBuffers (settings : HubSettings) : Type 0 where
   pub responses : 1 ≤ settings.response_buffer
 
 -- The tables are in order, and there is room for all handles that may still come, and for pipes from
--- all ports that there may be. No port keeps messages of ports that are gone.
+-- all ports that there may be.
 pub record IsControl (c : ControlState) : Type 0 where
-  pub none : KeepsNone c.tables.settings
   pub buffers : HaveBuffers c.tables.settings
   pub order : AreInOrder c.tables
   pub ports : HaveRoom c.tables

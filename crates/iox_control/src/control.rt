@@ -4,7 +4,6 @@ ghost use Rattle.iox_control.specs.Settings.{settings_of};
 ghost use Rattle.iox_hub_ports.specs.HubStates.States.{Given, limits_of, state_shown};
 ghost use Rattle.iox_model.specs.Runs.{at_rest, raised, untouched};
 ghost use Rattle.iox_model.specs.Settings.{Limits};
-ghost use Rattle.iox_hub_ports.specs.HubKeeping.Connected.{KeepsNone};
 ghost use Rattle.iox_hub_ports.specs.HubStates.Ends.{with_call};
 ghost use Rattle.iox_hub_ports.specs.HubStates.Receives.{got_handle, visits_at, wanted_by_server, with_visited};
 ghost use Rattle.iox_hub_ports.specs.HubStates.Tables.{labels_of, port_in, slot_at};
@@ -59,8 +58,7 @@ impl Control {
     /// A hub of these settings, in which no port was made yet. It fails only for want of memory.
     pub fn new(alloc: Global, settings: Settings) -> Result<Control, AllocError>
         ensures made { IfOk result (λ c. c ≡ new_control (settings_of settings)) }
-        ensures order { KeepsNone (settings_of settings) → HaveBuffers (settings_of settings)
-            → IfOk result IsControl }
+        ensures order { HaveBuffers (settings_of settings) → IfOk result IsControl }
         ensures shown { IfOk result (λ c. (x : Given) (l : Limits) → limits_of x c.tables ≡ raised l
             → state_shown x c.tables ≡ at_rest x.members (untouched l x.acts)) }
     {

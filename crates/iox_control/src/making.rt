@@ -3,9 +3,10 @@ ghost use Rattle.std.specs.Prelude.{◌≡◌, ◌<◌, ◌+◌, ◌^◌, IfOk, 
 ghost use Rattle.std.specs.Option.{option_map_or};
 ghost use Rattle.iox_model.specs.Maps.{has_number};
 ghost use Rattle.iox_lanes.specs.Incomings.{has_room_for};
-ghost use Rattle.iox_hub_ports.specs.HubStates.Tables.{numbers_of, pipe_from, port_in};
+ghost use Rattle.iox_hub_ports.specs.HubStates.Tables.{numbers_of, port_in};
+ghost use Rattle.iox_hub_ports.specs.HubMaking.OneByOne.{without_first_pipe};
 ghost use Rattle.iox_hub_ports.specs.HubStates.Ways.{with_port};
-ghost use Rattle.iox_hub_ports.specs.Ports.{with_connected, without_pipe_from, without_port};
+ghost use Rattle.iox_hub_ports.specs.Ports.{gone_from, with_connected, without_port};
 ghost use Rattle.iox_slots.specs.Pools.{place_for_one, with_one_more, without_pool};
 ghost use Rattle.iox_slots.specs.Slots.{new_pool};
 ghost use Rattle.iox_control.specs.Controls.{with_number, with_pools, with_port_added, with_port_removed, with_ports};
@@ -95,15 +96,16 @@ impl Control {
         self.ports.connect(number, pipe)
     }
 
-    /// Takes the pipe from this connected sender to the port of that number out, if there is one.
-    pub fn disconnect(&mut self, number: u64, sender: u64) -> Option<Pipe>
-        ensures pipe { result
-            ≡ option_map_or (λ p. pipe_from p.incoming.pipes sender)
+    /// This connected sender to the port of that number is gone: the pipe from it is kept if
+    /// something waits there. It tells the pipe that goes, if one does.
+    pub fn expire(&mut self, number: u64, sender: u64) -> Option<Pipe>
+        ensures gone { result
+            ≡ option_map_or (λ p. gone_from p sender)
             (port_in self.old.tables.ports number) None }
-        ensures disconnected { self.new ≡ with_ports self.old
-            (with_port (λ p. without_pipe_from p sender) self.old.tables.ports number) }
+        ensures left { self.new ≡ with_ports self.old
+            (with_port (without_first_pipe sender) self.old.tables.ports number) }
     {
-        self.ports.disconnect(number, sender)
+        self.ports.expire(number, sender)
     }
 
     /// Counts one port more, whose number is the next one.

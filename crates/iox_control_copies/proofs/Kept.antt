@@ -87,7 +87,6 @@ module _ (c : ControlState) (order : IsControl c) (few : c.tables.calls < 2 ^ 56
 
     pub keeps : AreInOrder now → IsControl (with_tables c now)
     keeps in_order = record {
-      none = order.none;
       buffers = order.buffers;
       order = in_order;
       ports = room_as t now refl (loan_seats sent n 1 ∙ lanes_seats (delivers overflow k) t.ports ws) order.ports;

@@ -67,7 +67,6 @@ module _ (c : ControlState) (node n : ℕ) (loan : IsLoan c.tables node n) (orde
 
   pub loan_end_keeps : IsControl (with_ended c node n h)
   loan_end_keeps = record {
-    none = order.none;
     buffers = order.buffers;
     ports = record { few = order.ports.few; most = order.ports.most };
     order = loan_releases_keep_order t node n h ended.pools order.order loan.named (loan_kind h.kind loan.loan) fewer;
@@ -100,7 +99,6 @@ ends_loan c d new node n loan h e same dropped gone =
 
 pub count_keeps : (c : ControlState) → IsControl c → c.tables.calls < 2 ^ 56 → IsControl (with_tables c (with_call c.tables))
 count_keeps c order few = record {
-  none = order.none;
   buffers = order.buffers;
   ports = record { few = order.ports.few; most = order.ports.most };
   order = (little_changes_keep_order c.tables order.order).2;

@@ -118,7 +118,6 @@ module _ (c : ControlState) (order : IsControl c) (node n : ℕ) (h : HandleStat
 
   pub kind_keeps : IsControl (with_tables c now)
   kind_keeps = record {
-    none = order.none;
     buffers = order.buffers;
     order = (kinds_may_change t node n h kind order.order (have_messages t order.order) named same).0;
     ports = room_as t now refl refl order.ports;

@@ -270,7 +270,6 @@ module _ (c : ControlState) (order : IsControl c) (y : Lender) (a : Asked) (l : 
 
   pub made_keeps : IsControl new
   made_keeps = subst IsControl (sym made.left) (record {
-    none = order.none;
     buffers = order.buffers;
     order = (loans_keep_order was (on_lane y made.lane) a.uninit a.elements l.slot order.order (have_messages was order.order) may_lend).0;
     ports = room_as was now refl (loan_seats was.ports n 1) order.ports;

@@ -1,8 +1,8 @@
 -- How many lanes there are between ports, and how many handles may come, by roles and sizes alone.
-use Rattle.std.specs.Prelude.{◌≡◌, ℕ, suc, ◌+◌, ◌*◌, ◌-◌, ◌≤◌, Bool, true, false, if◌then◌else◌, ◌==◌, List, [], ◌∷◌, ◌++◌, map, filter, length, Option, Some, is_some, slice_get, refl}
+use Rattle.std.specs.Prelude.{◌≡◌, ◌⊎◌, ℕ, suc, ◌+◌, ◌*◌, ◌-◌, ◌≤◌, Bool, true, false, if◌then◌else◌, ◌==◌, List, [], ◌∷◌, ◌++◌, map, filter, length, Option, Some, is_some, slice_get, refl}
 use Rattle.std.specs.Option.{option_map_or}
-use Rattle.std.proofs.Common.{sym, ap, ap₂, ◌∙◌, arith}
-use Rattle.std.proofs.Math.Nat.{add-mul, mul-add, mul-one, mul-zero, suc-mul, zero-mul}
+use Rattle.std.proofs.Common.{sym, ap, ap₂, ◌∙◌, arith, inl, inr}
+use Rattle.std.proofs.Math.Nat.{add-mul, mul-add, mul-one, mul-zero, mul_assoc, suc-mul, zero-mul}
 use Rattle.std.proofs.lemmas.Bool.{or_parts}
 use Rattle.iox_model.specs.declared.kind.Role.{Role}
 use Rattle.iox_model.specs.declared.kind.Role.TheVariants.{Client, Server}
@@ -25,7 +25,7 @@ use Rattle.iox_tables.proofs.HubMaking.Connecting.{other_twice, same_roles}
 use Rattle.iox_tables.proofs.HubMaking.Firsts.{first_among, has_first}
 use Rattle.iox_tables.proofs.HubKeeping.NewPorts.{some_is}
 use Rattle.iox_tables.proofs.HubKeeping.Ordered.{names_apart}
-use Rattle.iox_control_making.specs.Bounds.{LanesAreBetween, NoMoreMayCome, count_of, sizes_of}
+use Rattle.iox_control_making.specs.Bounds.{LanesAreCounted, NoMoreMayCome, count_of, kept_of, sizes_of}
 use Rattle.iox_tables.specs.HubMaking.NewPorts.{width_of}
 use Rattle.iox_tables.proofs.HubBooks.Frames.{length_map}
 
@@ -77,12 +77,33 @@ among_role role ports n apart has =
 
 -- ---- what lanes count that count alike for each receiver of a role
 
+total_both : {A : Type 0} (f g h : A → ℕ) → ((x : A) → f x ≡ g x + h x) → (xs : List A) → total f xs ≡ total g xs + total h xs
+total_both f g h is [] = refl
+total_both f g h is (x ∷ xs) = let one = is x in let rest = total_both f g h is xs in omega (arith, one, rest)
+
+no_more : (i : ℕ) → 0 + i ≡ i
+no_more i = omega arith
+
+-- the first of a sender is among those from ports that are gone, or among those from connected ones
+first_either : (es qs : List PipeState) (n : ℕ) (q : PipeState) → pipe_from (es ++ qs) n ≡ Some q → (pipe_from es n ≡ Some q) ⊎ (pipe_from qs n ≡ Some q)
+first_either [] qs n q at = inr at
+first_either (e ∷ es) qs n q at = step (e.sender == n) (first_either es qs n q) at
+  where
+    step : (b : Bool) → (pipe_from (es ++ qs) n ≡ Some q → (pipe_from es n ≡ Some q) ⊎ (pipe_from qs n ≡ Some q)) → (if b then Some e else pipe_from (es ++ qs) n) ≡ Some q
+        → ((if b then Some e else pipe_from es n) ≡ Some q) ⊎ (pipe_from qs n ≡ Some q)
+    step true rest is = inl is
+    step false rest is = rest is
+
+both_length : {A : Type 0} (xs ys : List A) → length (xs ++ ys) ≡ length xs + length ys
+both_length [] ys = omega arith
+both_length (x ∷ xs) ys = let rest = both_length xs ys in omega (arith, rest)
+
 module _ (t : HubTables) (order : AreInOrder t) (f : LaneState → ℕ) (b : Role → ℕ)
     (alike : (w : Way) (l : LaneState) (p : PortState) → lane_on t.ports w ≡ Some l → port_in t.ports w.receiver ≡ Some p → f l ≡ b p.role)
   where
     module _ (p : PortState) (there : port_in t.ports p.number ≡ Some p) where
-      senders : senders_of (pipes_of p) ≡ numbers_of_role (other_role p.role) t.ports
-      senders = ap (λ es. senders_of (es ++ p.incoming.pipes)) (order.wired.none_kept p.number p there) ∙ (order.wired.each p.number p there).senders
+      senders : senders_of p.incoming.pipes ≡ numbers_of_role (other_role p.role) t.ports
+      senders = (order.wired.each p.number p there).senders
 
       pipes_to_it : pipes_to t.ports p.number ≡ pipes_of p
       pipes_to_it = ap (λ (o : Option PortState). option_map_or pipes_of o []) there
@@ -95,32 +116,49 @@ module _ (t : HubTables) (order : AreInOrder t) (f : LaneState → ℕ) (b : Rol
           there)
 
       wide : (q : PipeState) → pipe_from (pipes_of p) q.sender ≡ Some q → length q.lanes ≡ width_of p
-      wide q found =
-          let has : has_number q.sender (numbers_of_role (other_role p.role) t.ports) ≡ true
-          = ap (has_number q.sender) (sym senders) ∙ has_some (pipes_of p) q.sender ∙ ap (λ (o : Option PipeState). is_some o) found in
-          let from = among_role (other_role p.role) t.ports q.sender (names_apart t order) has in
-          let number : q.sender ≡ from.0.number = sym (first_is t.ports q.sender from.0 from.1) in
-          let lanes = (order.widths p.number q.sender p from.0 there from.1 (other_twice p.role ∙ ap other_role (sym from.2))).lanes in
-          sym (ap (λ n. length (lanes_from (pipes_of p) n)) (sym number) ∙ ap (λ (o : Option PipeState). length (option_map_or (λ x. x.lanes) o [])) found) ∙ lanes
+      wide q found = either (first_either p.expired.pipes p.incoming.pipes q.sender q found)
         where
-          first_is : (ports : List PortState) (n : ℕ) (x : PortState) → port_in ports n ≡ Some x → x.number ≡ n
-          first_is ports n x at = Rattle.iox_tables.proofs.HubStates.Fixing.first_key (λ (y : PortState). y.number) ports n x at
+          either : (pipe_from p.expired.pipes q.sender ≡ Some q) ⊎ (pipe_from p.incoming.pipes q.sender ≡ Some q) → length q.lanes ≡ width_of p
+          either (inl gone) = (order.wired.kept p.number p there).wide q.sender q gone
+          either (inr incoming) =
+              let has : has_number q.sender (numbers_of_role (other_role p.role) t.ports) ≡ true
+              = ap (has_number q.sender) (sym senders) ∙ has_some p.incoming.pipes q.sender ∙ ap (λ (o : Option PipeState). is_some o) incoming in
+              let from = among_role (other_role p.role) t.ports q.sender (names_apart t order) has in
+              let number : q.sender ≡ from.0.number = sym (first_is t.ports q.sender from.0 from.1) in
+              let lanes = (order.widths p.number q.sender p from.0 there from.1 (other_twice p.role ∙ ap other_role (sym from.2))).lanes in
+              sym (ap (λ n. length (lanes_from (pipes_of p) n)) (sym number) ∙ ap (λ (o : Option PipeState). length (option_map_or (λ x. x.lanes) o [])) found) ∙ lanes
+            where
+              first_is : (ports : List PortState) (n : ℕ) (x : PortState) → port_in ports n ≡ Some x → x.number ≡ n
+              first_is ports n x at = Rattle.iox_tables.proofs.HubStates.Fixing.first_key (λ (y : PortState). y.number) ports n x at
 
       one_pipe : (q : PipeState) → pipe_from (pipes_of p) q.sender ≡ Some q → in_pipe f q ≡ width_of p * b p.role
       one_pipe q found = total_times f (b p.role) q.lanes (each_lane q found) ∙ ap (λ n. n * b p.role) (wide q found)
 
-      one_port : in_port f p ≡ count_of (other_role p.role) t.ports * (width_of p * b p.role)
+      how_many : length (pipes_of p) ≡ count_of (other_role p.role) t.ports + length p.expired.pipes
+      how_many =
+          let both = both_length p.expired.pipes p.incoming.pipes in
+          let connected : length p.incoming.pipes ≡ count_of (other_role p.role) t.ports
+          = sym (length_map (λ q. q.sender) p.incoming.pipes) ∙ ap (λ (ns : List ℕ). length ns) senders in omega (arith, both, connected)
+
+      one_port : in_port f p ≡ (count_of (other_role p.role) t.ports + length p.expired.pipes) * (width_of p * b p.role)
       one_port =
           total_times (in_pipe f) (width_of p * b p.role) (pipes_of p)
           (all_from (λ q. pipe_from (pipes_of p) q.sender ≡ Some q) (λ q. in_pipe f q ≡ width_of p * b p.role) one_pipe (pipes_of p)
           (each_first (λ q. q.sender) (pipes_of p) (order.wired.each p.number p there).apart))
-          ∙ ap (λ n. n * (width_of p * b p.role)) (sym (length_map (λ q. q.sender) (pipes_of p)) ∙ ap (λ (ns : List ℕ). length ns) senders)
+          ∙ ap (λ n. n * (width_of p * b p.role)) how_many
 
-    by_port : on_lanes f t.ports ≡ total (λ p. count_of (other_role p.role) t.ports * (width_of p * b p.role)) t.ports
+    by_port : on_lanes f t.ports ≡ total (λ p. (count_of (other_role p.role) t.ports + length p.expired.pipes) * (width_of p * b p.role)) t.ports
     by_port =
-        total_is (in_port f) (λ p. count_of (other_role p.role) t.ports * (width_of p * b p.role)) t.ports
-        (all_from (λ p. port_in t.ports p.number ≡ Some p) (λ p. in_port f p ≡ count_of (other_role p.role) t.ports * (width_of p * b p.role)) one_port t.ports
+        total_is (in_port f) (λ p. (count_of (other_role p.role) t.ports + length p.expired.pipes) * (width_of p * b p.role)) t.ports
+        (all_from (λ p. port_in t.ports p.number ≡ Some p) (λ p. in_port f p ≡ (count_of (other_role p.role) t.ports + length p.expired.pipes) * (width_of p * b p.role)) one_port t.ports
         (each_first (λ (p : PortState). p.number) t.ports (names_apart t order)))
+
+    apart : (all ps : List PortState)
+        → total (λ p. (count_of (other_role p.role) all + length p.expired.pipes) * (width_of p * b p.role)) ps
+        ≡ total (λ p. count_of (other_role p.role) all * (width_of p * b p.role)) ps + total (λ p. length p.expired.pipes * (width_of p * b p.role)) ps
+    apart all ps =
+        total_both (λ p. (count_of (other_role p.role) all + length p.expired.pipes) * (width_of p * b p.role)) (λ p. count_of (other_role p.role) all * (width_of p * b p.role))
+        (λ p. length p.expired.pipes * (width_of p * b p.role)) (λ p. add-mul (count_of (other_role p.role) all) (length p.expired.pipes) (width_of p * b p.role)) ps
 
     -- the sum over all ports, role by role
     by_role : (all ps : List PortState)
@@ -152,21 +190,49 @@ module _ (t : HubTables) (order : AreInOrder t) (f : LaneState → ℕ) (b : Rol
                 once : (i : ℕ) → 1 * i ≡ i
                 once i = omega arith
 
-                no_more : (i : ℕ) → 0 + i ≡ i
-                no_more i = omega arith
+    -- the same of what they keep
+    kept_by_role : (ps : List PortState) → total (λ p. length p.expired.pipes * (width_of p * b p.role)) ps ≡ kept_of Client ps * b Client + kept_of Server ps * b Server
+    kept_by_role [] = sym (ap₂ (λ x y. x + y) (zero-mul (b Client)) (zero-mul (b Server)))
+    kept_by_role (p ∷ ps) = step p.role (kept_by_role ps)
+      where
+        step : (r : Role) → total (λ p. length p.expired.pipes * (width_of p * b p.role)) ps ≡ kept_of Client ps * b Client + kept_of Server ps * b Server
+            → length p.expired.pipes * ((if is_client r then p.size else 1) * b r) + total (λ p. length p.expired.pipes * (width_of p * b p.role)) ps
+            ≡ ((if same_role r Client then length p.expired.pipes * (if is_client r then p.size else 1) else 0) + kept_of Client ps) * b Client
+            + ((if same_role r Server then length p.expired.pipes * (if is_client r then p.size else 1) else 0) + kept_of Server ps) * b Server
+        step Client rest = client (length p.expired.pipes) p.size (b Client) (kept_of Client ps) (kept_of Server ps) (b Server) _ rest
+          where
+            client : (k w c z r d x : ℕ) → x ≡ z * c + r * d → k * (w * c) + x ≡ (k * w + z) * c + (0 + r) * d
+            client k w c z r d x e =
+                let parts : (k * w + z) * c ≡ k * (w * c) + z * c = add-mul (k * w) z c ∙ ap (λ n. n + z * c) (mul_assoc k w c) in
+                let none : (0 + r) * d ≡ r * d = ap (λ n. n * d) (no_more r) in omega (arith, parts, none, e)
+        step Server rest = server (length p.expired.pipes) (kept_of Client ps) (b Client) (kept_of Server ps) (b Server) _ rest
+          where
+            server : (k z c r d x : ℕ) → x ≡ z * c + r * d → k * (1 * d) + x ≡ (0 + z) * c + (k * 1 + r) * d
+            server k z c r d x e =
+                let parts : (k * 1 + r) * d ≡ k * (1 * d) + r * d = add-mul (k * 1) r d ∙ ap (λ n. n + r * d) (mul_assoc k 1 d) in
+                let none : (0 + z) * c ≡ z * c = ap (λ n. n * c) (no_more z) in omega (arith, parts, none, e)
 
-    pub lanes_count : on_lanes f t.ports ≡ count_of Server t.ports * (sizes_of Client t.ports * b Client + count_of Client t.ports * b Server)
-    lanes_count = by_port ∙ by_role t.ports t.ports ∙ sym (mul-add (count_of Server t.ports) (sizes_of Client t.ports * b Client) (count_of Client t.ports * b Server))
+    pub lanes_count : on_lanes f t.ports
+        ≡ count_of Server t.ports * (sizes_of Client t.ports * b Client + count_of Client t.ports * b Server) + (kept_of Client t.ports * b Client + kept_of Server t.ports * b Server)
+    lanes_count =
+        by_port ∙ apart t.ports t.ports
+        ∙ ap₂ (λ x y. x + y)
+        (by_role t.ports t.ports ∙ sym (mul-add (count_of Server t.ports) (sizes_of Client t.ports * b Client) (count_of Client t.ports * b Server)))
+        (kept_by_role t.ports)
 
-pub lanes_are_between : LanesAreBetween
-lanes_are_between t order =
+pub lanes_are_counted : LanesAreCounted
+lanes_are_counted t order =
     lanes_count t order (λ l. 1) (λ r. 1) (λ w l p at to. refl)
-    ∙ ap₂ (λ a b. count_of Server t.ports * (a + b)) (mul-one (sizes_of Client t.ports)) (mul-one (count_of Client t.ports))
+    ∙ ap₂ (λ x y. x + y)
+    (ap₂ (λ a b. count_of Server t.ports * (a + b)) (mul-one (sizes_of Client t.ports)) (mul-one (count_of Client t.ports)))
+    (ap₂ (λ a b. a + b) (mul-one (kept_of Client t.ports)) (mul-one (kept_of Server t.ports)))
 
 -- ---- handles
 
 limits : (t : HubTables) → AreInOrder t
-    → on_lanes (λ l. l.limit) t.ports ≡ count_of Server t.ports * (sizes_of Client t.ports * t.settings.borrowed_responses + count_of Client t.ports * t.settings.active_requests)
+    → on_lanes (λ l. l.limit) t.ports
+    ≡ count_of Server t.ports * (sizes_of Client t.ports * t.settings.borrowed_responses + count_of Client t.ports * t.settings.active_requests)
+    + (kept_of Client t.ports * t.settings.borrowed_responses + kept_of Server t.ports * t.settings.active_requests)
 limits t order =
     lanes_count t order (λ l. l.limit) (λ r. limit_from t.settings (other_role r))
     (λ w l p at to. order.wired.limits w l at ∙ ap (λ (o : Option PortState). limit_from t.settings (other_role (option_map_or (λ (q : PortState). q.role) o Client))) to)

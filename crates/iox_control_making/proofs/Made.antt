@@ -1,7 +1,7 @@
 -- A port that is made: the tables with it, and what is so of them.
-use Rattle.std.specs.Prelude.{◌≡◌, ◌⊎◌, ℕ, ◌+◌, ◌<◌, ◌≤◌, ◌^◌, Bool, true, false, ◌||◌, if◌then◌else◌, nat_le, List, [], ◌∷◌, ◌++◌, map, filter, length, Option, Some, None, refl}
+use Rattle.std.specs.Prelude.{◌≡◌, ◌⊎◌, ℕ, ◌+◌, ◌*◌, ◌<◌, ◌≤◌, ◌^◌, Bool, true, false, ◌||◌, if◌then◌else◌, nat_le, List, [], ◌∷◌, ◌++◌, map, filter, length, Option, Some, None, refl}
 use Rattle.std.proofs.Common.{sym, ap, ap₂, subst, ◌∙◌, arith, inl, inr}
-use Rattle.std.proofs.Math.Nat.{mul-le-mul}
+use Rattle.std.proofs.Math.Nat.{mul-le-mul, zero-mul}
 use Rattle.std.proofs.lemmas.Bool.{leb-false, or_parts}
 use Rattle.std.proofs.lemmas.Option.{none-some}
 use Rattle.iox_types.specs.declared.identifiers.system_id.UniqueSystemId.{UniqueSystemId}
@@ -9,19 +9,19 @@ use Rattle.iox_model.specs.declared.kind.Role.{Role}
 use Rattle.iox_model.specs.declared.kind.Role.TheVariants.{Client, Server}
 use Rattle.iox_model.specs.Maps.{has_number, or_else}
 use Rattle.iox_model.specs.Settings.{same_role}
+use Rattle.iox_lanes.specs.Pipes.{PipeState}
 use Rattle.iox_tables.specs.HubStates.Tables.{HubSettings, HubTables, PoolState, PortState, numbers_of}
 use Rattle.iox_tables.specs.HubBooks.Counts.{OfAll}
 use Rattle.iox_tables.specs.HubBooks.Hubs.{AreInOrder}
 use Rattle.iox_tables.specs.HubBooks.Rooms.{CanCountHolders}
 use Rattle.iox_tables.proofs.HubBooks.Eachs.{all-append}
 use Rattle.iox_slots.specs.Pools.{place_for_one, with_one_more}
-use Rattle.iox_tables.specs.HubMaking.NewPorts.{connected_from, connected_to, pool_made, ports_with}
+use Rattle.iox_tables.specs.HubMaking.NewPorts.{connected_from, connected_to, pool_made, ports_with, width_of}
 use Rattle.iox_tables.specs.HubMaking.OneByOne.{HaveRoom, PipesHaveRoom, most_of}
 use Rattle.iox_tables.proofs.HubMaking.Connecting.{shows_same}
 use Rattle.iox_tables.proofs.HubMaking.Firsts.{has_first}
 use Rattle.iox_tables.proofs.HubMaking.Removing.{new_pipes_have_room}
 use Rattle.iox_tables.proofs.HubMaking.Rooming.{room_always_stays}
-use Rattle.iox_tables.specs.HubKeeping.Connected.{KeepsNone}
 use Rattle.iox_tables.specs.HubKeeping.Keeps.{MayBeMade}
 use Rattle.iox_tables.proofs.HubKeeping.NewHandles.{makings_keep_order}
 use Rattle.iox_tables.proofs.HubKeeping.NewLanes.{new_lanes_are}
@@ -32,12 +32,12 @@ use Rattle.iox_control_making.specs.declared.asked.NotMade.TheVariants.{DataSegm
 use Rattle.iox_control_making.specs.declared.making.Parts.{Parts}
 use Rattle.iox_control_making.specs.declared.pipes.Link.{Link}
 use Rattle.iox_control_making.specs.declared.sizes.Sizes.{Sizes}
-use Rattle.iox_control_making.specs.Bounds.{count_of, sizes_of}
+use Rattle.iox_control_making.specs.Bounds.{count_of, kept_of, sizes_of}
 use Rattle.iox_control_making.specs.Links.{all_linked}
 use Rattle.iox_control_making.specs.Making.{HasRoomFor, info_asked, not_made, port_asked, with_asked}
 use Rattle.iox_control_making.specs.Parts.{IsOfParts}
-use Rattle.iox_control_making.specs.Sizes.{all_handles, all_lanes, sizes_among, with_size}
-use Rattle.iox_control_making.proofs.Counting.{lanes_are_between, no_more_may_come}
+use Rattle.iox_control_making.specs.Sizes.{all_handles, all_lanes, sizes_among, with_kept, with_size}
+use Rattle.iox_control_making.proofs.Counting.{lanes_are_counted, no_more_may_come}
 use Rattle.iox_control_making.proofs.Linking.{all_are_linked}
 use Rattle.iox_control_making.proofs.Vacant.{one_more_is_put, vacant}
 use Rattle.iox_control_making.proofs.Walks.{sizes_more}
@@ -53,6 +53,17 @@ none_failed false false true e = absurd (none-some TooManyPorts (sym e))
 
 -- ---- sizes
 
+-- a port that keeps nothing
+keeps_none : (s : Sizes) (role : Role) (size : ℕ) → with_kept s role size 0 ≡ s
+keeps_none s Client size = λ i. record s { client_kept = nothing i }
+  where
+    nothing : s.client_kept + 0 * size ≡ s.client_kept
+    nothing = let none : 0 * size ≡ 0 = zero-mul size in omega (arith, none)
+keeps_none s Server size = λ i. record s { server_kept = nothing i }
+  where
+    nothing : s.server_kept + 0 ≡ s.server_kept
+    nothing = omega arith
+
 module _ (settings : HubSettings) (new : PortState) where
   abbrev C : PortState → PortState
   C p = connected_to settings new p
@@ -64,6 +75,11 @@ module _ (settings : HubSettings) (new : PortState) where
   same_sizes : (role : Role) (ps : List PortState) → sizes_of role (map C ps) ≡ sizes_of role ps
   same_sizes role [] = refl
   same_sizes role (p ∷ ps) = ap₂ (λ (a b : ℕ). a + b) (shows_same settings ps new (λ q. if same_role q.role role then q.size else 0) p (λ qs. refl)) (same_sizes role ps)
+
+  same_kept : (role : Role) (ps : List PortState) → kept_of role (map C ps) ≡ kept_of role ps
+  same_kept role [] = refl
+  same_kept role (p ∷ ps) =
+      ap₂ (λ (a b : ℕ). a + b) (shows_same settings ps new (λ q. if same_role q.role role then length q.expired.pipes * width_of q else 0) p (λ qs. refl)) (same_kept role ps)
 
   same_counts : (role : Role) (ps : List PortState) → count_of role (map C ps) ≡ count_of role ps
   same_counts role [] = refl
@@ -84,15 +100,25 @@ module _ (settings : HubSettings) (new : PortState) where
     servers = same_counts Server ps i;
     client_messages = same_sizes Client ps i;
     server_messages = same_sizes Server ps i;
+    client_kept = same_kept Client ps i;
+    server_kept = same_kept Server ps i;
   }
 
-  sizes_after : (ps : List PortState) → sizes_among (ports_with settings ps new) ≡ with_size (sizes_among ps) new.role new.size
-  sizes_after ps = sym (sizes_more (map C ps) (connected_from settings ps new)) ∙ ap (λ s. with_size s new.role new.size) (same_among ps)
+  sizes_after : new.expired.pipes ≡ [] → (ps : List PortState) → sizes_among (ports_with settings ps new) ≡ with_size (sizes_among ps) new.role new.size
+  sizes_after none ps =
+      sym (sizes_more (map C ps) (connected_from settings ps new))
+      ∙ ap₂ (λ s k. with_kept (with_size s new.role new.size) new.role new.size k) (same_among ps) (ap (λ (es : List PipeState). length es) none)
+      ∙ keeps_none (with_size (sizes_among ps) new.role new.size) new.role new.size
+
+times : (a b c d k : ℕ) → a ≤ c → b ≤ d → a * b + k ≤ c * d + k
+times a b c d k p q = let more : a * b ≤ c * d = mul-le-mul p q in omega (arith, more)
 
 -- with one port more there are no fewer lanes
 more_lanes : (s : Sizes) (role : Role) (size : ℕ) → all_lanes s ≤ all_lanes (with_size s role size)
-more_lanes s Client size = mul-le-mul (omega arith) (omega arith)
-more_lanes s Server size = mul-le-mul (omega arith) (omega arith)
+more_lanes s Client size =
+    times s.servers (s.client_messages + s.clients) s.servers ((s.client_messages + size) + (s.clients + 1)) (s.client_kept + s.server_kept) (omega arith) (omega arith)
+more_lanes s Server size =
+    times s.servers (s.client_messages + s.clients) (s.servers + 1) (s.client_messages + s.clients) (s.client_kept + s.server_kept) (omega arith) (omega arith)
 
 -- ---- the port is made
 
@@ -122,13 +148,13 @@ module _ (t : HubTables) (node : ℕ) (role : Role) (id : UniqueSystemId) (asked
     pub not_too_many : nat_le (most_of t.settings role) (count_of role t.ports) ≡ false
     not_too_many = tests.2
 
-    module _ (order : AreInOrder t) (none : KeepsNone t.settings)
+    module _ (order : AreInOrder t)
         (room : HaveRoom t) (counted : AreCounted t) where
       may : MayBeMade t new
       may = record { number = refl; place = (places_become_free t (place_for_one t.pools) order).empty (vacant t.pools); none = refl }
 
       order_after : AreInOrder left
-      order_after = makings_keep_order t new pools order none may (one_more_is_put t.pools (pool_made new))
+      order_after = makings_keep_order t new pools order may (one_more_is_put t.pools (pool_made new))
 
       loans : OfAll (λ p. p.loans ≤ t.calls) (ports_with t.settings t.ports new)
       loans =
@@ -149,19 +175,18 @@ module _ (t : HubTables) (node : ℕ) (role : Role) (id : UniqueSystemId) (asked
       }
 
       sizes_are : sizes_among left.ports ≡ after
-      sizes_are = sizes_after t.settings new t.ports
+      sizes_are = sizes_after t.settings new refl t.ports
 
       -- there is room for what may come
       is_control : HaveBuffers t.settings → (r p : ℕ) → all_handles after t.settings.borrowed_responses t.settings.active_requests ≤ r → all_lanes after + length t.handles + r < 2 ^ 64
           → IsControl (record { tables = left; room = r; port_room = p })
       is_control buffers r p enough holders = record {
-        none = none;
         buffers = buffers;
         order = order_after;
         ports = (room_always_stays t).made new pools room not_too_many refl;
         counted = counted_after;
         room = fits (no_more_may_come left order_after) (ap (λ s. all_handles s t.settings.borrowed_responses t.settings.active_requests) sizes_are) enough;
-        holders = below (length t.handles) (lanes_are_between left order_after) (ap all_lanes sizes_are) holders;
+        holders = below (length t.handles) (lanes_are_counted left order_after) (ap all_lanes sizes_are) holders;
       }
         where
           fits : {a b d : ℕ} → a ≤ b → b ≡ d → d ≤ r → a ≤ r
@@ -171,7 +196,7 @@ module _ (t : HubTables) (node : ℕ) (role : Role) (id : UniqueSystemId) (asked
           below n h e g = omega (arith, h, e, g)
 
       have_room : PipesHaveRoom t new
-      have_room = new_pipes_have_room t new (are_connected t order none) room not_too_many
+      have_room = new_pipes_have_room t new (are_connected t order) room not_too_many
 
       -- what code leaves
       module _ (c1 : ControlState) (parts : Parts) (reserved : c1.tables ≡ record t { pools = pools }) (of : IsOfParts t (info_asked t node role id asked) parts) where
@@ -215,7 +240,6 @@ pub more_room : (c c' : ControlState) (role : Role) (size : ℕ) → IsControl c
 more_room c c' role size order same more either =
     subst (λ u. IsControl (record { tables = u; room = c'.room; port_room = c'.port_room })) (sym same)
     (record {
-      none = order.none;
       buffers = order.buffers;
       order = order.order;
       ports = order.ports;
@@ -230,7 +254,7 @@ more_room c c' role size order same more either =
     below : (c'.room ≡ c.room) ⊎ HasRoomFor c' (with_size (sizes_among c.tables.ports) role size) → CanCountHolders c'.room c.tables
     below (inl e) = subst (λ r. CanCountHolders r c.tables) (sym e) order.holders
     below (inr has) =
-        fewer (length c.tables.handles) c'.room (lanes_are_between c.tables order.order) (more_lanes (sizes_among c.tables.ports) role size)
+        fewer (length c.tables.handles) c'.room (lanes_are_counted c.tables order.order) (more_lanes (sizes_among c.tables.ports) role size)
         (subst (λ (u : HubTables). all_lanes (with_size (sizes_among c.tables.ports) role size) + length u.handles + c'.room < 2 ^ 64) same has.counted)
       where
         fewer : {a b d : ℕ} (n r : ℕ) → a ≡ b → b ≤ d → d + n + r < 2 ^ 64 → a + n + r < 2 ^ 64

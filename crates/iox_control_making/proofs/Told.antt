@@ -21,7 +21,6 @@ use Rattle.iox_tables.specs.HubMaking.FreePools.{OthersStay}
 use Rattle.iox_tables.specs.HubMaking.NewPorts.{given_made, making_refused, pool_made, port_made, room_for_gone, with_port_made}
 use Rattle.iox_tables.specs.HubMaking.OneByOne.{most_of}
 use Rattle.iox_tables.proofs.HubMaking.Commanding.{each_making_is_shown}
-use Rattle.iox_tables.specs.HubKeeping.Connected.{KeepsNone}
 use Rattle.iox_tables.proofs.HubKeeping.Ordered.{order_is_ready_for_ports, places_become_free}
 use Rattle.iox_control_making.specs.declared.asked.Asked.{Asked}
 use Rattle.iox_control_making.specs.declared.asked.NotMade.{NotMade}
@@ -118,17 +117,17 @@ module _ (x : Given) (t : HubTables) (role : Role) (o : Options) (asked : Asked)
         }
 
     -- so is the making
-    pub made_whole : (order : AreInOrder t) (none : KeepsNone t.settings) (t' : HubTables) (words : Given) → t' ≡ with_asked t new
+    pub made_whole : (order : AreInOrder t) (t' : HubTables) (words : Given) → t' ≡ with_asked t new
         → OthersStay (place_for_one t.pools) x t.pools words t'.pools
         → IsHubCommand (state_shown x t) node (Create role id o) (port_reply role t.next_number) (state_shown (given_made x words t.next_number o.handler) t')
-    made_whole order none t' words same others =
+    made_whole order t' words same others =
         let free = places_become_free t (place_for_one t.pools) order in
         subst (λ (u : HubTables). IsHubCommand (state_shown x t) node (Create role id o) (port_reply role t.next_number) (state_shown (given_made x words t.next_number o.handler) u)) (sym same)
         (subst (λ (p : PortState). IsHubCommand (state_shown x t) node (Create role id o) (port_reply role t.next_number)
         (state_shown (given_made x words t.next_number o.handler) (with_port_made t p (with_one_more t.pools (pool_made new))))) port_is
         ((each_making_is_shown x t node role id o).made true (place_for_one t.pools) words (with_one_more t.pools (pool_made new))
         (refusal_is true ∙ ap (option_map (refusal_of role)) allowed)
-        (order_is_ready_for_ports t order none).takes (free.nobody (free.empty (vacant t.pools)))
+        (order_is_ready_for_ports t order).takes (free.nobody (free.empty (vacant t.pools)))
         (subst (λ (u : HubTables). OthersStay (place_for_one t.pools) x t.pools words u.pools) same others)))
 
 -- where there is no memory, that is why

@@ -1,28 +1,29 @@
 -- Walks over ports, place after place.
-use Rattle.std.specs.Prelude.{◌≡◌, ℕ, zero, suc, ◌+◌, ◌<◌, ◌≤◌, Bool, true, false, not, if◌then◌else◌, ◌==◌, List, [], ◌∷◌, ◌++◌, map, filter, take, length, Option, Some, None, is_none, is_some, option_map, slice_get, refl}
+use Rattle.std.specs.Prelude.{◌≡◌, ℕ, zero, suc, ◌+◌, ◌*◌, ◌<◌, ◌≤◌, Bool, true, false, not, if◌then◌else◌, ◌==◌, List, [], ◌∷◌, ◌++◌, map, filter, take, length, Option, Some, None, is_none, is_some, option_map, slice_get, refl}
 use Rattle.std.specs.List.{position_from}
 use Rattle.std.specs.Option.{option_map_or, option_to_list}
 use Rattle.std.proofs.Common.{sym, ap, ap₂, ◌∙◌, arith, add-one, append-nil, eq-eqb, eqb-true, true≢false}
+use Rattle.std.proofs.Math.Nat.{mul-one}
 use Rattle.std.proofs.lemmas.Iterator.Adapters.{position_from-zero}
 use Rattle.std.proofs.lemmas.Option.{none-some}
 use Rattle.iox_model.specs.declared.kind.Role.{Role}
 use Rattle.iox_model.specs.declared.kind.Role.TheVariants.{Client, Server}
-use Rattle.iox_model.specs.Settings.{same_role}
+use Rattle.iox_model.specs.Settings.{is_client, same_role}
 use Rattle.iox_lanes.specs.Incomings.{IncomingState, connected}
 use Rattle.iox_lanes.specs.Pipes.{PipeState}
 use Rattle.iox_tables.specs.HubStates.Tables.{HubSettings, PoolState, PortState, pool_at}
 use Rattle.iox_tables.specs.HubStates.Ways.{with_port}
 use Rattle.iox_tables.proofs.HubBooks.Totals.{total-last}
 use Rattle.iox_hub_ports.specs.declared.info.PortInfo.{PortInfo}
-use Rattle.iox_hub_ports.specs.Ports.{info_at, info_of, with_connected}
+use Rattle.iox_hub_ports.specs.Ports.{info_at, info_of, kept_at, with_connected}
 use Rattle.iox_slots.specs.Pools.{place_for_one}
-use Rattle.iox_tables.specs.HubMaking.NewPorts.{is_other, pipe_between}
+use Rattle.iox_tables.specs.HubMaking.NewPorts.{is_other, pipe_between, width_of}
 use Rattle.iox_tables.specs.HubMaking.OneByOne.{all_connected}
 use Rattle.iox_control.specs.Controls.{ControlState, with_ports}
 use Rattle.iox_control_making.specs.declared.pipes.Link.{Link}
 use Rattle.iox_control_making.specs.declared.sizes.Sizes.{Sizes}
-use Rattle.iox_control_making.specs.Bounds.{count_of, sizes_of}
-use Rattle.iox_control_making.specs.Sizes.{sizes_among, with_size}
+use Rattle.iox_control_making.specs.Bounds.{count_of, kept_of, sizes_of}
+use Rattle.iox_control_making.specs.Sizes.{sizes_among, with_kept, with_size}
 use Rattle.iox_control_making.specs.Links.{all_linked, bare, links_between}
 
 -- ---- one place more
@@ -64,47 +65,67 @@ count_more role (q ∷ qs) p = step (same_role q.role role) (count_more role qs 
     step true rest = omega (arith, rest)
     step false rest = rest
 
-pub sizes_more : (ps : List PortState) (p : PortState) → with_size (sizes_among ps) p.role p.size ≡ sizes_among (ps ++ p ∷ [])
+abbrev with_both : Sizes → Role → ℕ → ℕ → Sizes
+with_both s role size kept = with_kept (with_size s role size) role size kept
+
+pub sizes_more : (ps : List PortState) (p : PortState) → with_both (sizes_among ps) p.role p.size (length p.expired.pipes) ≡ sizes_among (ps ++ p ∷ [])
 sizes_more ps p = λ i. record {
   clients = clients i;
   servers = servers i;
   client_messages = client_messages i;
   server_messages = server_messages i;
+  client_kept = client_kept i;
+  server_kept = server_kept i;
 }
   where
-    by_client : (c : ℕ) (r : Role) → (with_size (sizes_among ps) r c).clients ≡ count_of Client ps + (if same_role r Client then 1 else 0)
+    by_client : (c : ℕ) (r : Role) → (with_both (sizes_among ps) r c (length p.expired.pipes)).clients ≡ count_of Client ps + (if same_role r Client then 1 else 0)
     by_client c Client = refl
     by_client c Server = omega arith
 
-    by_server : (c : ℕ) (r : Role) → (with_size (sizes_among ps) r c).servers ≡ count_of Server ps + (if same_role r Server then 1 else 0)
+    by_server : (c : ℕ) (r : Role) → (with_both (sizes_among ps) r c (length p.expired.pipes)).servers ≡ count_of Server ps + (if same_role r Server then 1 else 0)
     by_server c Client = omega arith
     by_server c Server = refl
 
-    in_client : (c : ℕ) (r : Role) → (with_size (sizes_among ps) r c).client_messages ≡ sizes_of Client ps + (if same_role r Client then c else 0)
+    in_client : (c : ℕ) (r : Role) → (with_both (sizes_among ps) r c (length p.expired.pipes)).client_messages ≡ sizes_of Client ps + (if same_role r Client then c else 0)
     in_client c Client = refl
     in_client c Server = omega arith
 
-    in_server : (c : ℕ) (r : Role) → (with_size (sizes_among ps) r c).server_messages ≡ sizes_of Server ps + (if same_role r Server then c else 0)
+    in_server : (c : ℕ) (r : Role) → (with_both (sizes_among ps) r c (length p.expired.pipes)).server_messages ≡ sizes_of Server ps + (if same_role r Server then c else 0)
     in_server c Client = omega arith
     in_server c Server = refl
 
-    clients : (with_size (sizes_among ps) p.role p.size).clients ≡ count_of Client (ps ++ p ∷ [])
+    at_client : (c : ℕ) (r : Role) → (with_both (sizes_among ps) r c (length p.expired.pipes)).client_kept ≡ kept_of Client ps + (if same_role r Client then length p.expired.pipes * (if is_client r then c else 1) else 0)
+    at_client c Client = refl
+    at_client c Server = omega arith
+
+    at_server : (c : ℕ) (r : Role) → (with_both (sizes_among ps) r c (length p.expired.pipes)).server_kept ≡ kept_of Server ps + (if same_role r Server then length p.expired.pipes * (if is_client r then c else 1) else 0)
+    at_server c Client = omega arith
+    at_server c Server = ap (λ n. kept_of Server ps + n) (sym (mul-one (length p.expired.pipes)))
+
+    clients : (with_both (sizes_among ps) p.role p.size (length p.expired.pipes)).clients ≡ count_of Client (ps ++ p ∷ [])
     clients = by_client p.size p.role ∙ sym (count_more Client ps p)
 
-    servers : (with_size (sizes_among ps) p.role p.size).servers ≡ count_of Server (ps ++ p ∷ [])
+    servers : (with_both (sizes_among ps) p.role p.size (length p.expired.pipes)).servers ≡ count_of Server (ps ++ p ∷ [])
     servers = by_server p.size p.role ∙ sym (count_more Server ps p)
 
-    client_messages : (with_size (sizes_among ps) p.role p.size).client_messages ≡ sizes_of Client (ps ++ p ∷ [])
+    client_messages : (with_both (sizes_among ps) p.role p.size (length p.expired.pipes)).client_messages ≡ sizes_of Client (ps ++ p ∷ [])
     client_messages = in_client p.size p.role ∙ sym (total-last (λ q. if same_role q.role Client then q.size else 0) ps p)
 
-    server_messages : (with_size (sizes_among ps) p.role p.size).server_messages ≡ sizes_of Server (ps ++ p ∷ [])
+    server_messages : (with_both (sizes_among ps) p.role p.size (length p.expired.pipes)).server_messages ≡ sizes_of Server (ps ++ p ∷ [])
     server_messages = in_server p.size p.role ∙ sym (total-last (λ q. if same_role q.role Server then q.size else 0) ps p)
 
-pub sizes_next : (ports : List PortState) (place : ℕ) (info : PortInfo) (s s' : Sizes) → s ≡ sizes_among (take place ports) → Some info ≡ info_at ports place
-    → s' ≡ with_size s info.role info.size → s' ≡ sizes_among (take (place + 1) ports)
-sizes_next ports place info s s' was at is =
+    client_kept : (with_both (sizes_among ps) p.role p.size (length p.expired.pipes)).client_kept ≡ kept_of Client (ps ++ p ∷ [])
+    client_kept = at_client p.size p.role ∙ sym (total-last (λ q. if same_role q.role Client then length q.expired.pipes * width_of q else 0) ps p)
+
+    server_kept : (with_both (sizes_among ps) p.role p.size (length p.expired.pipes)).server_kept ≡ kept_of Server (ps ++ p ∷ [])
+    server_kept = at_server p.size p.role ∙ sym (total-last (λ q. if same_role q.role Server then length q.expired.pipes * width_of q else 0) ps p)
+
+pub sizes_next : (ports : List PortState) (place : ℕ) (info : PortInfo) (s s' s'' : Sizes) (kept : ℕ) → s ≡ sizes_among (take place ports) → Some info ≡ info_at ports place
+    → kept ≡ kept_at ports place → s' ≡ with_size s info.role info.size → s'' ≡ with_kept s' info.role info.size kept → s'' ≡ sizes_among (take (place + 1) ports)
+sizes_next ports place info s s' s'' kept was at kept_is more is =
     let p = port_at ports place info at in
-    is ∙ ap₂ (λ z (i : PortInfo). with_size z i.role i.size) was p.2
+    is ∙ ap₂ (λ z k. with_kept z info.role info.size k) more (kept_is ∙ ap (λ (o : Option PortState). option_map_or (λ (q : PortState). length q.expired.pipes) o 0) p.1)
+    ∙ ap₂ (λ z (i : PortInfo). with_both z i.role i.size (length p.0.expired.pipes)) was p.2
     ∙ sizes_more (take place ports) p.0 ∙ ap sizes_among (sym (take_more ports place p.0 p.1))
 
 -- ---- pipes to a new port

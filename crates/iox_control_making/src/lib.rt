@@ -1,7 +1,7 @@
 //! The making of a port.
 #![tactic(auto)]
 
-ghost use Rattle.iox_control_making.specs.Bounds.{LanesAreBetween, NoMoreMayCome};
+ghost use Rattle.iox_control_making.specs.Bounds.{LanesAreCounted, NoMoreMayCome};
 
 mod asked;
 mod joining;
@@ -17,6 +17,6 @@ pub use making::make_port;
 
 /// How many lanes there are, and how many handles may come with the ports that there are.
 pub fn bounds()
-    ensures lanes { LanesAreBetween }
+    ensures lanes { LanesAreCounted }
     ensures handles { NoMoreMayCome }
 {}

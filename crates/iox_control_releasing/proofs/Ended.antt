@@ -308,7 +308,6 @@ module _ (c new : ControlState) (h : HandleState) (order : IsControl c) (named :
 
     pub ended : IsControl new
     ended = record {
-      none = subst (λ (s : HubTables). Rattle.iox_tables.specs.HubKeeping.Connected.KeepsNone s.settings) (sym is_u) order.none;
       buffers = subst (λ (s : HubTables). Rattle.iox_control.specs.Controls.HaveBuffers s.settings) (sym is_u) order.buffers;
       order = subst AreInOrder (sym is) (in_order t h pools order.order named fewer h.kind refl);
       ports = subst Rattle.iox_tables.specs.HubMaking.OneByOne.HaveRoom (sym is_u) (room_as t u refl given.seats order.ports);

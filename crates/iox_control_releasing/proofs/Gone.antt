@@ -1,20 +1,27 @@
 -- All that is so of a hub stays so as a port goes of which nothing is left, and as its pool goes.
-use Rattle.std.specs.Prelude.{◌≡◌, ℕ, ◌+◌, ◌-◌, ◌≤◌, Bool, true, false, not, ◌&&◌, if◌then◌else◌, ◌==◌, List, [], ◌∷◌, map, filter, Option, Some, None, is_some, refl}
+use Rattle.std.specs.Prelude.{◌≡◌, ℕ, ◌+◌, ◌-◌, ◌≤◌, Bool, true, false, not, ◌&&◌, if◌then◌else◌, ◌==◌, List, [], ◌∷◌, drop, map, filter, Option, Some, None, is_some, refl}
 use Rattle.std.specs.Option.{option_map, option_map_or}
 use Rattle.std.proofs.Common.{sym, ap, ap₂, subst, ◌∙◌, arith, true≢false}
 use Rattle.std.proofs.lemmas.Option.{none-some}
 use Rattle.iox_lanes.specs.Lanes.{LaneState}
-use Rattle.iox_tables.specs.HubStates.Tables.{HubTables, PoolState, PortState, owner_of, pool_at, port_in, slot_at}
+use Rattle.iox_tables.specs.HubStates.Tables.{HubTables, PoolState, PortState, owner_of, pipe_from, pool_at, port_in, senders_of, slot_at}
 use Rattle.iox_tables.specs.HubStates.States.{Given, state_shown}
 use Rattle.iox_tables.specs.HubStates.Steps.{is_there}
 use Rattle.iox_hub_ports.specs.declared.info.PortInfo.{PortInfo}
-use Rattle.iox_hub_ports.specs.Ports.{info_in, info_of, without_pipe_from, without_port}
+use Rattle.iox_hub_ports.specs.Ports.{info_in, info_of, without_port}
+use Rattle.iox_tables.specs.HubMaking.OneByOne.{without_first_pipe}
+use Rattle.iox_tables.specs.HubMaking.Expirings.{with_expired}
+use Rattle.iox_model.specs.Maps.{AreDistinct}
+use Rattle.iox_lanes.specs.Pipes.{PipeState}
+use Rattle.iox_tables.specs.HubBooks.Keeps.{bare_pools}
+use Rattle.iox_tables.proofs.HubMaking.Kept.{by_kept}
+use Rattle.iox_tables.proofs.HubKeeping.Absent.{nothing_is_lost, tables_stay}
 use Rattle.iox_slots.specs.Pools.{is_idle, without_pool}
 use Rattle.iox_slots.proofs.PlaceLemmas.{idle_holders}
 use Rattle.iox_tables.specs.HubBooks.Counts.{OfAll, OfAllLanes, in_port, lane_count, on_lanes, total}
 use Rattle.iox_tables.specs.HubBooks.Hubs.{AreInOrder}
 use Rattle.iox_tables.specs.HubBooks.Rooms.{CanCountHolders, HasRoomForAll, own_count, spare}
-use Rattle.iox_tables.proofs.HubBooks.Eachs.{OfPipe, OfPort, all-append, all-back, all-front}
+use Rattle.iox_tables.proofs.HubBooks.Eachs.{OfPipe, OfPort, all-append, all-back, all-front, all_first}
 use Rattle.iox_tables.proofs.HubBooks.Rooms.{bare_pools_show_the_same}
 use Rattle.iox_tables.specs.HubMaking.Disconnections.{cut_from, is_unused, ports_without, with_disconnected}
 use Rattle.iox_tables.specs.HubMaking.FreePools.{with_pool_gone}
@@ -25,7 +32,7 @@ use Rattle.iox_tables.specs.HubKeeping.Connected.{IsFreePlace}
 use Rattle.iox_tables.specs.HubKeeping.Keeps.{lost_uses}
 use Rattle.iox_tables.proofs.HubKeeping.GonePools.{pools_may_go}
 use Rattle.iox_tables.proofs.HubKeeping.LeftHandles.{disconnections_keep_order}
-use Rattle.iox_tables.proofs.HubKeeping.Ordered.{lanes_sum, places_become_free}
+use Rattle.iox_tables.proofs.HubKeeping.Ordered.{lanes_sum, places_become_free, senders_apart}
 use Rattle.iox_control.specs.Controls.{AreCounted, ControlState, IsControl, with_pools}
 use Rattle.iox_control.proofs.RoomLemmas.{room_as}
 use Rattle.iox_control_releasing.specs.Goings.{with_left_pool_gone}
@@ -52,8 +59,21 @@ all_lanes_left P n ports a = all_ports_left (OfPort P) n cut ports a
   where
     cut : (p : PortState) → OfPort P p → OfPort P (cut_from n p)
     cut p a =
-        all-append (OfPipe P) p.expired.pipes (filter (λ q. not (q.sender == n)) p.incoming.pipes) (all-front (OfPipe P) p.expired.pipes p.incoming.pipes a)
+        all-append (OfPipe P) (with_expired p.expired (pipe_from p.incoming.pipes n)).pipes (filter (λ q. not (q.sender == n)) p.incoming.pipes)
+        (by_kept (λ c. OfAll (OfPipe P) c.pipes) p.expired (pipe_from p.incoming.pipes n) old
+        (λ q e r. all-append (OfPipe P) p.expired.pipes (q ∷ []) old (sent q e, tt))
+        (λ q e r. all-append (OfPipe P) (drop 1 p.expired.pipes) (q ∷ []) (behind p.expired.pipes old) (sent q e, tt)))
         (all_filter (OfPipe P) (λ q. not (q.sender == n)) p.incoming.pipes (all-back (OfPipe P) p.expired.pipes p.incoming.pipes a))
+      where
+        old : OfAll (OfPipe P) p.expired.pipes
+        old = all-front (OfPipe P) p.expired.pipes p.incoming.pipes a
+
+        sent : (q : PipeState) → pipe_from p.incoming.pipes n ≡ Some q → OfPipe P q
+        sent q e = all_first (OfPipe P) (λ x. x.sender) p.incoming.pipes n q (all-back (OfPipe P) p.expired.pipes p.incoming.pipes a) e
+
+        behind : (qs : List PipeState) → OfAll (OfPipe P) qs → OfAll (OfPipe P) (drop 1 qs)
+        behind [] b = tt
+        behind (x ∷ xs) b = b.1
 
 total_left : (f : PortState → ℕ) (n : ℕ) → ((p : PortState) → f (cut_from n p) ≡ f p) → (ports : List PortState) → total f (ports_without n ports) ≤ total f ports
 total_left f n same [] = omega arith
@@ -64,15 +84,16 @@ total_left f n same (p ∷ ps) = step (not (p.number == n)) (total_left f n same
     step true rest = let one = same p in omega (arith, rest, one)
     step false rest = omega (arith, rest)
 
-lanes_left : (f : LaneState → ℕ) (n : ℕ) (ports : List PortState) → on_lanes f (ports_without n ports) ≤ on_lanes f ports
-lanes_left f n ports =
+lanes_left : (f : LaneState → ℕ) (n : ℕ) (ports : List PortState) → OfAll (λ p. AreDistinct (senders_of p.incoming.pipes)) ports
+    → on_lanes f (ports_without n ports) ≤ on_lanes f ports
+lanes_left f n ports apart =
     let old = lanes_sum f ports in
     let new = lanes_sum f (ports_without n ports) in
-    let all = gone_lanes_count f n ports in omega (arith, old, new, all)
+    let all = gone_lanes_count f n ports apart in omega (arith, old, new, all)
 
 -- ---- a port goes
 
-module _ (c new : ControlState) (n : ℕ) (order : IsControl c) (unused : is_unused c.tables n ≡ true) (room : new.room ≡ c.room)
+module _ (c new : ControlState) (n : ℕ) (order : IsControl c) (there : is_there c.tables.ports n ≡ true) (unused : is_unused c.tables n ≡ true) (room : new.room ≡ c.room)
     (is : new.tables ≡ record (with_disconnected c.tables n) { pools = new.tables.pools })
     (fewer : HasFewerHolders c.tables.pools new.tables.pools (lost_uses c.tables n))
   where
@@ -87,9 +108,8 @@ module _ (c new : ControlState) (n : ℕ) (order : IsControl c) (unused : is_unu
 
     pub port_gone : IsControl new
     port_gone = record {
-      none = subst (λ (s : HubTables). Rattle.iox_tables.specs.HubKeeping.Connected.KeepsNone s.settings) (sym is) order.none;
       buffers = subst (λ (s : HubTables). Rattle.iox_control.specs.Controls.HaveBuffers s.settings) (sym is) order.buffers;
-      order = subst AreInOrder (sym is) (disconnections_keep_order t n new.tables.pools order.order order.none unused fewer);
+      order = subst AreInOrder (sym is) (disconnections_keep_order t n new.tables.pools order.order there unused fewer);
       ports = subst Rattle.iox_tables.specs.HubMaking.OneByOne.HaveRoom (sym is)
           (room_as (with_disconnected t n) u refl refl ((room_always_stays t).gone n order.ports));
       counted = subst AreCounted (sym is) counted;
@@ -108,14 +128,14 @@ module _ (c new : ControlState) (n : ℕ) (order : IsControl c) (unused : is_unu
 
         all : HasRoomForAll c.room u
         all =
-            let lanes : on_lanes spare (ports_without n t.ports) ≤ on_lanes spare t.ports = lanes_left spare n t.ports in
+            let lanes : on_lanes spare (ports_without n t.ports) ≤ on_lanes spare t.ports = lanes_left spare n t.ports (senders_apart t order.order) in
             let ports : total own (ports_without n t.ports) ≤ total own t.ports = total_left own n (λ p. refl) t.ports in
             let was : HasRoomForAll c.room t = order.room in
             omega (arith, lanes, ports, was)
 
         held : CanCountHolders c.room u
         held =
-            let lanes : on_lanes (λ l. 1) (ports_without n t.ports) ≤ on_lanes (λ l. 1) t.ports = lanes_left (λ l. 1) n t.ports in
+            let lanes : on_lanes (λ l. 1) (ports_without n t.ports) ≤ on_lanes (λ l. 1) t.ports = lanes_left (λ l. 1) n t.ports (senders_apart t order.order) in
             let was : CanCountHolders c.room t = order.holders in
             omega (arith, lanes, was)
 
@@ -127,20 +147,20 @@ lost_is_had : (t : HubTables) (n pool k : ℕ) → AreInOrder t → lost_uses t 
 lost_is_had t n pool k order =
     let had = order.counted pool k in
     let old = lanes_sum (lane_count pool k) t.ports in
-    let all = gone_lanes_count (lane_count pool k) n t.ports in omega (arith, had, old, all)
+    let all = gone_lanes_count (lane_count pool k) n t.ports (senders_apart t order) in omega (arith, had, old, all)
 
 -- what comes to the port is let go, and then what comes from it
 pub all_go : (c mid new : ControlState) (n : ℕ) → IsControl c
     → mid.tables ≡ record (c.tables) { ports = without_port c.tables.ports n; pools = mid.tables.pools } → mid.room ≡ c.room
     → LetsGo c.tables.pools mid.tables.pools (λ pool k. option_map_or (in_port (lane_count pool k)) (port_in c.tables.ports n) 0)
-    → new ≡ with_cut mid (map (λ p. without_pipe_from p n) mid.tables.ports) new.tables.pools
+    → new ≡ with_cut mid (map (without_first_pipe n) mid.tables.ports) new.tables.pools
     → LetsGo mid.tables.pools new.tables.pools (all_from n mid.tables.ports)
     → (new.tables ≡ record (with_disconnected c.tables n) { pools = new.tables.pools })
     × ((new.room ≡ c.room) × HasFewerHolders c.tables.pools new.tables.pools (lost_uses c.tables n))
 all_go c mid new n order first room to cut from = (
   ap (λ (d : ControlState). d.tables) cut
-      ∙ ap (λ (s : HubTables). record s { ports = map (λ p. without_pipe_from p n) s.ports; pools = new.tables.pools }) first
-      ∙ ap (λ ps. record (c.tables) { ports = ps; pools = new.tables.pools }) (ports_left c.tables n order.order order.none),
+      ∙ ap (λ (s : HubTables). record s { ports = map (without_first_pipe n) s.ports; pools = new.tables.pools }) first
+      ∙ ap (λ ps. record (c.tables) { ports = ps; pools = new.tables.pools }) (ports_left c.tables n order.order),
   (
     ap (λ (d : ControlState). d.room) cut ∙ room,
     record {
@@ -163,6 +183,44 @@ all_go c mid new n order first room to cut from = (
     sums : (m o f l : ℕ) → m ≡ o - f → l ≡ f → l ≤ o → o ≡ m + l
     sums m o f l e h b = omega (arith, e, h, b)
 
+-- where there is no such port, all stays
+module _ (c new : ControlState) (n : ℕ) (order : IsControl c) (none : None ≡ option_map (λ (p : PortState). p.pool) (port_in c.tables.ports n)) (same : new ≡ c) where
+  absent : port_in c.tables.ports n ≡ None
+  absent = step (port_in c.tables.ports n) refl none
+    where
+      step : (o : Option PortState) → port_in c.tables.ports n ≡ o → None ≡ option_map (λ (p : PortState). p.pool) o → o ≡ None
+      step None at e = refl
+      step (Some p) at e = absurd (none-some p.pool e)
+
+  pub none_left : new.tables ≡ record (with_disconnected c.tables n) { pools = new.tables.pools }
+  none_left =
+      ap (λ (d : ControlState). d.tables) same ∙ tables_stay c.tables order.order n absent
+      ∙ ap (λ (d : ControlState). record (with_disconnected c.tables n) { pools = d.tables.pools }) (sym same)
+
+  pub none_shown : (x : Given) → state_shown x (with_disconnected c.tables n) ≡ state_shown x new.tables
+  none_shown x = ap (state_shown x) (sym (tables_stay c.tables order.order n absent)) ∙ ap (λ (d : ControlState). state_shown x d.tables) (sym same)
+
+  pub none_ordered : IsControl new
+  none_ordered = subst IsControl (sym same) order
+
+  pub none_fewer : HasFewerHolders c.tables.pools new.tables.pools (lost_uses c.tables n)
+  none_fewer = record {
+    same = ap (λ (d : ControlState). bare_pools d.tables.pools) (sym same);
+    holders = λ pool k.
+        sums (nothing_is_lost c.tables order.order n absent pool k) (ap (λ (d : ControlState). (slot_at d.tables.pools pool k).holders) (sym same));
+  }
+    where
+      sums : {a b l : ℕ} → l ≡ 0 → a ≡ b → a ≡ b + l
+      sums e h = omega (arith, e, h)
+
+-- a port that is told was there
+pub was_there : (c : ControlState) (n pool : ℕ) → Some pool ≡ option_map (λ (p : PortState). p.pool) (port_in c.tables.ports n) → is_there c.tables.ports n ≡ true
+was_there c n pool e = step (port_in c.tables.ports n) e
+  where
+    step : (o : Option PortState) → Some pool ≡ option_map (λ (p : PortState). p.pool) o → is_some o ≡ true
+    step (Some p) e = refl
+    step None e = absurd (none-some pool (sym e))
+
 -- ---- its pool goes
 
 module _ (c : ControlState) (place : ℕ) (order : IsControl c) where
@@ -179,7 +237,6 @@ module _ (c : ControlState) (place : ℕ) (order : IsControl c) where
 
   gone_control : IsFreePlace c.tables place → IsControl (with_pools c (without_pool c.tables.pools place))
   gone_control is = record {
-    none = order.none;
     buffers = order.buffers;
     order = pools_may_go c.tables place order.order is;
     ports = room_as c.tables (with_pool_gone c.tables place) refl refl order.ports;

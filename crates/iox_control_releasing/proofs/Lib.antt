@@ -10,5 +10,6 @@ pub mod Valued
 pub mod Ended
 pub mod Released
 pub mod Tidy
+pub mod Sweeping
 pub mod Loans
 pub mod Removing

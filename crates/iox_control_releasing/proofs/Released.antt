@@ -28,10 +28,10 @@ use Rattle.iox_tables.specs.HubBooks.Hubs.{AreInOrder}
 use Rattle.iox_tables.specs.HubBooks.Keeps.{bare_pools}
 use Rattle.iox_tables.proofs.HubBooks.Held.{received_are_held}
 use Rattle.iox_tables.proofs.HubBooks.Rooms.{bare_pools_show_the_same}
-use Rattle.iox_tables.specs.HubMaking.Disconnections.{KeepsNoExpired, is_unused, with_disconnected, with_released}
+use Rattle.iox_tables.specs.HubMaking.Disconnections.{MayGo, is_unused, with_disconnected, with_released}
 use Rattle.iox_tables.specs.HubMaking.WholeReleases.{answering}
 use Rattle.iox_tables.proofs.HubMaking.Ending.{loans_end, pendings_end, requests_end, responses_end}
-use Rattle.iox_tables.proofs.HubKeeping.Ordered.{no_expired}
+use Rattle.iox_tables.proofs.HubKeeping.Ordered.{handle_may_go}
 use Rattle.iox_control.specs.Controls.{ControlState, IsControl, with_tables}
 use Rattle.iox_control.specs.Entries.{handle_state}
 use Rattle.iox_control.proofs.WholeLemmas.{is_whole_of}
@@ -111,18 +111,18 @@ named_itself t node n h is found =
 
 -- ---- the call
 
-module _ (x : Given) (t : HubTables) (node n : ℕ) (h : HandleState) (order : AreInOrder t) (named : IsHandle t node n h) (keeps : KeepsNoExpired t) where
+module _ (x : Given) (t : HubTables) (node n : ℕ) (h : HandleState) (order : AreInOrder t) (named : IsHandle t node n h) (may : MayGo t h.port) where
   ends : (k : Kind) → h.kind ≡ k
       → released_by (state_shown x t) node n ≡ answering x (Done, with_released (with_dropped (given_up_as k t h) node n) h.port)
-  ends kinds.PendingResponse e = pendings_end x t node n h named e keeps
-  ends kinds.ActiveRequest e = requests_end x t node n h named e (received_are_held x t node n h order named (ap is_received e)) keeps
-  ends kinds.Response e = responses_end x t node n h named e (received_are_held x t node n h order named (ap is_received e)) keeps
-  ends kinds.Client e = loans_end x t node n h named (ap is_received e) (ap (λ k. same_kind k kinds.PendingResponse) e) keeps
-  ends kinds.Server e = loans_end x t node n h named (ap is_received e) (ap (λ k. same_kind k kinds.PendingResponse) e) keeps
-  ends kinds.RequestMutUninit e = loans_end x t node n h named (ap is_received e) (ap (λ k. same_kind k kinds.PendingResponse) e) keeps
-  ends kinds.RequestMut e = loans_end x t node n h named (ap is_received e) (ap (λ k. same_kind k kinds.PendingResponse) e) keeps
-  ends kinds.ResponseMutUninit e = loans_end x t node n h named (ap is_received e) (ap (λ k. same_kind k kinds.PendingResponse) e) keeps
-  ends kinds.ResponseMut e = loans_end x t node n h named (ap is_received e) (ap (λ k. same_kind k kinds.PendingResponse) e) keeps
+  ends kinds.PendingResponse e = pendings_end x t node n h named e may
+  ends kinds.ActiveRequest e = requests_end x t node n h named e (received_are_held x t node n h order named (ap is_received e)) may
+  ends kinds.Response e = responses_end x t node n h named e (received_are_held x t node n h order named (ap is_received e)) may
+  ends kinds.Client e = loans_end x t node n h named (ap is_received e) (ap (λ k. same_kind k kinds.PendingResponse) e) may
+  ends kinds.Server e = loans_end x t node n h named (ap is_received e) (ap (λ k. same_kind k kinds.PendingResponse) e) may
+  ends kinds.RequestMutUninit e = loans_end x t node n h named (ap is_received e) (ap (λ k. same_kind k kinds.PendingResponse) e) may
+  ends kinds.RequestMut e = loans_end x t node n h named (ap is_received e) (ap (λ k. same_kind k kinds.PendingResponse) e) may
+  ends kinds.ResponseMutUninit e = loans_end x t node n h named (ap is_received e) (ap (λ k. same_kind k kinds.PendingResponse) e) may
+  ends kinds.ResponseMut e = loans_end x t node n h named (ap is_received e) (ap (λ k. same_kind k kinds.PendingResponse) e) may
 
 -- pools that differ in holders alone show the same, also once the port is gone
 same_shown : (x : Given) (t : HubTables) (pools : List (Option PoolState)) (n : ℕ) → bare_pools t.pools ≡ bare_pools pools
@@ -154,7 +154,7 @@ pub is_released : (x : Given) (c end left new : ControlState) (node n : ℕ) (h 
 is_released x c end left new node n h order named found is gone dropped =
     is_whole_of (state_shown x c.tables) node (Release n) _ Done (state_shown x new.tables)
     (each_release_is_whole (state_shown x c.tables) node n)
-    (ends x c.tables node n h order.order (named_so c.tables node n h named found) (no_expired c.tables order.order order.none) h.kind refl
+    (ends x c.tables node n h order.order (named_so c.tables node n h named found) (handle_may_go c.tables order.order node n h (named_so c.tables node n h named found)) h.kind refl
     ∙ ap (λ s. (Done, s)) (by_key ∙ shown ∙ ap (λ (t : HubTables). state_shown x (with_released t h.port)) (sym is) ∙ gone ∙ dropped))
   where
     key : (h.node ≡ node) × (h.number ≡ n)

@@ -1,5 +1,5 @@
 -- The release of a port's own value: all that is so of a hub stays so, and it is the machine's.
-use Rattle.std.specs.Prelude.{◌≡◌, ℕ, ◌+◌, ◌-◌, ◌≤◌, Bool, true, false, if◌then◌else◌, ◌==◌, List, [], ◌∷◌, refl}
+use Rattle.std.specs.Prelude.{◌≡◌, ℕ, ◌+◌, ◌-◌, ◌≤◌, Bool, true, false, if◌then◌else◌, ◌==◌, List, [], ◌∷◌, Option, is_some, refl}
 use Rattle.std.proofs.Common.{ap, ◌∙◌, arith}
 use Rattle.iox_model.specs.declared.call.Call.TheVariants.{Release}
 use Rattle.iox_model.specs.declared.reply.Reply.TheVariants.{Done}
@@ -14,7 +14,7 @@ use Rattle.iox_tables.specs.HubBooks.Rooms.{CanCountHolders, HasRoomForAll, own_
 use Rattle.iox_tables.proofs.HubBooks.Eachs.{OfPort, all_with_first}
 use Rattle.iox_tables.specs.HubMaking.Disconnections.{with_released}
 use Rattle.iox_tables.proofs.HubMaking.Ending.{ports_end}
-use Rattle.iox_tables.proofs.HubKeeping.Ordered.{names_apart, no_expired}
+use Rattle.iox_tables.proofs.HubKeeping.Ordered.{may_go, names_apart}
 use Rattle.iox_tables.proofs.HubKeeping.Unholding.{values_keep_order}
 use Rattle.iox_control.specs.Controls.{ControlState, IsControl, with_tables}
 use Rattle.iox_control.proofs.RoomLemmas.{room_as, value_seats}
@@ -43,7 +43,6 @@ module _ (c : ControlState) (n : ℕ) (order : IsControl c) where
 
   pub value_gone : IsControl (with_tables c u)
   value_gone = record {
-    none = order.none;
     buffers = order.buffers;
     order = values_keep_order t n order.order;
     ports = room_as t u refl (value_seats t.ports n) order.ports;
@@ -73,5 +72,5 @@ pub port_released : (x : Given) (c : ControlState) (node n : ℕ) (new : HubTabl
 port_released x c node n new order port shown =
     is_whole_of (state_shown x c.tables) node (Release n) _ Done (state_shown x new)
     (each_release_is_whole (state_shown x c.tables) node n)
-    (ports_end x c.tables node n port.port port.there port.on_node port.held (names_apart c.tables order.order) (no_expired c.tables order.order order.none)
+    (ports_end x c.tables node n port.port port.there port.on_node port.held (names_apart c.tables order.order) (may_go c.tables order.order n (ap (λ (o : Option PortState). is_some o) port.there))
     ∙ ap (λ s. (Done, s)) shown)

@@ -1,5 +1,5 @@
--- Walks over all ports: at each, pipes from it, or to it, are let go.
-use Rattle.std.specs.Prelude.{◌≡◌, ℕ, zero, suc, ◌+◌, ◌<◌, ◌≤◌, Bool, true, false, if◌then◌else◌, ◌==◌, List, [], ◌∷◌, drop, length, map, Option, Some, None, slice_get, slice_set, refl}
+-- Walks over all ports: each is cut, and the messages on the pipe that goes are let go.
+use Rattle.std.specs.Prelude.{◌≡◌, ℕ, zero, suc, ◌+◌, ◌<◌, ◌≤◌, Bool, true, false, if◌then◌else◌, ◌==◌, List, [], ◌∷◌, ◌++◌, drop, length, map, Option, Some, None, slice_get, slice_set, refl}
 use Rattle.std.specs.Option.{option_map, option_map_or}
 use Rattle.std.proofs.Common.{sym, ap, ap₂, subst, ◌∙◌, arith, add-one, get_or, eq-eqb}
 use Rattle.std.proofs.lemmas.Option.{none-some, same_Some}
@@ -11,13 +11,14 @@ use Rattle.iox_tables.specs.HubStates.Ways.{with_port}
 use Rattle.iox_tables.proofs.HubStates.Keys.{flip}
 use Rattle.iox_hub_ports.proofs.Walking.{Walks, begins, ends, set_size, turns}
 use Rattle.iox_hub_ports.specs.declared.info.PortInfo.{PortInfo}
-use Rattle.iox_hub_ports.specs.Ports.{info_at, info_of, without_pipe_from}
+use Rattle.iox_hub_ports.specs.Ports.{gone_from, info_at, info_of}
+use Rattle.iox_tables.specs.HubMaking.OneByOne.{without_first_pipe}
 use Rattle.iox_tables.specs.HubBooks.Counts.{in_pipe, lane_count, total}
 use Rattle.iox_control.specs.Controls.{ControlState, with_pools, with_ports}
-use Rattle.iox_control_releasing.specs.LettingGo.{AreFrom, LetsGo, cut_at, from_in, with_cut}
+use Rattle.iox_control_releasing.specs.LettingGo.{LetsGo, cut_at, from_in, with_cut}
 use Rattle.iox_control_releasing.proofs.Settling.{Settles, goes_on, pools_again, settled}
 use Rattle.iox_control_releasing.proofs.Settling as settling
-use Rattle.iox_control_releasing.proofs.Senders.{apart_left, drop_none, drop_some, first_goes, from_left, from_nobody}
+use Rattle.iox_control_releasing.proofs.Senders.{drop_some}
 use Rattle.std.proofs.lemmas.Bool.{or_parts}
 
 -- ---- the port in a place
@@ -36,69 +37,20 @@ info_none ports i e = step (slice_get ports i) refl e
     step None at e = at
     step (Some p) at e = absurd (none-some (info_of p) e)
 
--- ---- pipes to a port that was taken out
+-- ---- lists
 
--- what the lanes of these pipes count
-abbrev pub all_in : List PipeState → ℕ → ℕ → ℕ
-all_in qs pool k = total (in_pipe (lane_count pool k)) qs
-
--- those from the ports so far are let go, and the others are left
-pub record Leaves (first : ControlState) (port : PortState) (now : ControlState) (left : PortState) (at : ℕ) : Type 0 where
-  pub same : now ≡ with_pools first now.tables.pools
-  pub from : AreFrom (numbers_of (drop at first.tables.ports)) left.incoming.pipes
-  pub apart : AreDistinct (senders_of left.incoming.pipes)
-  pub settles : Settles first.tables.pools now.tables.pools (all_in port.incoming.pipes) (all_in left.incoming.pipes)
-
-pub leaves_more : (first : ControlState) (port : PortState) (now : ControlState) (left : PortState) (at : ℕ) (info : PortInfo) (new : ControlState) (rest : PortState)
-    → Leaves first port now left at → Some info ≡ info_at now.tables.ports at → rest ≡ without_pipe_from left info.number
-    → new ≡ with_pools now new.tables.pools
-    → LetsGo now.tables.pools new.tables.pools (λ pool k. from_in (lane_count pool k) info.number left)
-    → Leaves first port new rest (at + 1)
-leaves_more first port now left at info new rest is there cut same goes =
-    let ports : now.tables.ports ≡ first.tables.ports = ap (λ (c : ControlState). c.tables.ports) is.same in
-    let found = info_some first.tables.ports at info (there ∙ ap (λ ps. info_at ps at) ports) in
-    let next : numbers_of (drop at first.tables.ports) ≡ info.number ∷ numbers_of (drop (at + 1) first.tables.ports)
-    = ap numbers_of (drop_some first.tables.ports at found.0 found.1)
-    ∙ ap (λ k. k ∷ numbers_of (drop (suc at) first.tables.ports)) (sym found.2)
-    ∙ ap (λ i. info.number ∷ numbers_of (drop i first.tables.ports)) (sym (add-one at)) in
-    record {
-      same = pools_again first now new new.tables.pools is.same same;
-      from = subst (λ (p : PortState). AreFrom (numbers_of (drop (at + 1) first.tables.ports)) p.incoming.pipes) (sym cut)
-          (from_left info.number (numbers_of (drop (at + 1) first.tables.ports)) left.incoming.pipes is.apart
-          (subst (λ ns. AreFrom ns left.incoming.pipes) next is.from));
-      apart = subst (λ (p : PortState). AreDistinct (senders_of p.incoming.pipes)) (sym cut) (apart_left info.number left.incoming.pipes is.apart);
-      settles = goes_on first.tables.pools now.tables.pools new.tables.pools (all_in port.incoming.pipes) (all_in left.incoming.pipes)
-          (λ pool k. from_in (lane_count pool k) info.number left) (all_in rest.incoming.pipes) is.settles goes
-          (λ pool k. first_goes (λ q. q.sender) (in_pipe (lane_count pool k)) left.incoming.pipes info.number
-          ∙ ap (λ (p : PortState). from_in (lane_count pool k) info.number left + all_in p.incoming.pipes pool k) (sym cut));
-    }
-
-pub leaves_same : (first : ControlState) (port : PortState) (now : ControlState) (left : PortState) (at : ℕ)
-    → Leaves first port now left at → None ≡ info_at now.tables.ports at → Leaves first port now left (at + 1)
-leaves_same first port now left at is there =
-    let ports : now.tables.ports ≡ first.tables.ports = ap (λ (c : ControlState). c.tables.ports) is.same in
-    let none : slice_get first.tables.ports at ≡ None = info_none first.tables.ports at (there ∙ ap (λ ps. info_at ps at) ports) in
-    let empty : left.incoming.pipes ≡ [] = from_nobody left.incoming.pipes (subst (λ ps. AreFrom (numbers_of ps) left.incoming.pipes) (drop_none first.tables.ports at none) is.from) in
-    record {
-      same = is.same;
-      from = subst (λ qs. AreFrom (numbers_of (drop (at + 1) first.tables.ports)) qs) (sym empty) tt;
-      apart = is.apart;
-      settles = is.settles;
-    }
+pub total_append : {A : Type 0} (f : A → ℕ) (xs ys : List A) → total f (xs ++ ys) ≡ total f xs + total f ys
+total_append f [] ys = omega arith
+total_append f (x ∷ xs) ys = sums (f x) _ _ _ (total_append f xs ys)
+  where
+    sums : (a b c d : ℕ) → b ≡ c + d → a + b ≡ (a + c) + d
+    sums a b c d e = omega (arith, e)
 
 drop_past : {A : Type 0} (xs : List A) (n : ℕ) → length xs ≤ n → drop n xs ≡ []
 drop_past [] zero h = refl
 drop_past [] (suc n) h = refl
 drop_past (x ∷ xs) zero h = absurd (omega (arith, h))
 drop_past (x ∷ xs) (suc n) h = drop_past xs n (omega (arith, h))
-
-pub leaves_none : (first : ControlState) (port : PortState) (now : ControlState) (left : PortState) (at : ℕ)
-    → Leaves first port now left at → length first.tables.ports ≤ at
-    → LetsGo first.tables.pools now.tables.pools (all_in port.incoming.pipes)
-leaves_none first port now left at is past =
-    let empty : left.incoming.pipes ≡ [] = from_nobody left.incoming.pipes (subst (λ ps. AreFrom (numbers_of ps) left.incoming.pipes) (drop_past first.tables.ports at past) is.from) in
-    settled first.tables.pools now.tables.pools (all_in port.incoming.pipes) (all_in left.incoming.pipes) is.settles
-    (λ pool k. ap (λ qs. all_in qs pool k) empty)
 
 -- ---- pipes from a port
 
@@ -109,14 +61,14 @@ all_from sender ports pool k = total (from_in (lane_count pool k) sender) ports
 -- the pipe from the sender is out at the ports so far, and let go
 pub record Cuts (sender : ℕ) (first now : ControlState) (at : ℕ) : Type 0 where
   pub same : now ≡ with_cut first now.tables.ports now.tables.pools
-  pub walks : Walks (λ p. without_pipe_from p sender) first.tables.ports now.tables.ports at
+  pub walks : Walks (without_first_pipe sender) first.tables.ports now.tables.ports at
   pub size : length now.tables.ports ≡ length first.tables.ports
   pub settles : Settles first.tables.pools now.tables.pools (all_from sender first.tables.ports) (all_from sender (drop at now.tables.ports))
 
 pub cuts_begin : (sender : ℕ) (first : ControlState) → Cuts sender first first 0
 cuts_begin sender first = record {
   same = refl;
-  walks = begins (λ p. without_pipe_from p sender) first.tables.ports;
+  walks = begins (without_first_pipe sender) first.tables.ports;
   size = refl;
   settles = settling.begins first.tables.pools (all_from sender first.tables.ports);
 }
@@ -141,15 +93,15 @@ cuts_more sender first now new at is below cut goes = step (slice_get now.tables
         past (q ∷ qs) zero h e = none-some q (sym e)
         past (q ∷ qs) (suc i) h e = past qs i (omega (arith, h)) e
     step (Some p) e =
-        let set : new.tables.ports ≡ slice_set now.tables.ports at (without_pipe_from p sender)
-        = ports ∙ ap (λ o. option_map_or (λ q. slice_set now.tables.ports at (without_pipe_from q sender)) o now.tables.ports) e in
+        let set : new.tables.ports ≡ slice_set now.tables.ports at (without_first_pipe sender p)
+        = ports ∙ ap (λ o. option_map_or (λ q. slice_set now.tables.ports at (without_first_pipe sender q)) o now.tables.ports) e in
         let rest : drop (at + 1) new.tables.ports ≡ drop (suc at) now.tables.ports
-        = ap (λ i. drop i new.tables.ports) (add-one at) ∙ ap (drop (suc at)) set ∙ drop_set now.tables.ports at (without_pipe_from p sender) in
+        = ap (λ i. drop i new.tables.ports) (add-one at) ∙ ap (drop (suc at)) set ∙ drop_set now.tables.ports at (without_first_pipe sender p) in
         record {
           same = cut_again first now new (cut_at sender now.tables.ports at) is.same cut;
-          walks = subst (λ ps. Walks (λ q. without_pipe_from q sender) first.tables.ports ps (at + 1)) (sym set)
-              (turns (λ q. without_pipe_from q sender) first.tables.ports now.tables.ports at p (without_pipe_from p sender) is.walks here (got now.tables.ports at p e) refl);
-          size = ap (λ (ps : List PortState). length ps) set ∙ set_size now.tables.ports at (without_pipe_from p sender) ∙ is.size;
+          walks = subst (λ ps. Walks (without_first_pipe sender) first.tables.ports ps (at + 1)) (sym set)
+              (turns (without_first_pipe sender) first.tables.ports now.tables.ports at p (without_first_pipe sender p) is.walks here (got now.tables.ports at p e) refl);
+          size = ap (λ (ps : List PortState). length ps) set ∙ set_size now.tables.ports at (without_first_pipe sender p) ∙ is.size;
           settles = goes_on first.tables.pools now.tables.pools new.tables.pools (all_from sender first.tables.ports) (all_from sender (drop at now.tables.ports))
               (λ pool k. option_map_or (from_in (lane_count pool k) sender) (slice_get now.tables.ports at) 0) (all_from sender (drop (at + 1) new.tables.ports)) is.settles goes
               (λ pool k. ap (λ ps. all_from sender ps pool k) (drop_some now.tables.ports at p e)
@@ -173,10 +125,10 @@ cuts_more sender first now new at is below cut goes = step (slice_get now.tables
             ∙ ap (λ qs. with_cut first qs new.tables.pools) (sym (ap (λ (c : ControlState). c.tables.ports) is))
 
 pub cuts_all : (sender : ℕ) (first now : ControlState) (at : ℕ) → Cuts sender first now at → length first.tables.ports ≤ at
-    → (now ≡ with_cut first (map (λ p. without_pipe_from p sender) first.tables.ports) now.tables.pools)
+    → (now ≡ with_cut first (map (without_first_pipe sender) first.tables.ports) now.tables.pools)
     × LetsGo first.tables.pools now.tables.pools (all_from sender first.tables.ports)
 cuts_all sender first now at is past = (
-  is.same ∙ ap (λ ps. with_cut first ps now.tables.pools) (ends (λ p. without_pipe_from p sender) first.tables.ports now.tables.ports at is.walks end),
+  is.same ∙ ap (λ ps. with_cut first ps now.tables.pools) (ends (without_first_pipe sender) first.tables.ports now.tables.ports at is.walks end),
   settled first.tables.pools now.tables.pools (all_from sender first.tables.ports) (all_from sender (drop at now.tables.ports)) is.settles
       (λ pool k. ap (λ ps. all_from sender ps pool k) (drop_past now.tables.ports at end)),
 )
@@ -213,23 +165,23 @@ cut_port f (q ∷ qs) (suc i) p apart e =
 
 -- the port in a place is the one of its number, and is cut as that
 pub cut_here : (ports : List PortState) (at sender : ℕ) (info : PortInfo) → AreDistinct (numbers_of ports) → Some info ≡ info_at ports at
-    → (port_in ports info.number ≡ slice_get ports at) × (with_port (λ p. without_pipe_from p sender) ports info.number ≡ cut_at sender ports at)
+    → (port_in ports info.number ≡ slice_get ports at) × (with_port (without_first_pipe sender) ports info.number ≡ cut_at sender ports at)
 cut_here ports at sender info apart e =
     let found = info_some ports at info e in
-    let is = cut_port (λ p. without_pipe_from p sender) ports at found.0 apart found.1 in (
+    let is = cut_port (without_first_pipe sender) ports at found.0 apart found.1 in (
       ap (port_in ports) found.2 ∙ is.0 ∙ sym found.1,
-      ap (with_port (λ p. without_pipe_from p sender) ports) found.2 ∙ is.1
-          ∙ ap (λ o. option_map_or (λ p. slice_set ports at (without_pipe_from p sender)) o ports) (sym found.1),
+      ap (with_port (without_first_pipe sender) ports) found.2 ∙ is.1
+          ∙ ap (λ o. option_map_or (λ p. slice_set ports at (without_first_pipe sender p)) o ports) (sym found.1),
     )
 
 -- what comes from the sender to that port is on the pipe that is taken out
 pub from_pipe : (ports : List PortState) (at sender n : ℕ) (pipe : Option PipeState) (f : LaneState → ℕ) → port_in ports n ≡ slice_get ports at
-    → pipe ≡ option_map_or (λ p. pipe_from p.incoming.pipes sender) (port_in ports n) None
+    → pipe ≡ option_map_or (λ p. gone_from p sender) (port_in ports n) None
     → option_map_or (in_pipe f) pipe 0 ≡ option_map_or (from_in f sender) (slice_get ports at) 0
 from_pipe ports at sender n pipe f same is =
     ap (λ o. option_map_or (in_pipe f) o 0) is ∙ step (port_in ports n) ∙ ap (λ o. option_map_or (from_in f sender) o 0) same
   where
-    step : (o : Option PortState) → option_map_or (in_pipe f) (option_map_or (λ p. pipe_from p.incoming.pipes sender) o None) 0 ≡ option_map_or (from_in f sender) o 0
+    step : (o : Option PortState) → option_map_or (in_pipe f) (option_map_or (λ p. gone_from p sender) o None) 0 ≡ option_map_or (from_in f sender) o 0
     step None = refl
     step (Some p) = refl
 

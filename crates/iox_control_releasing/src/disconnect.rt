@@ -1,9 +1,8 @@
 //! A port goes of which nothing is left.
-ghost use Rattle.std.specs.Prelude.{◌≡◌, Some, option_map, true};
+ghost use Rattle.std.specs.Prelude.{◌≡◌, None, Some, option_map, true};
 ghost use Rattle.iox_tables.specs.HubStates.States.{Given, state_shown};
 ghost use Rattle.iox_tables.specs.HubStates.Tables.{PortState, port_in};
 ghost use Rattle.iox_tables.specs.HubBooks.Counts.{in_port, lane_count};
-ghost use Rattle.iox_tables.specs.HubBooks.Hubs.{AreInOrder};
 ghost use Rattle.iox_tables.specs.HubKeeping.Keeps.{lost_uses};
 ghost use Rattle.iox_tables.specs.HubLending.Emptying.{HasFewerHolders};
 ghost use Rattle.iox_tables.specs.HubMaking.Disconnections.{is_unused, with_disconnected, with_released};
@@ -11,7 +10,7 @@ ghost use Rattle.iox_hub_ports.specs.Ports.{without_port};
 ghost use Rattle.std.specs.Option.{option_map_or};
 ghost use Rattle.iox_control.specs.Controls.{IsControl, with_pools};
 ghost use Rattle.iox_control_releasing.specs.LettingGo.{LetsGo};
-ghost use Rattle.iox_control_releasing.specs.Goings.{KeptPools, NoLeftPool, StaysTidy, with_left_pool_gone};
+ghost use Rattle.iox_control_releasing.specs.Goings.{IsTidy, KeptPools, NoLeftPool, StaysTidy, with_left_pool_gone};
 
 use crate::cutting::cut_all;
 use crate::letting_go::let_port_go;
@@ -21,7 +20,6 @@ use iox_control::Control;
 /// Takes the port of that number out, if there is one, and lets go of all messages that come to it.
 /// It tells the place of the port's pool.
 fn take_out(control: &mut Control, port: u64) -> Option<usize>
-    requires order { AreInOrder control.old.tables }
     ensures pool { result ≡ option_map (λ p. p.pool) (port_in control.old.tables.ports port) }
     ensures left { control.new.tables ≡ record (control.old.tables) {
       ports = without_port control.old.tables.ports port;
@@ -31,6 +29,7 @@ fn take_out(control: &mut Control, port: u64) -> Option<usize>
     ensures fewer { LetsGo control.old.tables.pools control.new.tables.pools
         (λ pool k. option_map_or (in_port (lane_count pool k))
         (port_in control.old.tables.ports port) 0) }
+    ensures unchanged { result ≡ None → control.new ≡ control.old }
 {
     match control.remove_port(port) {
         None => None,
@@ -64,14 +63,32 @@ pub fn drop_pool(control: &mut Control, place: usize)
     }
 }
 
-/// The port goes, of which nothing is left: with it go its pipes, and the messages on them. It
-/// tells the place of the port's pool, which stays. It is rare, so it is a call of its own.
+/// Each pool goes whose port is gone and of which nobody has a message. It is rare that ports go, so
+/// it is a call of its own.
 #[cold]
 #[inline(never)]
-fn take_port(control: &mut Control, port: u64) -> Option<usize>
+fn drop_left_pools(control: &mut Control)
+    requires order { IsControl control.old }
+    ensures left { control.new ≡ with_pools control.old control.new.tables.pools }
+    ensures order { IsControl control.new }
+    ensures shown { (x : Given) → state_shown x control.old.tables
+        ≡ state_shown x control.new.tables }
+    ensures pools { KeptPools control.old.tables.pools control.new.tables.pools }
+    ensures tidy { IsTidy control.new.tables }
+{
+    for place in 0..control.pools().places() {
+        drop_pool(control, place);
+    }
+}
+
+/// The port goes, of which nothing is left: with it go its pipes, and the messages on them. What
+/// waits from it is kept by those that keep it. All pools stay. It is rare, so it is a call of its
+/// own.
+#[cold]
+#[inline(never)]
+fn take_port(control: &mut Control, port: u64)
     requires order { IsControl control.old }
     requires unused { is_unused control.old.tables port ≡ true }
-    ensures pool { result ≡ option_map (λ p. p.pool) (port_in control.old.tables.ports port) }
     ensures left { control.new.tables ≡ record (with_disconnected control.old.tables port) {
       pools = control.new.tables.pools;
     } }
@@ -81,13 +98,15 @@ fn take_port(control: &mut Control, port: u64) -> Option<usize>
     ensures fewer { HasFewerHolders control.old.tables.pools control.new.tables.pools
         (lost_uses control.old.tables port) }
 {
-    let pool = take_out(control, port);
-    cut_all(control, port);
-    pool
+    match take_out(control, port) {
+        None => {}
+        Some(_) => cut_all(control, port),
+    }
 }
 
-/// The port goes if nothing of it is left: neither its own value nor a handle. Its pool goes with
-/// it, unless somebody still has a message of that.
+/// The port goes if nothing of it is left: neither its own value nor a handle. With it go the pools
+/// of ports that are gone of which nobody has a message any more: its own, and those of which
+/// messages were given up.
 #[inline(always)]
 pub fn disconnect_if_unused(control: &mut Control, port: u64)
     requires order { IsControl control.old }
@@ -102,9 +121,7 @@ pub fn disconnect_if_unused(control: &mut Control, port: u64)
     ensures tidy { StaysTidy control.old.tables control.new.tables }
 {
     if is_unused(control, port) {
-        match take_port(control, port) {
-            None => {}
-            Some(pool) => drop_pool(control, pool),
-        }
+        take_port(control, port);
+        drop_left_pools(control);
     }
 }

@@ -1,14 +1,12 @@
 //! The messages of lanes that are taken out are let go.
 ghost use Rattle.std.specs.Prelude.{◌≡◌};
-ghost use Rattle.iox_model.specs.Maps.{AreDistinct};
-ghost use Rattle.iox_tables.specs.HubStates.Tables.{numbers_of, senders_of};
-ghost use Rattle.iox_tables.specs.HubBooks.Counts.{in_pipe, lane_count, total};
+ghost use Rattle.iox_tables.specs.HubBooks.Counts.{in_pipe, in_port, lane_count, total};
 ghost use Rattle.iox_control.specs.Controls.{with_pools};
-ghost use Rattle.iox_hub_ports.specs.Ports.{without_pipe_from};
-ghost use Rattle.iox_control_releasing.specs.LettingGo.{AreFrom, LetsGo, from_in};
+ghost use Rattle.iox_control_releasing.specs.LettingGo.{LetsGo};
 
 use iox_control::Control;
 use iox_hub_ports::port::Port;
+use iox_lanes::incoming::Incoming;
 use iox_lanes::lane::Lane;
 use iox_lanes::pipe::Pipe;
 
@@ -37,33 +35,26 @@ pub fn let_pipe_go(control: &mut Control, pipe: Pipe)
     }
 }
 
-/// Takes the pipe from that sender off the port, if there is one, and lets go of all messages on
-/// it.
-fn let_sender_go(control: &mut Control, port: &mut Port, sender: u64)
-    ensures port { port.new ≡ without_pipe_from port.old sender }
+/// Lets go of all messages on the pipes.
+fn let_pipes_go(control: &mut Control, incoming: Incoming)
     ensures left { control.new ≡ with_pools control.old control.new.tables.pools }
     ensures fewer { LetsGo control.old.tables.pools control.new.tables.pools
-        (λ pool k. from_in (lane_count pool k) sender port.old) }
+        (λ pool k. total (in_pipe (lane_count pool k)) incoming.pipes) }
 {
-    match port.disconnect(sender) {
-        None => {}
-        Some(pipe) => let_pipe_go(control, pipe),
+    let mut incoming = incoming;
+    while let Some(pipe) = incoming.take_pipe() {
+        let_pipe_go(control, pipe);
     }
 }
 
-/// Lets go of all messages that come to a port, which was taken out, from connected ports.
+/// Lets go of all messages that come to a port, which was taken out: of those from ports that are
+/// gone too.
 pub fn let_port_go(control: &mut Control, port: Port)
-    requires from { AreFrom (numbers_of control.old.tables.ports) port.incoming.pipes }
-    requires apart { AreDistinct (senders_of port.incoming.pipes) }
     ensures left { control.new ≡ with_pools control.old control.new.tables.pools }
     ensures fewer { LetsGo control.old.tables.pools control.new.tables.pools
-        (λ pool k. total (in_pipe (lane_count pool k)) port.incoming.pipes) }
+        (λ pool k. in_port (lane_count pool k) port) }
 {
-    let mut port = port;
-    for at in 0..control.ports().len() {
-        match control.ports().at(at) {
-            None => {}
-            Some(info) => let_sender_go(control, &mut port, info.number),
-        }
-    }
+    let (expired, incoming) = port.into_pipes();
+    let_pipes_go(control, expired);
+    let_pipes_go(control, incoming);
 }

@@ -60,7 +60,6 @@ opens_keep c g ws o =
       room = as_much c.room (may_come c.tables) (may_come (with_states g c.tables ws)) needs.come o.room;
       holders = as_many c.room (most_holders c.tables) (most_holders (with_states g c.tables ws)) needs.holders o.holders;
       ports = room_as c.tables (with_states g c.tables ws) refl (states_seats g c.tables.ports ws) o.ports;
-      none = o.none;
       buffers = o.buffers;
     }
 
@@ -233,6 +232,5 @@ module _ (c : ControlState) (h : HandleState) (overflow : Bool) where
           room = as_much c.room (may_come opened) (may_come left) come o.room;
           holders = as_many c.room (most_holders opened) (most_holders left) most o.holders;
           ports = room_as opened left refl (lanes_seats (delivers overflow h.slot) opened.ports ws) o.ports;
-          none = o.none;
           buffers = o.buffers;
         }

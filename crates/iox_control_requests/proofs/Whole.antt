@@ -50,8 +50,7 @@ use Rattle.iox_tables.specs.HubBooks.Hubs.{AreInOrder}
 use Rattle.iox_tables.specs.HubBooks.Keeps.{delivers}
 use Rattle.iox_tables.proofs.HubBooks.Held.{each_handle_from}
 use Rattle.iox_tables.proofs.HubBooks.Sendable.{requests_may_be_sent}
-use Rattle.iox_tables.specs.HubKeeping.Connected.{KeepsNone}
-use Rattle.iox_tables.proofs.HubKeeping.Ordered.{no_expired}
+use Rattle.iox_tables.proofs.HubKeeping.Ordered.{handle_may_go}
 use Rattle.iox_tables.specs.HubLoans.Counts.{AreOnNodes, IsOnNode, has_all_active}
 use Rattle.iox_tables.proofs.HubLoans.Counting.{each_count_is_the_same}
 use Rattle.iox_tables.specs.HubMaking.Disconnections.{with_released}
@@ -77,7 +76,7 @@ any_same f g client on same (n ∷ ns) acc before =
     step true = ap₂ (λ (a c : Bool). a || c) (same (request_way client n) refl) before
     step false = before
 
-module _ (t : HubTables) (order : AreInOrder t) (keeps : KeepsNone t.settings) (node n : ℕ) (h : HandleState) (named : IsHandle t node n h) (kind : h.kind ≡ RequestMut)
+module _ (t : HubTables) (order : AreInOrder t) (node n : ℕ) (h : HandleState) (named : IsHandle t node n h) (kind : h.kind ≡ RequestMut)
     (few : t.calls < 2 ^ 56) (x : Given)
   where
     abbrev s : m.State
@@ -201,7 +200,7 @@ module _ (t : HubTables) (order : AreInOrder t) (keeps : KeepsNone t.settings) (
           (sym its_subject) leads)
 
       spent_ends : loan_sent_by s node n ≡ (replies.Refused ExceedsMaxActiveRequests, state_shown x (with_released (with_dropped t node n) h.port))
-      spent_ends = spent_requests_end x t node n h to_send (spent_is ∙ spent) (no_expired t order keeps)
+      spent_ends = spent_requests_end x t node n h to_send (spent_is ∙ spent) (handle_may_go t order node n h named)
 
       pub is_refused : IsWholeCall s node (Send n) (replies.Refused ExceedsMaxActiveRequests) (state_shown x (with_released (with_dropped t node n) h.port))
       is_refused = is_whole_of s node (Send n) _ _ _ spent_is_whole spent_ends
@@ -266,7 +265,7 @@ module _ (t : HubTables) (order : AreInOrder t) (keeps : KeepsNone t.settings) (
 
         plain_so : loan_sent_by s node n ≡ ends (is_failing fails false back.ports h.port) (request_ways h.port t.ports) (pending_states t h)
         plain_so =
-            request_sends_end x t node n h to_send (spent_is ∙ free) off may_from (no_expired t order keeps)
+            request_sends_end x t node n h to_send (spent_is ∙ free) off may_from (handle_may_go t order node n h named)
             ∙ ap₂ (λ (ws opens : List Way). ends (list_any (fails_at (fixed_of x t)) (full ws)) ws opens) all_targets all_open
             ∙ ap (λ (b : Bool). ends b (request_ways h.port t.ports) (pending_states t h)) failing_is
 

@@ -183,7 +183,6 @@ module _ (c : ControlState) (node n : ℕ) (h : HandleState) (order : IsControl 
 
     pub handed_keeps : IsControl handed
     handed_keeps = record {
-      none = order.none;
       buffers = order.buffers;
       order = in_order;
       ports = room_as t handed_tables refl (lanes_seats g t.ports (w ∷ [])) order.ports;

@@ -141,7 +141,7 @@ module _ (c : ControlState) (node n : ℕ) (order : IsControl c) (few : c.tables
           ∙ ap₂ (λ (d : HubTables) (f : Bool). record (with_dropped d node n) { calls = if f then t.calls else t.calls + 1; pools = left.pools }) (sym sent) (sym undelivered);
       same = same;
       whole = λ x failure after shown.
-          is_whole t order.order order.none node n h named kind few x waits (reply_of_send r) (state_shown x after)
+          is_whole t order.order node n h named kind few x waits (reply_of_send r) (state_shown x after)
           (model x failure
           ∙ ap (λ s. (reply_of_send r, s))
           (bare_pools_show_the_same x (record (gone u) { calls = calls_after b }) left.pools (ap bare_pools (released_pools (with_dropped u node n) h.port ∙ pools) ∙ same)
@@ -191,7 +191,7 @@ module _ (c : ControlState) (node n : ℕ) (order : IsControl c) (few : c.tables
     nobody_waits off d new counted is =
         offered Done t false new.tables (ap (λ (b : Bool). if b then with_response_offered t h else t) off) refl
         (ap (λ (b : Bool). b && (is_shut t h && fails)) off) refl
-        (λ x failure. to_nobody t order.order order.none node n h named kind few x off ∙ ap (λ u. (replies.Done, state_shown x u)) (as_counted t refl))
+        (λ x failure. to_nobody t order.order node n h named kind few x off ∙ ap (λ u. (replies.Done, state_shown x u)) (as_counted t refl))
         (ended t (t.calls + 1) t.pools d new (ap (λ (x : ControlState). x.tables) counted) is)
         (ended_bare d new (ap (λ (x : ControlState). bare_pools x.tables.pools) (sym counted)) is)
 
@@ -231,7 +231,7 @@ module _ (c : ControlState) (node n : ℕ) (order : IsControl c) (few : c.tables
         fails_to_send is failing new ends =
             offered Undelivered em true new.tables (emptied_sent is) refl (undelivered_is ∙ ap₂ (λ (a b : Bool). a && b) is failing) refl
             (λ x failure.
-            is_lost t order.order order.none node n h named kind few x awaits (full_and_plain is).0 (full_and_plain is).1 (failure ∙ failing)
+            is_lost t order.order node n h named kind few x awaits (full_and_plain is).0 (full_and_plain is).1 (failure ∙ failing)
             ∙ ap (λ u. (replies.Refused UnableToDeliver, state_shown x u)) (as_is em refl))
             (ended em t.calls d.tables.pools d new tables_then ends) (ended_bare d new same ends)
 
@@ -239,7 +239,7 @@ module _ (c : ControlState) (node n : ℕ) (order : IsControl c) (few : c.tables
         goes_to_nobody is failing k new counted ends =
             offered Done em false new.tables (emptied_sent is) refl (undelivered_is ∙ ap₂ (λ (a b : Bool). a && b) is failing) refl
             (λ x failure.
-            is_skipped t order.order order.none node n h named kind few x awaits (full_and_plain is).0 (full_and_plain is).1 (failure ∙ failing)
+            is_skipped t order.order node n h named kind few x awaits (full_and_plain is).0 (full_and_plain is).1 (failure ∙ failing)
             ∙ ap (λ u. (replies.Done, state_shown x u)) (as_counted em refl))
             (ended em (t.calls + 1) d.tables.pools k new (ap (λ (x : ControlState). x.tables) counted ∙ ap with_call tables_then) ends)
             (ended_bare k new (same ∙ ap (λ (x : ControlState). bare_pools x.tables.pools) (sym counted)) ends)
@@ -247,7 +247,7 @@ module _ (c : ControlState) (node n : ℕ) (order : IsControl c) (few : c.tables
         -- ---- it is put in line
 
         its_lane : (l : LaneState) × (lane_on t.ports w ≡ Some l) × IsOpenToNew at_first t h.pool h.slot w l
-        its_lane = the_lane t order.order order.none node n h named kind few at_first awaits
+        its_lane = the_lane t order.order node n h named kind few at_first awaits
 
         abbrev l : LaneState
         l = its_lane.0
@@ -294,7 +294,7 @@ module _ (c : ControlState) (node n : ℕ) (order : IsControl c) (few : c.tables
           named_then = record { there = found_then d (ap (λ (x : HubTables). x.handles) tables_then); no_port = loan_then.named.no_port }
 
           buffer_is : l.buffer ≡ t.settings.response_buffer
-          buffer_is = its_lane.2.open_to.buffer ∙ server_buffer t order.order order.none node n h named kind few at_first
+          buffer_is = its_lane.2.open_to.buffer ∙ server_buffer t order.order node n h named kind few at_first
 
           ready : IsReady (emptied_lane l)
           ready = record {
@@ -337,8 +337,8 @@ module _ (c : ControlState) (node n : ℕ) (order : IsControl c) (few : c.tables
 
           model : (b : Bool) → t.settings.response_overflow ≡ b → (x : Given)
               → loan_sent_by (state_shown x t) node n ≡ (replies.Done, state_shown x (with_call (gone (with_lanes (delivers b h.slot) em (w ∷ [])))))
-          model true on x = goes_over t order.order order.none node n h named kind few x awaits on
-          model false on x = goes_in_line t order.order order.none node n h named kind few x awaits (not_full either) on
+          model true on x = goes_over t order.order node n h named kind few x awaits on
+          model false on x = goes_in_line t order.order node n h named kind few x awaits (not_full either) on
             where
               not_full : (t.settings.response_overflow ≡ true) ⊎ (is_full l ≡ false) → on_way is_full true t.ports w ≡ false
               not_full (inl f) = absurd (true≢false (sym f ∙ on))

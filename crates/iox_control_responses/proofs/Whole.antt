@@ -46,8 +46,7 @@ use Rattle.iox_tables.specs.HubBooks.Keeps.{delivers}
 use Rattle.iox_tables.proofs.HubBooks.Frames.{length_map}
 use Rattle.iox_tables.proofs.HubBooks.Sendable.{responses_may_be_sent}
 use Rattle.iox_tables.proofs.HubBooks.Used.{handle_is}
-use Rattle.iox_tables.specs.HubKeeping.Connected.{KeepsNone}
-use Rattle.iox_tables.proofs.HubKeeping.Ordered.{no_expired}
+use Rattle.iox_tables.proofs.HubKeeping.Ordered.{handle_may_go}
 use Rattle.iox_tables.specs.HubLoans.Questions.{is_named_by_client}
 use Rattle.iox_tables.proofs.HubLoans.Asked.{awaited_are_named}
 use Rattle.iox_tables.specs.HubMaking.Disconnections.{with_released}
@@ -57,7 +56,7 @@ use Rattle.iox_hub_ports.specs.Ports.{on_way}
 use Rattle.iox_control.proofs.WholeLemmas.{handle_or, is_whole_of, not_over}
 use Rattle.iox_control_responses.specs.Responses.{way_to_client, with_way_emptied}
 
-module _ (t : HubTables) (order : AreInOrder t) (keeps : KeepsNone t.settings) (node n : ℕ) (h : HandleState) (named : IsHandle t node n h) (kind : h.kind ≡ ResponseMut)
+module _ (t : HubTables) (order : AreInOrder t) (node n : ℕ) (h : HandleState) (named : IsHandle t node n h) (kind : h.kind ≡ ResponseMut)
     (few : t.calls < 2 ^ 56) (x : Given)
   where
     abbrev w : Way
@@ -119,7 +118,7 @@ module _ (t : HubTables) (order : AreInOrder t) (keeps : KeepsNone t.settings) (
     left u = with_released (with_dropped u node n) h.port
 
     pub to_nobody : is_named_by_client t h false ≡ false → loan_sent_by s node n ≡ (replies.Done, state_shown x (with_call (left t)))
-    to_nobody e = unawaited_end x t node n h to_send (awaited_are_named x t h ∙ e) (no_expired t order keeps)
+    to_nobody e = unawaited_end x t node n h to_send (awaited_are_named x t h ∙ e) (handle_may_go t order node n h named)
 
     module _ (awaits : is_named_by_client t h false ≡ true) where
       abbrev y : Sending
@@ -150,7 +149,7 @@ module _ (t : HubTables) (order : AreInOrder t) (keeps : KeepsNone t.settings) (
       pub goes_over : t.settings.response_overflow ≡ true
           → loan_sent_by s node n ≡ (replies.Done, state_shown x (with_call (left (with_lanes (delivers true h.slot) em (w ∷ [])))))
       goes_over over =
-          response_sends_over_end x t node n h to_send awaited over may_from (no_expired t order keeps)
+          response_sends_over_end x t node n h to_send awaited over may_from (handle_may_go t order node n h named)
           ∙ ap₂
           (λ (ws opens : List Way). (
             replies.Done,
@@ -189,7 +188,7 @@ module _ (t : HubTables) (order : AreInOrder t) (keeps : KeepsNone t.settings) (
 
       goes : t.settings.response_overflow ≡ false → loan_sent_by s node n ≡ ends (if is_full_there then w ∷ [] else []) (w ∷ []) []
       goes off =
-          response_sends_end x t node n h to_send awaited off may_from (no_expired t order keeps)
+          response_sends_end x t node n h to_send awaited off may_from (handle_may_go t order node n h named)
           ∙ ap₂ (λ (ws opens : List Way). ends (full_in (lane_on (with_lanes emptied_lane t ws).ports) ws []) ws opens) one_target none_opened
 
       -- where the client is full

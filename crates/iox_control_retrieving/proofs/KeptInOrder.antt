@@ -64,6 +64,5 @@ module _ (c : ControlState) (ws : List Way) (pools : List (Option PoolState)) (o
         let was : CanCountHolders c.room t = order.holders in
         omega (arith, lanes, was);
     ports = room_as t left refl (lanes_seats emptied_lane t.ports ws) order.ports;
-    none = order.none;
     buffers = order.buffers;
   }

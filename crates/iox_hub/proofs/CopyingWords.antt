@@ -3,7 +3,9 @@ use Rattle.std.specs.Prelude.{◌≡◌, ℕ, zero, suc, ◌<◌, ◌≤◌, Boo
 use Rattle.std.proofs.Common.{sym, ap, subst, ◌∙◌, arith}
 use Rattle.std.proofs.lemmas.List.{get_or-set_same}
 use Rattle.iox_store.specs.Stored.{Contents, Stored, filled_with, lent_uninit, stored_at, unlent, with_stored}
-use Rattle.iox_model.specs.Settings.{Shape, has_layout, is_client, is_count}
+use Rattle.iox_lanes.specs.Incomings.{IncomingState}
+use Rattle.iox_model.specs.Maps.{has_number}
+use Rattle.iox_model.specs.Settings.{Shape, has_layout, is_client, is_count, other_role}
 use Rattle.iox_tables.specs.HubBooks.Hubs.{AreInOrder}
 use Rattle.iox_tables.specs.HubBooks.Keeps.{bare_pools, delivers}
 use Rattle.iox_tables.proofs.HubBooks.Frames.{lanes_on_bare}
@@ -15,7 +17,7 @@ use Rattle.iox_tables.specs.HubLoans.Slots.{IsUnused}
 use Rattle.iox_tables.proofs.HubLoans.Placed.{slot_is, slot_stays}
 use Rattle.iox_tables.specs.HubStates.Changes.{with_lanes}
 use Rattle.iox_tables.specs.HubStates.Ends.{OfEachHandle, with_call, with_loan}
-use Rattle.iox_tables.specs.HubStates.Tables.{HubTables, PoolState, SlotState}
+use Rattle.iox_tables.specs.HubStates.Tables.{HubTables, PoolState, PortState, SlotState, senders_of}
 use Rattle.iox_hub_delivering.proofs.Counted.{gives_bare}
 use Rattle.iox_control_request_copies.specs.Answers.{way_of, with_copy_lost, with_copy_sent}
 use Rattle.iox_control_request_copies.specs.Asked.{Asked}
@@ -28,7 +30,7 @@ use Rattle.iox_hub.specs.Words.{Carried}
 use Rattle.iox_hub.proofs.Fitting.{fits_on, one_as}
 use Rattle.iox_hub.proofs.LendingFits.{each_suits_else, fits_message, ports_stay}
 use Rattle.iox_hub.proofs.LendingGiven.{IsNoUnfilled}
-use Rattle.iox_hub.proofs.LendingMade.{lenders_were_there, no_others, put_counts, slot_has_words}
+use Rattle.iox_hub.proofs.LendingMade.{lenders_were_there, no_others, put_counts, put_pools, slot_has_words}
 
 -- what is asked for a copy is told by how many elements it has
 module _ {E H : Type 0} (many : Bool) (width : ℕ) (words : E → List ℕ) (user_words : H → List ℕ) (m : MessageShape E H) (k : ℕ) (a : Asked) where
@@ -67,6 +69,7 @@ module _ {many : Bool × Bool} (words : List (Option Carried)) where
     pools = fit.pools;
     elements = fit.elements;
     ports = fit.ports;
+    gone = fit.gone;
     longest = fit.longest;
     one = fit.one;
     handles = fit.handles;
@@ -79,6 +82,9 @@ module _ {many : Bool × Bool} (words : List (Option Carried)) where
     ports = λ m p at.
         let q = lenders_were_there t.ports n m p at in
         ap (are_requests_in words) (sym q.2.pool) ∙ fit.ports m q.0 q.1 ∙ ap is_client q.2.role;
+    gone = λ place q m p at there has.
+        let b = lenders_were_there t.ports n m p there in
+        fit.gone place q m b.0 at b.1 (ap (λ (c : IncomingState). has_number q.port (senders_of c.pipes)) b.2.kept ∙ has) ∙ ap (λ r. is_client (other_role r)) b.2.role;
     longest = λ m p at.
         let q = lenders_were_there t.ports n m p at in
         let below : q.0.longest ≤ longest_in words q.0.pool = fit.longest m q.0 q.1 in
@@ -119,6 +125,7 @@ module _ {many : Bool × Bool} (words : List (Option Carried)) (t : HubTables) (
         (put_counts t.pools y.port.pool slot (loaned_slot y k))
         (elements ∙ ap (λ (s : SlotState). s.elements) (sym (slot_is t.pools y.port.pool slot (loaned_slot y k) (slot_there t order y.port.number y.port may.there slot may.within))))
         (λ p j other. ap (λ (s : SlotState). s.elements) (slot_stays t.pools y.port.pool slot (loaned_slot y k) p j other))
+        (put_pools t.pools y.port.pool slot (loaned_slot y k))
         (ports_stay t.ports)
         (each_suits_else words y.port.pool slot z t.handles unused.handles fit.handles)
 

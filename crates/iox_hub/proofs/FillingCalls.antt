@@ -36,7 +36,7 @@ use Rattle.iox_hub.specs.Reads.{HasOf, message_in}
 use Rattle.iox_hub.specs.Words.{Carried, stored_in}
 use Rattle.iox_hub.proofs.FillingAlone.{each_changed_alone, is_named_so, other_found, others_fail}
 use Rattle.iox_hub.proofs.FillingKinds.{after_of_request, count_may_be, role_of_loan, still_after}
-use Rattle.iox_hub.proofs.LendingFits.{fits_message, ports_stay, suits_else}
+use Rattle.iox_hub.proofs.LendingFits.{fits_message, pools_stay, ports_stay, suits_else}
 use Rattle.iox_hub.proofs.LendingGiven.{given_put}
 use Rattle.iox_hub.proofs.LendingWords.{count_new, requests_new, stored_else, stored_new}
 use Rattle.iox_hub.proofs.LendingWrites.{IsLoanOf, changed_is_found, found_has, is_loan_of, is_loan_there, loan_elements, loan_is_one, loan_message, loan_named, loan_of_role, loan_within, low_if_used}
@@ -195,7 +195,7 @@ module _ {h : HubState} {role : Role} {node n : ℕ} {all : Bool} {new : Control
         subst (λ (ws : List (Option Carried)). WordsFit (many_in h) ws new.tables) (sym put_here)
         (subst (λ (d : ControlState). WordsFit (many_in h) (with_message h.words k.pool k.slot z) d.tables) (sym left)
         (fits_message h.words k.pool k.slot z t (with_kind t k kind) hub.words (loan_within role hub node n c.loan) (λ place. refl)
-        (same_elements ∙ loan_elements role hub node n c.loan) (λ p j other. refl) (ports_stay t.ports)
+        (same_elements ∙ loan_elements role hub node n c.loan) (λ p j other. refl) (pools_stay t.pools) (ports_stay t.ports)
         (each_changed_alone has node n k itself (SuitsHandle (with_message h.words k.pool k.slot z)) turned named.0 named.1 turned_suits
         t.handles c.loan.there one.handles (each_else t.handles hub.words.handles))))
 

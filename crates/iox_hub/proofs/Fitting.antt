@@ -1,7 +1,7 @@
 -- Words go on fitting the tables of a hub.
-use Rattle.std.specs.Prelude.{◌≡◌, ℕ, zero, suc, ◌<◌, ◌≤◌, Bool, false, if◌then◌else◌, List, [], ◌∷◌, ◌++◌, length, map, Option, Some, None, slice_get, refl, ⊤}
+use Rattle.std.specs.Prelude.{◌≡◌, ℕ, zero, suc, ◌<◌, ◌≤◌, Bool, true, false, ◌||◌, if◌then◌else◌, ◌==◌, List, [], ◌∷◌, ◌++◌, length, map, Option, Some, None, slice_get, refl, ⊤}
 use Rattle.std.specs.Option.{option_map, option_map_or}
-use Rattle.std.proofs.Common.{sym, ap, subst, ◌∙◌, arith, true≢false}
+use Rattle.std.proofs.Common.{sym, ap, subst, ◌∙◌, arith, eq-eqb, true≢false}
 use Rattle.std.proofs.lemmas.Option.{none-some}
 use Rattle.iox_lanes.specs.declared.incoming.Visits.{Visits}
 use Rattle.iox_lanes.specs.declared.incoming.Visits.TheVariants.{Got, AtLimit, Nothing}
@@ -19,23 +19,29 @@ use Rattle.iox_model.specs.Maps.{has_number}
 use Rattle.iox_model.specs.Messages.{hinted_for}
 use Rattle.iox_model.specs.Settings.{is_client, other_role}
 use Rattle.iox_laws.proofs.WeaveLedger.Lists.{number-among}
-use Rattle.iox_tables.specs.HubStates.Tables.{HandleState, HubTables, PoolState, PortState, SlotState, labels_of, pipes_of, port_in, senders_of, slots_of}
+use Rattle.iox_tables.specs.HubStates.Tables.{HandleState, HubTables, PoolState, PortState, SlotState, labels_of, no_slot, owner_of, pipes_of, pool_at, port_in, senders_of, slot_at, slots_of}
 use Rattle.iox_tables.specs.HubStates.Ends.{OfEachHandle}
 use Rattle.iox_tables.specs.HubStates.Changes.{with_states}
 use Rattle.iox_tables.specs.HubStates.Receives.{got_handle, visited_port, visits_at, wanted_by_server, with_got, with_request, with_response, with_visited}
 use Rattle.iox_tables.specs.HubStates.Ways.{lane_on, lanes_from, with_port}
 use Rattle.iox_tables.specs.HubStates.Releases.{pending_states, request_of}
+use Rattle.iox_tables.specs.HubStates.Steps.{places_on}
 use Rattle.iox_tables.specs.HubStates.Wirings.{IsPending, IsServer, handle_in}
+use Rattle.iox_tables.proofs.HubStates.Emptied.{has-append}
+use Rattle.iox_tables.specs.HubBooks.Counts.{how_often, lane_count}
 use Rattle.iox_tables.specs.HubBooks.Hubs.{AreInOrder}
 use Rattle.iox_tables.specs.HubBooks.Keeps.{bare_pool, bare_pools, bare_slot}
-use Rattle.iox_tables.proofs.HubBooks.Frames.{AreAlike, bare_ports, port_before, states_on_bare, visits_bare}
+use Rattle.iox_tables.proofs.HubBooks.Frames.{AreAlike, bare_ports, map_append, port_before, states_on_bare, visits_bare}
 use Rattle.iox_tables.proofs.HubBooks.Going.{each_last}
+use Rattle.iox_tables.proofs.HubBooks.Places.{often_has}
 use Rattle.iox_tables.proofs.HubBooks.Sendable.{of_role}
-use Rattle.iox_tables.proofs.HubBooks.Structures.{same_slot}
+use Rattle.iox_tables.proofs.HubBooks.Structures.{pool_before, same_slot}
+use Rattle.iox_tables.proofs.HubBooks.Used.{lane_below}
 use Rattle.iox_tables.proofs.HubBooks.Visited.{GotFrom, got_is}
 use Rattle.iox_control.specs.Controls.{ControlState, IsButHolders, with_hint, with_tables}
 use Rattle.iox_hub.specs.Fits.{IsOneOfOne, SuitsHandle, WordsFit, are_requests_in, count_in, is_full_loan, is_of_request, longest_in, many_by}
 use Rattle.iox_hub.specs.Words.{Carried}
+use Rattle.iox_hub.proofs.GoneFits.{gone_fit_alike}
 
 -- ---- pools that differ in holders have the same slots
 
@@ -79,6 +85,7 @@ module _ {many : Bool × Bool} (words : List (Option Carried)) (t : HubTables) (
     ports = λ n p at.
         let q = port_before t.ports t'.ports alike n p at in
         subst (λ (z : PortState). are_requests_in words z.pool ≡ is_client z.role) q.2 (fit.ports n q.0 q.1);
+    gone = gone_fit_alike words t t' fit.gone (pool_before t.pools t'.pools same) alike;
     longest = λ n p at.
         let q = port_before t.ports t'.ports alike n p at in
         subst (λ (z : PortState). z.longest ≤ longest_in words z.pool) q.2 (fit.longest n q.0 q.1);
@@ -105,15 +112,59 @@ module _ {many : Bool × Bool} (words : List (Option Carried)) (t : HubTables) (
   no_loan Server = refl
 
   module _ (order : AreInOrder t) (node n lane : ℕ) (p : PortState) (there : port_in t.ports n ≡ Some p) (role : Role) (role_is : p.role ≡ role) (wanted : Wanted) where
+    -- a message that was got is of the other role, whether its sender is connected or gone
+    words_suit : (s pool k : ℕ) → GotFrom wanted (labels_of t.pools) lane (pipes_of p) (Got s pool k) → are_requests_in words pool ≡ is_client (other_role p.role)
+    words_suit s pool k c =
+        either (has_number s (senders_of p.expired.pipes)) refl
+        (sym (ap (has_number s) (map_append (λ (q : PipeState). q.sender) p.expired.pipes p.incoming.pipes) ∙ has-append s (senders_of p.expired.pipes) (senders_of p.incoming.pipes)) ∙ c.4)
+      where
+        w : Way
+        w = record { sender = s; receiver = n; lane = lane }
+
+        on_way : lane_on t.ports w ≡ Some c.0
+        on_way = ap (λ o. slice_get (lanes_from (option_map_or pipes_of o []) s) lane) there ∙ c.1
+
+        waits : has_number k (places_on c.0) ≡ true
+        waits =
+            has-append k c.0.returned (c.0.waiting ++ c.0.taken)
+            ∙ second (has_number k c.0.returned) (has_number k (c.0.waiting ++ c.0.taken))
+            (has-append k c.0.waiting c.0.taken ∙ ap (λ (b : Bool). b || has_number k c.0.taken) c.3)
+          where
+            second : (a b : Bool) → b ≡ true → (a || b) ≡ true
+            second true b e = refl
+            second false b e = e
+
+        used : 1 ≤ (slot_at t.pools pool k).holders
+        used =
+            let often = often_has k (places_on c.0) waits in
+            let below = lane_below (lane_count pool k) t.ports w c.0 on_way in
+            let here : (if c.0.pool == pool then how_often k (places_on c.0) else 0) ≡ how_often k (places_on c.0)
+            = ap (λ (b : Bool). if b then how_often k (places_on c.0) else 0) (eq-eqb c.0.pool pool c.2) in
+            let all = order.counted pool k in omega (arith, often, below, here, all)
+
+        owner : owner_of t.pools pool ≡ s
+        owner = ap (owner_of t.pools) (sym c.2) ∙ order.owners w c.0 k on_way waits
+
+        at_pool : (o : Option PoolState) → pool_at t.pools pool ≡ o → has_number s (senders_of p.expired.pipes) ≡ true → are_requests_in words pool ≡ is_client (other_role p.role)
+        at_pool None is kept =
+            let none : (slot_at t.pools pool k).holders ≡ 0
+            = ap (λ (o : Option PoolState). (option_map_or (λ (x : SlotState). x) (slice_get (option_map_or (λ (q : PoolState). q.slots) o []) k) no_slot).holders) is in
+            absurd (omega (arith, used, none))
+        at_pool (Some q) is kept =
+            fit.gone pool q n p is there
+            (ap (λ i. has_number i (senders_of p.expired.pipes)) (ap (λ (o : Option PoolState). option_map_or (λ (x : PoolState). x.port) o 0) (sym is) ∙ owner) ∙ kept)
+
+        either : (b : Bool) → has_number s (senders_of p.expired.pipes) ≡ b → (b || has_number s (senders_of p.incoming.pipes)) ≡ true
+            → are_requests_in words pool ≡ is_client (other_role p.role)
+        either true kept e = at_pool (pool_at t.pools pool) refl kept
+        either false kept e =
+            let q = of_role t order (other_role p.role) s (number-among s _ (sym (ap (has_number s) (order.wired.each n p there).senders) ∙ e)) in
+            ap (are_requests_in words) (sym c.2 ∙ (order.lanes w c.0 q.0 on_way q.1).of_pool) ∙ fit.ports s q.0 q.1 ∙ ap is_client q.2
+
     suited : (v : Visits) → GotFrom wanted (labels_of t.pools) lane (pipes_of p) v → IsSuited node role n v
     suited (Got s pool k) c =
-        let w : Way = record { sender = s; receiver = n; lane = lane } in
-        let on_way : lane_on t.ports w ≡ Some c.0 = ap (λ o. slice_get (lanes_from (option_map_or pipes_of o []) s) lane) there ∙ c.1 in
-        let senders : senders_of (pipes_of p) ≡ senders_of p.incoming.pipes = ap (λ (es : List PipeState). senders_of (es ++ p.incoming.pipes)) (order.wired.none_kept n p there) in
-        let q = of_role t order (other_role p.role) s (number-among s _ (sym (ap (has_number s) (senders ∙ (order.wired.each n p there).senders)) ∙ c.4)) in
         record {
-          kind = ap (are_requests_in words) (sym c.2 ∙ (order.lanes w c.0 q.0 on_way q.1).of_pool)
-              ∙ fit.ports s q.0 q.1 ∙ ap is_client (q.2 ∙ ap other_role role_is) ∙ suits role;
+          kind = words_suit s pool k c ∙ ap (λ r. is_client (other_role r)) role_is ∙ suits role;
           full = λ e. absurd (true≢false (sym e ∙ no_loan role));
         }
     suited AtLimit c = tt
@@ -178,6 +229,7 @@ fits_none t pools ports handles words = record {
   pools = λ place. subst (λ (ps : List (Option PoolState)). length (slots_of ps place) ≤ count_in words place) (sym pools) (omega arith);
   elements = λ place k low. absurd (none place k low);
   ports = λ n p at. absurd (missing n p at);
+  gone = λ place q n p at there. absurd (missing n p there);
   longest = λ n p at. absurd (missing n p at);
   one = λ n p at. absurd (missing n p at);
   handles = subst (λ (hs : List HandleState). OfEachHandle (SuitsHandle words) hs) (sym handles) tt;

@@ -1,11 +1,13 @@
 -- Words go on fitting the tables as one message is another one.
 use Rattle.std.specs.Prelude.{◌≡◌, ℕ, ◌<◌, ◌≤◌, Bool, true, false, ◌&&◌, ◌==◌, List, [], ◌∷◌, length, Option, Some, refl}
 use Rattle.std.specs.List.{list_any}
-use Rattle.std.proofs.Common.{sym, ap, subst, ◌∙◌, arith, eqb-true}
+use Rattle.std.proofs.Common.{sym, ap, ap₂, subst, ◌∙◌, arith, eqb-true}
 use Rattle.iox_store.specs.Stored.{Stored}
-use Rattle.iox_model.specs.Settings.{is_client}
+use Rattle.iox_lanes.specs.Incomings.{IncomingState}
+use Rattle.iox_model.specs.Maps.{has_number}
+use Rattle.iox_model.specs.Settings.{is_client, other_role}
 use Rattle.iox_tables.specs.HubStates.Ends.{OfEachHandle}
-use Rattle.iox_tables.specs.HubStates.Tables.{HandleState, HubTables, PortState, SlotState, port_in, slot_at, slots_of}
+use Rattle.iox_tables.specs.HubStates.Tables.{HandleState, HubTables, PoolState, PortState, SlotState, pool_at, port_in, senders_of, slot_at, slots_of}
 use Rattle.iox_tables.specs.HubLoans.Slots.{is_place}
 use Rattle.iox_tables.proofs.HubLoans.Placed.{or_false}
 use Rattle.iox_hub.specs.Fits.{SuitsHandle, WordsFit, are_requests_in, count_in, is_full_loan, is_of_request, longest_in}
@@ -19,6 +21,7 @@ pub record IsAsBefore (q p : PortState) : Type 0 where
   pub role : q.role ≡ p.role
   pub pool : q.pool ≡ p.pool
   pub longest : q.longest ≡ p.longest
+  pub kept : q.expired ≡ p.expired
 
 -- each port that is found was there before
 abbrev pub PortsWereThere : List PortState → List PortState → Type 0
@@ -26,7 +29,15 @@ PortsWereThere old new =
     (n : ℕ) (p : PortState) → port_in new n ≡ Some p → (q : PortState) × (port_in old n ≡ Some q) × IsAsBefore q p
 
 pub ports_stay : (ports : List PortState) → PortsWereThere ports ports
-ports_stay ports n p at = (p, at, record { role = refl; pool = refl; longest = refl })
+ports_stay ports n p at = (p, at, record { role = refl; pool = refl; longest = refl; kept = refl })
+
+-- each pool that is found was there before, of the same port
+abbrev pub PoolsWereThere : List (Option PoolState) → List (Option PoolState) → Type 0
+PoolsWereThere old new =
+    (place : ℕ) (q : PoolState) → pool_at new place ≡ Some q → (p : PoolState) × (pool_at old place ≡ Some p) × (p.port ≡ q.port)
+
+pub pools_stay : (pools : List (Option PoolState)) → PoolsWereThere pools pools
+pools_stay pools place q at = (q, at, refl)
 
 module _ (words : List (Option Carried)) (pool k : ℕ) (z : Stored) where
   abbrev new : List (Option Carried)
@@ -80,8 +91,8 @@ module _ (words : List (Option Carried)) (pool k : ℕ) (z : Stored) where
     pub fits_message : ((place : ℕ) → length (slots_of t'.pools place) ≡ length (slots_of t.pools place))
         → z.elements ≡ (slot_at t'.pools pool k).elements
         → ((p j : ℕ) → is_place pool k p j ≡ false → (slot_at t'.pools p j).elements ≡ (slot_at t.pools p j).elements)
-        → PortsWereThere t.ports t'.ports → OfEachHandle (SuitsHandle new) t'.handles → WordsFit many new t'
-    fits_message counts here others ports handles = record {
+        → PoolsWereThere t.pools t'.pools → PortsWereThere t.ports t'.ports → OfEachHandle (SuitsHandle new) t'.handles → WordsFit many new t'
+    fits_message counts here others pools ports handles = record {
       pools = λ place.
           let fits = fit.pools place in
           let same = count_new words pool k z place in
@@ -90,6 +101,13 @@ module _ (words : List (Option Carried)) (pool k : ℕ) (z : Stored) where
       ports = λ n p at.
           let q = ports n p at in
           requests_new words pool k z p.pool ∙ ap (are_requests_in words) (sym q.2.pool) ∙ fit.ports n q.0 q.1 ∙ ap is_client q.2.role;
+      gone = λ place q n p at there has.
+          let b = ports n p there in
+          let a = pools place q at in
+          requests_new words pool k z place
+          ∙ fit.gone place a.0 n b.0 a.1 b.1
+          (ap₂ (λ i (c : IncomingState). has_number i (senders_of c.pipes)) a.2 b.2.kept ∙ has)
+          ∙ ap (λ r. is_client (other_role r)) b.2.role;
       longest = λ n p at.
           let q = ports n p at in
           let below : q.0.longest ≤ longest_in words q.0.pool = fit.longest n q.0 q.1 in

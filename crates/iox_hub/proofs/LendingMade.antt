@@ -4,6 +4,7 @@ use Rattle.std.specs.List.{list_any}
 use Rattle.std.specs.Option.{option_map, option_map_or}
 use Rattle.std.proofs.Common.{sym, ap, ap₂, subst, ◌∙◌, arith, eqb-true, true≢false}
 use Rattle.std.proofs.lemmas.List.{length-set}
+use Rattle.std.proofs.lemmas.Option.{none-some, same_Some}
 use Rattle.iox_store.specs.Stored.{Stored, unlent}
 use Rattle.iox_model.specs.declared.kind.Role.{Role}
 use Rattle.iox_model.specs.declared.kind.Role.TheVariants.{Client, Server}
@@ -38,7 +39,7 @@ use Rattle.iox_hub.specs.Lending.{IsFresh, first_stored, with_message}
 use Rattle.iox_hub.specs.Reads.{message_in}
 use Rattle.iox_hub.specs.Words.{Carried, stored_in}
 use Rattle.iox_hub.proofs.Fitting.{fits_on}
-use Rattle.iox_hub.proofs.LendingFits.{PortsWereThere, each_suits_else, fits_message}
+use Rattle.iox_hub.proofs.LendingFits.{PoolsWereThere, PortsWereThere, each_suits_else, fits_message}
 use Rattle.iox_hub.proofs.LendingGiven.{IsNoUnfilled, contents_in, filled_unread, given_put, hub_is_left}
 use Rattle.iox_hub.proofs.LendingWords.{requests_new, stored_new}
 use Rattle.iox_hub.proofs.Named.{added_is_found, handle_is_value}
@@ -83,6 +84,7 @@ module _ (ports : List PortState) (m : ℕ) where
           role = ap (λ (r : PortState). r.role) q.2;
           pool = ap (λ (r : PortState). r.pool) q.2;
           longest = ap (λ (r : PortState). r.longest) q.2;
+           kept = ap (λ (r : PortState). r.expired) q.2;
         },
       )
 
@@ -99,6 +101,16 @@ put_counts pools pool k slot place =
     step true (Some q) = length-set q.slots k slot
     step true None = refl
     step false o = refl
+
+-- its pool is of the same port, and so is each other
+pub put_pools : (pools : List (Option PoolState)) (pool k : ℕ) (slot : SlotState) → PoolsWereThere pools (put_slot pools pool k slot)
+put_pools pools pool k slot place q at = step (place == pool) (pool_at pools place) refl (sym (pool_is pools pool k slot place) ∙ at)
+  where
+    step : (b : Bool) (o : Option PoolState) → pool_at pools place ≡ o → (if b then option_map_or (λ p. Some (put_slot_of k slot p)) o None else o) ≡ Some q
+        → (p : PoolState) × (pool_at pools place ≡ Some p) × (p.port ≡ q.port)
+    step true (Some p) is e = (p, is, ap (λ (r : PoolState). r.port) (same_Some (put_slot_of k slot p) q e))
+    step true None is e = absurd (none-some q e)
+    step false o is e = (q, is ∙ e, refl)
 
 -- ---- all is got back
 
@@ -166,6 +178,7 @@ module _ {many : Bool × Bool} (words : List (Option Carried)) (t : HubTables) (
         (put_counts t.pools y.port.pool slot (loaned_slot y k))
         (elements ∙ ap (λ (s : SlotState). s.elements) (sym (slot_is t.pools y.port.pool slot (loaned_slot y k) (slot_there t order n y.port there slot within))))
         (λ p j other. ap (λ (s : SlotState). s.elements) (slot_stays t.pools y.port.pool slot (loaned_slot y k) p j other))
+        (put_pools t.pools y.port.pool slot (loaned_slot y k))
         (lenders_were_there t.ports y.port.number)
         (each_last (SuitsHandle (with_message words y.port.pool slot z)) t.handles handle
         (each_suits_else words y.port.pool slot z t.handles unused.handles fit.handles) loan_suits)

@@ -34,7 +34,7 @@ use Rattle.iox_hub.specs.Hubs.{HasValue, HubState, IsHub, given_by, many_in, sta
 use Rattle.iox_hub.specs.Lending.{IsWritten, payload_of, with_message}
 use Rattle.iox_hub.specs.Reads.{HasOf, message_in}
 use Rattle.iox_hub.specs.Words.{Carried, stored_in}
-use Rattle.iox_hub.proofs.LendingFits.{each_suits_full, fits_message, ports_stay}
+use Rattle.iox_hub.proofs.LendingFits.{each_suits_full, fits_message, pools_stay, ports_stay}
 use Rattle.iox_hub.proofs.LendingGiven.{contents_in, given_put, hub_is_left}
 use Rattle.iox_hub.proofs.LendingWords.{requests_new, stored_new}
 use Rattle.iox_hub.proofs.Named.{found_is_handle, handle_is_value}
@@ -228,7 +228,7 @@ module _ (role : Role) {h : HubState} (hub : IsHub h) (node n : ℕ) (loan : IsL
         subst (λ (ws : List (Option Carried)). WordsFit (many_in h) ws new.tables) (sym put)
         (subst (λ (d : ControlState). WordsFit (many_in h) (with_message h.words k.pool k.slot z) d.tables) (sym left)
         (fits_message h.words k.pool k.slot z t (with_kind t k (filled_kind k.kind)) hub.words loan_within (λ place. refl)
-        (elements ∙ loan_elements) (λ p j other. refl) (ports_stay t.ports)
+        (elements ∙ loan_elements) (λ p j other. refl) (pools_stay t.pools) (ports_stay t.ports)
         (each_changed (SuitsHandle (with_message h.words k.pool k.slot z)) filled t.handles
         (each_suits_full h.words k.pool k.slot z loan_within all t.handles hub.words.handles) filled_suits)))
 

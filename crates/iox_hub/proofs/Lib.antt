@@ -6,6 +6,7 @@ pub mod ReceivedValues
 pub mod Starting
 pub mod Shaping
 pub mod ShapesStay
+pub mod GoneFits
 pub mod Fitting
 pub mod Reading
 pub mod LoanReading

@@ -1,18 +1,19 @@
 -- With one port more, the words of a hub fit its tables, and its values stay.
 use Rattle.std.specs.Prelude.{◌≡◌, ℕ, zero, suc, ◌<◌, ◌≤◌, Bool, true, false, if◌then◌else◌, ◌==◌, List, [], ◌∷◌, length, map, filter, replicate, Option, Some, None, slice_get, refl}
 use Rattle.std.specs.Option.{option_map, option_map_or}
-use Rattle.std.proofs.Common.{sym, ap, ap₂, subst, ◌∙◌, arith, eqb-true}
+use Rattle.std.proofs.Common.{sym, ap, ap₂, subst, ◌∙◌, arith, eqb-true, true≢false}
 use Rattle.std.proofs.lemmas.List.{length-replicate}
 use Rattle.std.proofs.lemmas.Option.{none-some, same_Some}
 use Rattle.iox_types.specs.declared.identifiers.system_id.UniqueSystemId.{UniqueSystemId}
 use Rattle.iox_model.specs.declared.kind.Kind.{Kind}
 use Rattle.iox_model.specs.declared.kind.Role.{Role}
-use Rattle.iox_model.specs.Maps.{or_else}
-use Rattle.iox_model.specs.Settings.{is_client}
+use Rattle.iox_lanes.specs.Incomings.{IncomingState}
+use Rattle.iox_model.specs.Maps.{has_number, or_else}
+use Rattle.iox_model.specs.Settings.{is_client, other_role}
 use Rattle.iox_laws.proofs.WeaveLaws.MapLemmas.{eqb-refl}
 use Rattle.iox_store.specs.Stored.{Stored, new_contents, stored_at, unlent}
 use Rattle.iox_lanes.specs.Pipes.{PipeState}
-use Rattle.iox_tables.specs.HubStates.Tables.{HandleState, HubTables, PoolState, PortState, SlotState, no_slot, port_in, slot_at, slots_of}
+use Rattle.iox_tables.specs.HubStates.Tables.{HandleState, HubTables, PoolState, PortState, SlotState, no_slot, pool_at, port_in, senders_of, slot_at, slots_of}
 use Rattle.iox_tables.specs.HubStates.Ends.{OfEachHandle}
 use Rattle.iox_tables.specs.HubStates.Wirings.{handle_in}
 use Rattle.iox_tables.specs.HubBooks.Hubs.{AreInOrder}
@@ -26,7 +27,7 @@ use Rattle.iox_tables.proofs.HubKeeping.Ordered.{not_there, places_become_free}
 use Rattle.iox_control_making.specs.declared.asked.Asked.{Asked}
 use Rattle.iox_control_making.specs.Making.{port_asked, with_asked}
 use Rattle.iox_control_making.proofs.Vacant.{one_more_is_put, vacant}
-use Rattle.iox_hub.specs.Fits.{SuitsHandle, WordsFit, are_requests_in, carried_in, count_in, longest_in, many_by}
+use Rattle.iox_hub.specs.Fits.{GoneFit, SuitsHandle, WordsFit, are_requests_in, carried_in, count_in, longest_in, many_by}
 use Rattle.iox_hub.specs.Hubs.{HubState, many_in}
 use Rattle.iox_hub.specs.Making.{AreWordsPut, shape_in, words_made}
 use Rattle.iox_hub.specs.Words.{Carried, stored_in}
@@ -189,6 +190,22 @@ module _ (t : HubTables) (node : ℕ) (role : Role) (id : UniqueSystemId) (asked
           full = λ e. ap (λ (z : Stored). z.filled) same ∙ s.full e ∙ sym (ap (λ (z : Stored). z.elements) same);
         }
 
+    -- nothing is kept of the new port, and it keeps nothing
+    gone_fits : GoneFit words left
+    gone_fits q x n p at =
+        each_port {B = IncomingState × Role} (λ r. (r.expired, r.role)) (λ r ps. refl)
+        (λ s. has_number x.port (senders_of s.0.pipes) ≡ true → are_requests_in words q ≡ is_client (other_role s.1)) (λ m r there has. old m r there has (q == place) refl)
+        (λ has. absurd (true≢false (sym has))) n p
+      where
+        old : (m : ℕ) (r : PortState) → port_in t.ports m ≡ Some r → has_number x.port (senders_of r.expired.pipes) ≡ true → (b : Bool) → (q == place) ≡ b
+            → are_requests_in words q ≡ is_client (other_role r.role)
+        old m r there has true e =
+            let port : x.port ≡ t.next_number
+            = ap (λ (o : Option PoolState). option_map_or (λ (y : PoolState). y.port) o 0) (sym at ∙ ap (pool_at left.pools) (eqb-true q place e) ∙ pool_put.there) in
+            let below = order.numbers.kept m r there x.port has in absurd (omega (arith, port, below))
+        old m r there has false e =
+            ap (λ (o : Option Carried). option_map_or (λ (d : Carried). d.requests) o false) (put.others q e) ∙ fit.gone q x m r (pool_put.others q e ∙ at) there has
+
     pub fits_made : WordsFit (many_in h) words left
     fits_made = record {
       pools = pools_fit;
@@ -196,6 +213,7 @@ module _ (t : HubTables) (node : ℕ) (role : Role) (id : UniqueSystemId) (asked
       ports = each_port {B = ℕ × Role} (λ p. (p.pool, p.role)) (λ p ps. refl) (λ s. are_requests_in words s.0 ≡ is_client s.1)
           (λ n p at. ap (λ (o : Option Carried). option_map_or (λ (d : Carried). d.requests) o false) (put.others p.pool (free.ports n p at)) ∙ fit.ports n p at)
           (ap (λ (o : Option Carried). option_map_or (λ (d : Carried). d.requests) o false) put.there);
+      gone = gone_fits;
       longest = each_port {B = ℕ × ℕ} (λ p. (p.pool, p.longest)) (λ p ps. refl) (λ s. s.1 ≤ longest_in words s.0)
           (λ n p at. subst (λ l. p.longest ≤ l) (sym (ap (λ (o : Option Carried). option_map_or (λ (d : Carried). d.contents.longest) o 0) (put.others p.pool (free.ports n p at)))) (fit.longest n p at))
           (subst (λ l. asked.longest ≤ l) (sym (ap (λ (o : Option Carried). option_map_or (λ (d : Carried). d.contents.longest) o 0) put.there)) (omega arith));

@@ -14,14 +14,16 @@ use Rattle.iox_tables.specs.HubStates.Releases.{pending_states, request_of, with
 use Rattle.iox_tables.specs.HubMaking.Disconnections.{cut_from, is_unused, ports_without, with_disconnected, with_released}
 use Rattle.iox_tables.proofs.HubMaking.Disconnecting.{port_left}
 use Rattle.iox_tables.specs.HubBooks.Handles.{way_in}
+use Rattle.iox_tables.specs.HubBooks.Hubs.{AreInOrder}
 use Rattle.iox_tables.specs.HubBooks.Keeps.{bare_pool, bare_slot}
 use Rattle.iox_tables.proofs.HubBooks.Frames.{AreAlike, bare_lane, lanes_on_bare, length_map, port_bare, port_before, states_on_bare}
 use Rattle.iox_tables.proofs.HubBooks.Release.{each_left}
 use Rattle.iox_control_releasing.specs.Endings.{given_up_as, own_way, with_ended}
 use Rattle.iox_control_releasing.specs.Goings.{KeptPools}
-use Rattle.iox_hub.specs.Fits.{SuitsHandle, WordsFit, are_requests_in, count_in, longest_in}
+use Rattle.iox_hub.specs.Fits.{GoneFit, SuitsHandle, WordsFit, are_requests_in, count_in, longest_in}
 use Rattle.iox_hub.specs.Words.{Carried, stored_in}
 use Rattle.iox_hub.proofs.Fitting.{one_as}
+use Rattle.iox_hub.proofs.GoneFits.{gone_fit_released}
 
 -- ---- ports that are left
 
@@ -120,13 +122,14 @@ abbrev slots_in : Option PoolState → List SlotState
 slots_in o = option_map_or (λ (p : PoolState). p.slots) o []
 
 module _ {many : Bool × Bool} (words : List (Option Carried)) (t : HubTables) (fit : WordsFit many words t) where
-  pub fits_left : (t' : HubTables) → AreLeft t.ports t'.ports → KeptPools t.pools t'.pools → OfEachHandle (SuitsHandle words) t'.handles → WordsFit many words t'
-  fits_left t' ports kept handles = record {
+  pub fits_left : (t' : HubTables) → AreLeft t.ports t'.ports → KeptPools t.pools t'.pools → GoneFit words t' → OfEachHandle (SuitsHandle words) t'.handles → WordsFit many words t'
+  fits_left t' ports kept gone handles = record {
     pools = pools;
     elements = elements;
     ports = λ n p at.
         let q = ports n p at in
         ap (are_requests_in words) (sym q.2.pool) ∙ fit.ports n q.0 q.1 ∙ ap is_client q.2.role;
+    gone = gone;
     longest = λ n p at.
         let q = ports n p at in
         subst (λ k. p.longest ≤ longest_in words k) q.2.pool (subst (λ k. k ≤ longest_in words q.0.pool) q.2.longest (fit.longest n q.0 q.1));
@@ -194,20 +197,21 @@ given_up_handles kinds.RequestMut t h = refl
 given_up_handles kinds.ResponseMutUninit t h = refl
 given_up_handles kinds.ResponseMut t h = refl
 
-module _ {many : Bool × Bool} (words : List (Option Carried)) (t t' : HubTables) (fit : WordsFit many words t) (kept : KeptPools t.pools t'.pools) where
+module _ {many : Bool × Bool} (words : List (Option Carried)) (t t' : HubTables) (fit : WordsFit many words t) (order : AreInOrder t) (kept : KeptPools t.pools t'.pools) where
   -- then the port goes, if nothing of it is left
-  pub fits_gone : (u : HubTables) (n : ℕ) → AreLeft t.ports u.ports → OfEachHandle (SuitsHandle words) u.handles
+  pub fits_gone : (u : HubTables) (n : ℕ) → AreAlike t.ports u.ports → OfEachHandle (SuitsHandle words) u.handles
       → t' ≡ record (with_released u n) { pools = t'.pools } → WordsFit many words t'
   fits_gone u n ports handles is =
       fits_left words t fit t'
-      (subst (λ (z : HubTables). AreLeft t.ports z.ports) (sym is) (left_twice t.ports u.ports (with_released u n).ports ports (left_released u n)))
+      (subst (λ (z : HubTables). AreLeft t.ports z.ports) (sym is) (left_twice t.ports u.ports (with_released u n).ports (left_alike t.ports u.ports ports) (left_released u n)))
       kept
+      (gone_fit_released words t t' fit.gone kept order fit.ports u n ports is)
       (subst (λ (z : HubTables). OfEachHandle (SuitsHandle words) z.handles) (sym is)
       (subst (λ hs. OfEachHandle (SuitsHandle words) hs) (sym (released_handles u n)) handles))
 
   pub fits_released : (h : HandleState) → t' ≡ record (with_released (with_ended t h) h.port) { pools = t'.pools } → WordsFit many words t'
   fits_released h is =
-      fits_gone (with_ended t h) h.port (left_alike t.ports (given_up_as h.kind t h).ports (given_up_alike h.kind t h))
+      fits_gone (with_ended t h) h.port (given_up_alike h.kind t h)
       (each_left (SuitsHandle words) h.node h.number (given_up_as h.kind t h).handles
       (subst (λ hs. OfEachHandle (SuitsHandle words) hs) (sym (given_up_handles h.kind t h)) fit.handles))
       is
@@ -215,4 +219,4 @@ module _ {many : Bool × Bool} (words : List (Option Carried)) (t t' : HubTables
   pub fits_port_released : (n : ℕ) → t' ≡ record (with_released (with_value_released t n) n) { pools = t'.pools } → WordsFit many words t'
   fits_port_released n is =
       fits_gone (with_value_released t n) n
-      (left_alike t.ports (with_value_released t n).ports (port_bare (λ p. record p { held = false }) (λ p. refl) t.ports n)) fit.handles is
+      (port_bare (λ p. record p { held = false }) (λ p. refl) t.ports n) fit.handles is

@@ -56,6 +56,8 @@ module _ (h : HubState) (place : ℕ) (order : AreInOrder h.control.tables) (gon
       pools = pools;
       elements = elements;
       ports = λ n p at. ap (λ o. option_map_or (λ (c : Carried). c.requests) (option_map_or (λ z. z) o None) false) (of_port n p at) ∙ fit.ports n p at;
+      gone = λ pool q n p at there has.
+          ap (λ o. option_map_or (λ (c : Carried). c.requests) (option_map_or (λ z. z) o None) false) (same_at pool (there_is_other pool q at)) ∙ fit.gone pool q n p at there has;
       longest = λ n p at.
           subst (λ o. p.longest ≤ option_map_or (λ (c : Carried). c.contents.longest) (option_map_or (λ z. z) o None) 0) (sym (of_port n p at)) (fit.longest n p at);
       one = fit.one;

@@ -3,6 +3,7 @@ use Rattle.std.specs.Prelude.{◌≡◌, ℕ, Bool, true, false, ◌&&◌, if◌
 use Rattle.std.proofs.Common.{sym, ap, subst, ◌∙◌, true≢false}
 use Rattle.iox_model.specs.declared.kind.Kind.TheVariants as kinds
 use Rattle.iox_model.specs.declared.way.RequestState.TheVariants.{Named}
+use Rattle.iox_tables.specs.HubBooks.Hubs.{AreInOrder}
 use Rattle.iox_tables.specs.HubStates.Tables.{HandleState, HubTables}
 use Rattle.iox_tables.specs.HubStates.Changes.{emptied_lane, with_lanes}
 use Rattle.iox_tables.specs.HubStates.Ends.{OfEachHandle, changed_handles, with_dropped}
@@ -26,6 +27,7 @@ use Rattle.iox_control_request_copies.specs.Servers.{request_ways}
 use Rattle.iox_control_request_copies.specs.Responses.{is_shut, way_to_client, with_response_ended, with_response_offered, with_response_sent, with_way_emptied}
 use Rattle.iox_hub.specs.Fits.{SuitsHandle, WordsFit, is_of_request}
 use Rattle.iox_hub.specs.Words.{Carried}
+use Rattle.iox_hub.proofs.GoneFits.{gone_fit_alike}
 use Rattle.iox_hub.proofs.ReleasingFits.{fits_gone, fits_left, left_alike}
 
 -- ---- responses
@@ -96,10 +98,10 @@ pending_suits words h count kind is = record {
 
 -- ---- the calls
 
-module _ {many : Bool × Bool} (words : List (Option Carried)) (t t' : HubTables) (fit : WordsFit many words t) (kept : KeptPools t.pools t'.pools) (node n : ℕ) (h : HandleState) where
+module _ {many : Bool × Bool} (words : List (Option Carried)) (t t' : HubTables) (fit : WordsFit many words t) (order : AreInOrder t) (kept : KeptPools t.pools t'.pools) (node n : ℕ) (h : HandleState) where
   pub fits_response_sent : (fails : Bool) → t' ≡ record (with_released (with_response_ended t node n h fails) h.port) { pools = t'.pools } → WordsFit many words t'
   fits_response_sent fails is =
-      fits_gone words t t' fit kept (with_response_ended t node n h fails) h.port (left_alike t.ports (with_response_sent t h).ports (response_alike t h))
+      fits_gone words t t' fit order kept (with_response_ended t node n h fails) h.port (response_alike t h)
       (each_left (SuitsHandle words) node n (with_response_sent t h).handles
       (subst (λ hs. OfEachHandle (SuitsHandle words) hs) (sym (response_handles t h)) fit.handles))
       is
@@ -113,12 +115,14 @@ module _ {many : Bool × Bool} (words : List (Option Carried)) (t t' : HubTables
         (left_alike t.ports t'.ports
         (subst (λ (z : HubTables). AreAlike t.ports z.ports) (sym is) (request_alike back h t.settings.request_overflow ∙ back_alike t h)))
         kept
+        (gone_fit_alike words t t' fit.gone kept
+        (subst (λ (z : HubTables). AreAlike t.ports z.ports) (sym is) (request_alike back h t.settings.request_overflow ∙ back_alike t h)))
         (subst (λ (z : HubTables). OfEachHandle (SuitsHandle words) z.handles) (sym is)
         (each_changed (SuitsHandle words) (pending_of h (length (ways_of back h t.settings.request_overflow))) t.handles fit.handles
         (pending_suits words h (length (ways_of back h t.settings.request_overflow)) kind
         (handle_is (SuitsHandle words) t.handles node n h fit.handles there))))
     fits_request_sent ExceedsMaxActiveRequests is =
-        fits_gone words t t' fit kept (with_dropped t node n) h.port (left_alike t.ports t.ports refl) (each_left (SuitsHandle words) node n t.handles fit.handles) is
+        fits_gone words t t' fit order kept (with_dropped t node n) h.port refl (each_left (SuitsHandle words) node n t.handles fit.handles) is
     fits_request_sent UnableToDeliver is =
-        fits_gone words t t' fit kept (with_dropped (with_requests_back t h) node n) h.port (left_alike t.ports (with_requests_back t h).ports (back_alike t h))
+        fits_gone words t t' fit order kept (with_dropped (with_requests_back t h) node n) h.port (back_alike t h)
         (each_left (SuitsHandle words) node n t.handles fit.handles) is

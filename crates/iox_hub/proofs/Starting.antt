@@ -9,16 +9,11 @@ use Rattle.iox_tables.specs.HubStates.States.{Given, limits_of, no_id}
 use Rattle.iox_tables.specs.HubStates.Tables.{HubSettings}
 use Rattle.iox_tables.specs.HubMaking.Starts.{no_ports}
 use Rattle.iox_tables.proofs.HubMaking.Reaching.{starts_are_reached}
-use Rattle.iox_tables.specs.HubKeeping.Connected.{KeepsNone}
 use Rattle.iox_control.specs.Controls.{ControlState, HaveBuffers, IsControl, new_control}
 use Rattle.iox_hub.proofs.Fitting.{fits_none}
 use Rattle.iox_hub.specs.Hubs.{HubState, IsHub, given_by, state_of_hub}
 use Rattle.iox_hub.specs.Starts.{new_hub, started}
 use Rattle.iox_hub.specs.Words.{Carried}
-
--- ports keep nothing of those that are gone
-pub none_is_kept : (s t : HubSettings) → t ≡ started s → KeepsNone t
-none_is_kept s t is = subst KeepsNone (sym is) (record { clients = refl; servers = refl })
 
 -- at least one message may wait on each lane
 pub buffers_are_had : (s t : HubSettings) → t ≡ started s → HaveBuffers t
@@ -46,7 +41,7 @@ new_is_reached s request response request_is response_is =
     let h : HubState = new_hub s request response in
     let y : Given = given_by (given_first request response) h in
     starts_are_reached y (started s) (record {
-      limits = limits_of y (no_ports (record s { client_expired = 0; server_expired = 0 }));
+      limits = limits_of y (no_ports s);
       id = no_id;
       raises = refl;
       members = refl;
@@ -55,12 +50,12 @@ new_is_reached s request response request_is response_is =
     })
 
 pub hub_starts : (s t : HubSettings) (request response : Shape) (c : ControlState) (words : List (Option Carried)) → t ≡ started s → c ≡ new_control t
-    → (KeepsNone t → HaveBuffers t → IsControl c) → IsShape request → IsShape response → words ≡ []
+    → (HaveBuffers t → IsControl c) → IsShape request → IsShape response → words ≡ []
     → IsHub (record { control = c; words = words; request = request; response = response })
 hub_starts s t request response c words settings made order request_is response_is none =
     let is : c ≡ new_control (started s) = made ∙ ap new_control settings in
     record {
-      control = order (none_is_kept s t settings) (buffers_are_had s t settings);
+      control = order (buffers_are_had s t settings);
       words = fits_none c.tables (ap (λ (d : ControlState). d.tables.pools) is) (ap (λ (d : ControlState). d.tables.ports) is) (ap (λ (d : ControlState). d.tables.handles) is) words;
       reached = (
         given_first request response,

@@ -5,8 +5,9 @@ use Rattle.iox_model.specs.declared.kind.Kind.{Kind}
 use Rattle.iox_model.specs.declared.kind.Kind.TheVariants.{ActiveRequest, PendingResponse, RequestMut, ResponseMut}
 use Rattle.iox_model.specs.declared.kind.Role.{Role}
 use Rattle.iox_model.specs.Handles.{is_request_loan, same_kind}
-use Rattle.iox_model.specs.Settings.{is_client}
-use Rattle.iox_tables.specs.HubStates.Tables.{HandleState, HubTables, PortState, port_in, slot_at, slots_of}
+use Rattle.iox_model.specs.Maps.{has_number}
+use Rattle.iox_model.specs.Settings.{is_client, other_role}
+use Rattle.iox_tables.specs.HubStates.Tables.{HandleState, HubTables, PoolState, PortState, pool_at, port_in, senders_of, slot_at, slots_of}
 use Rattle.iox_tables.specs.HubStates.Ends.{OfEachHandle}
 use Rattle.iox_hub.specs.Words.{Carried, stored_in}
 
@@ -52,9 +53,18 @@ many_by many role = if is_client role then many.0 else many.1
 abbrev pub IsOneOfOne : Bool × Bool → PortState → Type 0
 IsOneOfOne many p = many_by many p.role ≡ false → p.longest ≡ 1
 
+-- What a port keeps of a port that is gone is of the other role: the words of that one's pool are
+-- of requests if the port is a server.
+abbrev pub GoneFit : List (Option Carried) → HubTables → Type 0
+GoneFit words t =
+    (place : ℕ) (q : PoolState) (n : ℕ) (p : PortState) → pool_at t.pools place ≡ Some q
+    → port_in t.ports n ≡ Some p → has_number q.port (senders_of p.expired.pipes) ≡ true
+    → are_requests_in words place ≡ is_client (other_role p.role)
+
 -- Each slot of a pool has words, of as many elements as it has. They are those of requests if the
--- pool is a client's, and if a handle that has a message of it is of a request. The words of
--- a port's messages have room for the greatest length that is not grown past.
+-- pool is a client's, and if a handle that has a message of it is of a request; and so it is of
+-- pools whose ports are gone. The words of a port's messages have room for the greatest length that
+-- is not grown past.
 pub record WordsFit (many : Bool × Bool) (words : List (Option Carried)) (t : HubTables)
     : Type 0
   where
@@ -65,6 +75,7 @@ pub record WordsFit (many : Bool × Bool) (words : List (Option Carried)) (t : H
     pub ports :
         (n : ℕ) (p : PortState) → port_in t.ports n ≡ Some p
         → are_requests_in words p.pool ≡ is_client p.role
+    pub gone : GoneFit words t
     pub longest :
         (n : ℕ) (p : PortState) → port_in t.ports n ≡ Some p
         → p.longest ≤ longest_in words p.pool

@@ -30,7 +30,7 @@ default_settings = record {
   server_allocation = allocations.Static;
 }
 
--- each limit of 0 is 1, and no port keeps messages of ports that are gone
+-- each limit of 0 is 1; those of what is kept of ports that are gone may be 0
 abbrev pub started : HubSettings → HubSettings
 started s = record s {
   clients = max 1 s.clients;
@@ -41,8 +41,6 @@ started s = record s {
   response_buffer = max 1 s.response_buffer;
   borrowed_responses = max 1 s.borrowed_responses;
   loaned_responses = max 1 s.loaned_responses;
-  client_expired = 0;
-  server_expired = 0;
 }
 
 -- no port was made

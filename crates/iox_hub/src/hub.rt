@@ -52,8 +52,8 @@ impl<Q: Payload, QH: Words, P: Payload, PH: Words> Model for Hub<Q, QH, P, PH> {
 }
 
 impl<Q: Payload, QH: Words, P: Payload, PH: Words> Hub<Q, QH, P, PH> {
-    /// A hub in which no port was made yet. A limit of 0 is raised to 1, and no port keeps messages
-    /// of ports that are gone. It fails only for want of memory.
+    /// A hub in which no port was made yet. A limit of 0 is raised to 1, but for those of what is
+    /// kept of ports that are gone. It fails only for want of memory.
     pub fn new(
         alloc: Global,
         settings: Settings,

@@ -166,7 +166,7 @@ fn lesser_value(port: Option<Numbered>, handle: Option<Numbered>) -> Option<Numb
 
 impl<Q: Payload, QH: Words, P: Payload, PH: Words> Hub<Q, QH, P, PH> {
     /// The numbers and strategies of its service: what the hub was made with, where each limit of 0
-    /// is 1 and no port keeps messages of ports that are gone.
+    /// is 1, but for those of what is kept of ports that are gone.
     #[inline]
     pub fn settings(&self) -> Settings
         ensures { settings_of result ≡ self.now.control.tables.settings }

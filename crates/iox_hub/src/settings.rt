@@ -31,7 +31,7 @@ pub fn default_settings() -> Settings
     }
 }
 
-/// Each limit of 0 is 1, and no port keeps messages of ports that are gone.
+/// Each limit of 0 is 1; those of what is kept of ports that are gone may be 0.
 pub fn started(settings: Settings) -> Settings
     ensures { settings_of result ≡ started (settings_of settings) }
 {
@@ -44,8 +44,6 @@ pub fn started(settings: Settings) -> Settings
         response_buffer: settings.response_buffer.max(1),
         borrowed_responses: settings.borrowed_responses.max(1),
         loaned_responses: settings.loaned_responses.max(1),
-        client_expired: 0,
-        server_expired: 0,
         ..settings
     }
 }

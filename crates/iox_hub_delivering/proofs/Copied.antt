@@ -8,7 +8,7 @@ use Rattle.iox_model.specs.Handles.{is_received, is_request_loan, is_response_lo
 use Rattle.iox_model.specs.Loans.{kind_of_loan}
 use Rattle.iox_model.specs.Maps.{has_number}
 use Rattle.iox_lanes.specs.Lanes.{LaneState}
-use Rattle.iox_tables.specs.HubStates.Tables.{HandleState, HubTables, PoolState, PortState, numbers_of}
+use Rattle.iox_tables.specs.HubStates.Tables.{HandleState, HubTables, PoolState, PortState, numbers_of, senders_of}
 use Rattle.iox_tables.specs.HubStates.Ways.{OnWays, lane_on, with_lanes_on, with_port}
 use Rattle.iox_tables.specs.HubStates.Ends.{changed_handles, dropped_handles}
 use Rattle.iox_tables.specs.HubStates.Sendings.{pending_of}
@@ -20,14 +20,14 @@ use Rattle.iox_tables.proofs.HubBooks.Frames.{AreAlike, lanes_on_bare}
 use Rattle.iox_tables.proofs.HubBooks.Going.{of_port_stays}
 use Rattle.iox_tables.proofs.HubBooks.Held.{each_handle_from}
 use Rattle.iox_tables.proofs.HubBooks.Released.{loan_releases_keep_order}
-use Rattle.iox_tables.proofs.HubBooks.Structures.{lanes_stay, pool_before, pools_stay, same_lane, same_numbers, same_role_in, widths_stay, wired_stay}
+use Rattle.iox_tables.proofs.HubBooks.Structures.{lanes_stay, low_kept, pool_before, pools_stay, same_lane, same_numbers, same_role_in, widths_stay, wired_stay}
 use Rattle.iox_tables.specs.HubLoans.Lenders.{Lender}
 use Rattle.iox_tables.specs.HubLoans.Loans.{loaned_handle, loaned_slot, with_loaned, with_loaned_slot}
 use Rattle.iox_tables.specs.HubLending.Keeping.{HasMessage, HaveMessages}
 use Rattle.iox_tables.specs.HubLending.Lending.{MayLend}
 use Rattle.iox_tables.proofs.HubLending.Lent.{loans_keep_order}
 use Rattle.iox_tables.proofs.HubLending.NewSlot as new_slot
-use Rattle.iox_tables.proofs.HubLending.OneMore.{lanes_same, numbers_same, one_loan, role_same}
+use Rattle.iox_tables.proofs.HubLending.OneMore.{lanes_same, numbers_same, one_loan, role_same, was}
 use Rattle.iox_hub_delivering.specs.Copies.{FailedCopiesKeepOrder, RequestCopiesKeepOrder, ResponseCopiesKeepOrder}
 use Rattle.iox_hub_delivering.specs.Deliveries.{HasDelivered, HasHandedOver}
 use Rattle.iox_hub_delivering.proofs.Delivered.{delivered_requests_keep_order, delivered_responses_keep_order}
@@ -43,6 +43,7 @@ renumbered t m order numbers = record {
   once = order.once;
   lanes = lanes_stay t (record t { next_number = m }) order refl refl refl;
   labels = order.labels;
+  owners = order.owners;
   widths = widths_stay t (record t { next_number = m }) order refl refl refl;
   wired = wired_stay t (record t { next_number = m }) order refl refl refl;
   numbers = numbers;
@@ -129,6 +130,9 @@ module _ (t : HubTables) (order : AreInOrder t) (y : Lender) (k slot : ℕ) (len
               let p = pool_before u.pools between bared place q at in
               let a = new_slot.pool_before t y.port.pool slot (loaned_slot y k) lends.free place p.0 p.1 in
               subst (λ i. i < t.next_number) (a.2 ∙ ap (λ (x : PoolState). x.port) p.2) (order.numbers.owners place a.0 a.1);
+          kept = λ m p at j has.
+              let b = was ports y.port.number m p at in
+              low_kept t.ports ports alike t.next_number order.numbers.kept m b.port b.there j (ap (λ (x : PortState). has_number j (senders_of x.expired.pipes)) b.same ∙ has);
         })
 
   -- ---- sends

@@ -4,7 +4,7 @@ use Rattle.std.proofs.Common.{sym, ap, subst, ◌∙◌, arith, inl, inr}
 use Rattle.iox_model.specs.declared.way.Way.{Way}
 use Rattle.iox_model.specs.Maps.{AreDistinct, has_number}
 use Rattle.iox_lanes.specs.Lanes.{LaneState}
-use Rattle.iox_tables.specs.HubStates.Tables.{HandleState, HubTables, PortState, pool_at, port_in, slot_at}
+use Rattle.iox_tables.specs.HubStates.Tables.{HandleState, HubTables, PortState, pool_at, port_in, slot_at, senders_of}
 use Rattle.iox_tables.specs.HubStates.Ways.{OnWays, lane_on}
 use Rattle.iox_tables.specs.HubStates.Ends.{with_loan}
 use Rattle.iox_tables.specs.HubBooks.Counts.{handle_uses, lane_count}
@@ -59,6 +59,8 @@ module _ (t : HubTables) (n : ℕ) (order : AreInOrder t) where
     apart = subst (λ ns. AreDistinct (ns ++ map (λ h. h.number) t.handles)) (sym (numbers_same t.ports n)) order.numbers.apart;
     below = λ m has. order.numbers.below m (subst (λ ns. has_number m (ns ++ map (λ h. h.number) t.handles) ≡ true) (numbers_same t.ports n) has);
     owners = order.numbers.owners;
+    kept = λ m p at j has.
+        let b = had m p at in order.numbers.kept m b.port b.there j (ap (λ (x : PortState). has_number j (senders_of x.expired.pipes)) b.same ∙ has);
   }
 
   of_port : (h : HandleState) → IsOfPort t h → IsOfPort u h
@@ -91,6 +93,7 @@ module _ (t : HubTables) (n : ℕ) (order : AreInOrder t) where
     once = all_same t.ports n HasEachPlaceOnce order.once;
     lanes = senders_stay t u order n refl refl;
     labels = λ w l k at client has. order.labels w l k (sym (lane_was w) ∙ at) (sym (role_same t.ports n w.receiver) ∙ client) has;
+    owners = λ w l k at has. order.owners w l k (sym (lane_was w) ∙ at) has;
     widths = widths_stay t u order n refl refl;
     wired = wired_stay t u order n refl refl;
     numbers = numbers;

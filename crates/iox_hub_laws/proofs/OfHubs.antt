@@ -19,9 +19,10 @@ use Rattle.iox_hub_laws.specs.Histories.{AreAsDelivered, ComeAtMostOnce, ComeAtT
 use Rattle.iox_hub_laws.specs.Limits.{BorrowsHold, BuffersHold}
 use Rattle.iox_hub_laws.specs.Shown.{beats_of}
 use Rattle.iox_hub_laws.specs.Slots.{SlotsAreOfHolders}
-use Rattle.iox_hub_laws.specs.Gone.{KeepsNoGone}
+use Rattle.iox_tables.specs.HubKeeping.Connected.{KeepsNone}
+use Rattle.iox_hub_laws.specs.Gone.{KeepsFewGone, KeepsNoGone}
 use Rattle.iox_hub_laws.proofs.Holders.{among_one, slots_are_of_holders}
-use Rattle.iox_hub_laws.proofs.Within.{buffers_hold, keeps_no_gone}
+use Rattle.iox_hub_laws.proofs.Within.{buffers_hold, keeps_few_gone, keeps_no_gone}
 
 pub come_at_most_once : (h : HubState) → ComeAtMostOnce h
 come_at_most_once h = record {
@@ -62,5 +63,8 @@ hub_buffers_hold {h} hub = buffers_hold h.control.tables hub.control.order (give
 pub hub_slots : {h : HubState} → IsHub h → SlotsAreOfHolders h.control.tables
 hub_slots {h} hub = slots_are_of_holders h.control.tables hub.control.order
 
-pub hub_keeps_no_gone : {h : HubState} → IsHub h → KeepsNoGone h.control.tables
-hub_keeps_no_gone {h} hub = keeps_no_gone h.control.tables hub.control.order
+pub hub_keeps_few_gone : {h : HubState} → IsHub h → KeepsFewGone h.control.tables
+hub_keeps_few_gone {h} hub = keeps_few_gone h.control.tables hub.control.order
+
+pub hub_keeps_no_gone : {h : HubState} → IsHub h → KeepsNone h.control.tables.settings → KeepsNoGone h.control.tables
+hub_keeps_no_gone {h} hub none = keeps_no_gone h.control.tables hub.control.order none

@@ -20,7 +20,10 @@ pub use iox_hub::{
     PreallocatedRequestsOverride, PreallocatedResponseOverride, Received, Requested, Responded,
     Settings, Written, default_settings,
 };
-pub use limits::{borrows_hold, buffers_hold, nothing_is_kept_of_the_gone, slots_are_of_holders};
+pub use limits::{
+    borrows_hold, buffers_hold, few_are_kept_of_the_gone, nothing_is_kept_of_the_gone,
+    slots_are_of_holders,
+};
 pub use loans::{lend_request, lend_response};
 pub use receives::{receive_request, receive_response};
 pub use sends::{send_request, send_response};

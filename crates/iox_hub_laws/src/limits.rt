@@ -1,6 +1,7 @@
 //! What holds of a hub between calls: who has which messages, and how many. The functions have
 //! nothing to do: each is there for its contract.
-ghost use Rattle.iox_hub_laws.specs.Gone.{KeepsNoGone};
+ghost use Rattle.iox_tables.specs.HubKeeping.Connected.{KeepsNone};
+ghost use Rattle.iox_hub_laws.specs.Gone.{KeepsFewGone, KeepsNoGone};
 ghost use Rattle.iox_hub_laws.specs.Limits.{BorrowsHold, BuffersHold};
 ghost use Rattle.iox_hub_laws.specs.Slots.{SlotsAreOfHolders};
 
@@ -8,7 +9,7 @@ use iox_hub::Hub;
 use iox_store::Payload;
 use iox_words::Words;
 
-/// On each way at most the buffer waits.
+/// On each way at most the buffer waits, even if its sender is gone.
 pub fn buffers_hold<Q: Payload, QH: Words, P: Payload, PH: Words>(hub: &Hub<Q, QH, P, PH>)
     ensures { BuffersHold hub.now.control.tables }
 {
@@ -29,11 +30,22 @@ pub fn slots_are_of_holders<Q: Payload, QH: Words, P: Payload, PH: Words>(hub: &
     hub.is_in_order();
 }
 
-/// Each lane is between connected ports, and each handle is of a connected port.
+/// Each lane leads to a connected port, from another one or from one that is gone and that the port
+/// keeps. A port keeps no more of these than its service says. Each handle is of a connected port.
+pub fn few_are_kept_of_the_gone<Q: Payload, QH: Words, P: Payload, PH: Words>(
+    hub: &Hub<Q, QH, P, PH>,
+)
+    ensures { KeepsFewGone hub.now.control.tables }
+{
+    hub.is_in_order();
+}
+
+/// Where the service keeps nothing of ports that are gone, each lane is between connected ports, and
+/// each handle is of a connected port.
 pub fn nothing_is_kept_of_the_gone<Q: Payload, QH: Words, P: Payload, PH: Words>(
     hub: &Hub<Q, QH, P, PH>,
 )
-    ensures { KeepsNoGone hub.now.control.tables }
+    ensures { KeepsNone hub.now.control.tables.settings → KeepsNoGone hub.now.control.tables }
 {
     hub.is_in_order();
 }

@@ -16,6 +16,7 @@ use Rattle.iox_tables.specs.HubStates.Tables.{PortState, numbers_of, pipe_from, 
 use Rattle.iox_tables.specs.HubStates.Ways.{lane_on, lanes_from, state_on, states_from, with_lane_on, with_pipe_of, with_pipes}
 use Rattle.iox_tables.specs.HubStates.Wirings.{numbers_of_role}
 use Rattle.iox_hub_ports.specs.declared.info.PortInfo.{PortInfo}
+use Rattle.iox_tables.specs.HubMaking.Expirings.{gone_with}
 use Rattle.iox_tables.specs.HubMaking.OneByOne.{without_first_by}
 
 -- a port with that information, and what comes to it
@@ -82,6 +83,10 @@ without_pipe_from p sender = record p {
   incoming = with_pipes p.incoming (without_first_by (λ q. q.sender) p.incoming.pipes sender);
 }
 
+-- the pipe that goes with this connected sender: the first from it, or one that is given up for it
+abbrev pub gone_from : PortState → ℕ → Option PipeState
+gone_from p sender = gone_with p.expired (pipe_from p.incoming.pipes sender)
+
 -- one more pipe leads to the port, where there is room
 abbrev pub with_connected : PortState → PipeState → PortState
 with_connected p pipe = record p { incoming = connected p.incoming pipe }
@@ -140,6 +145,11 @@ place_in ports n = position_from (λ p. p.number == n) 0 ports
 -- what is said of the port in that place
 abbrev pub info_at : List PortState → ℕ → Option PortInfo
 info_at ports place = option_map info_of (slice_get ports place)
+
+-- how many pipes from ports that are gone lead to the port in that place
+abbrev pub kept_at : List PortState → ℕ → ℕ
+kept_at ports place =
+    option_map_or (λ (p : PortState). length p.expired.pipes) (slice_get ports place) 0
 
 -- the lowest lane from the sender on which the receiver left something to get back
 abbrev pub lane_to_get_on : List PipeState → ℕ → Option ℕ

@@ -1,6 +1,6 @@
 //! A connected port, and what comes to it.
 ghost use Rattle.std.specs.Option.{option_map};
-ghost use Rattle.std.specs.Prelude.{◌≡◌, ◌<◌, ◌+◌, ◌^◌, ◌-◌, IfSome, None, Some, List, is_some, slice_get, ℕ, true};
+ghost use Rattle.std.specs.Prelude.{◌≡◌, ◌<◌, ◌+◌, ◌^◌, ◌-◌, IfSome, None, Some, List, is_some, length, slice_get, ℕ, true};
 ghost use Rattle.iox_tables.specs.HubStates.Asks.{waits_for};
 ghost use Rattle.iox_tables.specs.HubStates.Receives.{both_visits, visited_port};
 ghost use Rattle.iox_tables.specs.Visits.TheVariants.{AtLimit};
@@ -10,7 +10,8 @@ ghost use Rattle.iox_tables.specs.Pipes.{IsSoundAt};
 ghost use Rattle.iox_tables.specs.HubStates.Ways.{lanes_from};
 ghost use Rattle.iox_tables.specs.Lanes.{is_full, returned_times, without_returned};
 ghost use Rattle.iox_tables.specs.Visited.{all_visits};
-ghost use Rattle.iox_hub_ports.specs.Ports.{info_of, lane_to_get_on, on_lane_from, port_of, state_from, with_connected};
+ghost use Rattle.iox_tables.specs.HubMaking.OneByOne.{without_first_pipe};
+ghost use Rattle.iox_hub_ports.specs.Ports.{gone_from, info_of, lane_to_get_on, on_lane_from, port_of, state_from, with_connected};
 ghost use Rattle.iox_hub_ports.specs.Ports.{with_lane_from, with_loan_counted, with_state_from, without_pipe_from, without_value};
 
 use crate::info::PortInfo;
@@ -85,6 +86,13 @@ impl Port {
         ensures { result ≡ self.now.role }
     {
         self.info.role
+    }
+
+    /// How many pipes from ports that are gone lead to it.
+    pub fn kept(&self) -> usize
+        ensures { result ≡ length self.now.expired.pipes }
+    {
+        self.expired.len()
     }
 
     /// Counts one loan more.
@@ -276,5 +284,31 @@ impl Port {
             Some(rank) => self.incoming.disconnect(rank),
             None => None,
         }
+    }
+
+    /// This connected sender is gone: the pipe from it is kept, as the last of those from ports
+    /// that are gone, if something waits there. It tells the pipe that goes: that one, or one that
+    /// is given up for it. It takes no memory.
+    pub fn expire(&mut self, sender: u64) -> Option<Pipe>
+        ensures gone { result ≡ gone_from self.old sender }
+        ensures left { self.new ≡ without_first_pipe sender self.old }
+    {
+        match self.disconnect(sender) {
+            None => None,
+            Some(pipe) => {
+                if pipe.has_waiting_on_any() {
+                    return self.expired.keep(pipe);
+                }
+                Some(pipe)
+            }
+        }
+    }
+
+    /// The pipes from ports that are gone, and those from connected ports, of a port that goes.
+    pub fn into_pipes(self) -> (Incoming, Incoming)
+        ensures expired { result.0 ≡ self.expired }
+        ensures incoming { result.1 ≡ self.incoming }
+    {
+        (self.expired, self.incoming)
     }
 }

@@ -9,10 +9,11 @@ ghost use Rattle.iox_tables.specs.Lanes.{is_taken, released};
 ghost use Rattle.iox_tables.specs.Visited.{all_visits};
 ghost use Rattle.iox_tables.specs.HubStates.Asks.{waits_for};
 ghost use Rattle.iox_tables.specs.HubStates.Receives.{visited_port};
-ghost use Rattle.iox_tables.specs.HubStates.Tables.{numbers_of, pipe_from, pipes_to, port_in};
+ghost use Rattle.iox_tables.specs.HubStates.Tables.{numbers_of, pipes_to, port_in};
+ghost use Rattle.iox_tables.specs.HubMaking.OneByOne.{without_first_pipe};
 ghost use Rattle.iox_tables.specs.HubStates.Ways.{with_lane_on, with_port, with_state_on};
-ghost use Rattle.iox_hub_ports.specs.Ports.{info_at, info_in, no_ports, on_way, place_in, with_connected, with_loan_counted};
-ghost use Rattle.iox_hub_ports.specs.Ports.{with_port_added, with_port_removed, with_ports, without_pipe_from, without_value};
+ghost use Rattle.iox_hub_ports.specs.Ports.{gone_from, info_at, info_in, kept_at, no_ports, on_way, place_in, with_connected, with_loan_counted};
+ghost use Rattle.iox_hub_ports.specs.Ports.{with_port_added, with_port_removed, with_ports, without_value};
 
 mod sender;
 mod states;
@@ -210,6 +211,16 @@ impl Ports {
         None
     }
 
+    /// How many pipes from ports that are gone lead to the port in that place.
+    pub fn kept(&self, place: usize) -> usize
+        ensures { result ≡ kept_at self.now.ports place }
+    {
+        if place < self.ports.len() {
+            return self.ports[place].kept();
+        }
+        0
+    }
+
     /// Counts one loan more of the port of that number.
     pub fn count_loan(&mut self, number: u64)
         requires { option_map_or (λ p. p.loans) (port_in self.old.ports number) 0 < 2 ^ 64 - 1 }
@@ -282,16 +293,16 @@ impl Ports {
         }
     }
 
-    /// Takes the pipe from this connected sender to the port of that number out, if there is one.
-    pub fn disconnect(&mut self, number: u64, sender: u64) -> Option<Pipe>
-        ensures pipe { result
-            ≡ option_map_or (λ p. pipe_from p.incoming.pipes sender)
-            (port_in self.old.ports number) None }
-        ensures disconnected { self.new ≡ with_ports self.old
-            (with_port (λ p. without_pipe_from p sender) self.old.ports number) }
+    /// This connected sender to the port of that number is gone: the pipe from it is kept if
+    /// something waits there. It tells the pipe that goes, if one does.
+    pub fn expire(&mut self, number: u64, sender: u64) -> Option<Pipe>
+        ensures gone { result
+            ≡ option_map_or (λ p. gone_from p sender) (port_in self.old.ports number) None }
+        ensures left { self.new ≡ with_ports self.old
+            (with_port (without_first_pipe sender) self.old.ports number) }
     {
         match self.place(number) {
-            Some(place) => self.ports[place].disconnect(sender),
+            Some(place) => self.ports[place].expire(sender),
             None => None,
         }
     }

@@ -1,6 +1,6 @@
 //! Callers, proved from the clauses alone.
-ghost use Rattle.std.specs.Prelude.{◌≡◌, IfOk, None, Some, true, false};
-ghost use Rattle.iox_model.specs.declared.kind.Role.TheVariants.{Server};
+ghost use Rattle.std.specs.Prelude.{◌≡◌, ℕ, IfOk, None, Some, true, false};
+ghost use Rattle.iox_model.specs.declared.kind.Role.TheVariants.{Client, Server};
 ghost use Rattle.iox_model.specs.declared.way.RequestState.TheVariants.{Closed, Named};
 ghost use Rattle.iox_tables.specs.Visits.TheVariants.{Got};
 ghost use Rattle.iox_tables.specs.Incomings.{connected, no_pipes};
@@ -111,4 +111,61 @@ pub fn comes_and_goes(alloc: Global, id: UniqueSystemId) -> Result<(bool, usize)
     ports.add(one_server(alloc, id)?);
     ports.remove(2);
     Ok((ports.find(2).is_some(), ports.room()))
+}
+
+/// A client of number 1, with room for what waits from so many ports that are gone.
+pub fn one_client(alloc: Global, id: UniqueSystemId, room: usize) -> Result<Port, AllocError>
+    ensures { IfOk result (λ p. (p.number ≡ 1) × (p.role ≡ Client)
+        × (p.expired ≡ no_pipes room) × (p.incoming ≡ no_pipes 2)) }
+{
+    let info = PortInfo {
+        number: 1,
+        node: 0,
+        role: Role::Client,
+        node_id: id,
+        id,
+        pool: 0,
+        size: 1,
+        longest: 8,
+        grows: false,
+        strategy: BackpressureStrategy::DiscardData,
+        loaned_responses: 1,
+        held: true,
+        loans: 0,
+    };
+    Ok(Port::new(info, Incoming::new(alloc, room)?, Incoming::new(alloc, 2)?))
+}
+
+/// The way of responses from that server to client 1.
+fn from_server(sender: u64) -> Way
+    ensures { result ≡ record { sender = sender; receiver = 1; lane = 0 } }
+{
+    Way {
+        sender,
+        receiver: 1,
+        lane: 0,
+    }
+}
+
+/// Two servers answer a client and go. With room for two it gets both answers, the older first.
+pub fn both_are_kept(
+    alloc: Global,
+    id: UniqueSystemId,
+    label: Label,
+    first: u64,
+    second: u64,
+) -> Result<(Visits, Visits), AllocError>
+    ensures { IfOk result (λ r. r ≡ (Got 2 5 first, Got 3 6 second)) }
+{
+    let mut ports = Ports::new(alloc, 1)?;
+    ports.add(one_client(alloc, id, 2)?);
+    ports.connect(1, Pipe::new(alloc, 2, 5, 1, 1, 1, 1)?);
+    ports.connect(1, Pipe::new(alloc, 3, 6, 1, 1, 1, 1)?);
+    ports.deliver(from_server(2), first);
+    ports.deliver(from_server(3), second);
+    ports.expire(1, 2);
+    ports.expire(1, 3);
+    let labels = OneLabel { label };
+    let got = ports.visit(1, 0, Wanted::Any, &labels);
+    Ok((got, ports.visit(1, 0, Wanted::Any, &labels)))
 }

@@ -1,5 +1,5 @@
 -- What comes to one port, as its callers see it.
-use Rattle.std.specs.Prelude.{ℕ, Bool, false, ◌==◌, List, [], ◌∷◌, ◌++◌, if◌then◌else◌, length, nat_lt, Option, slice_get, slice_set}
+use Rattle.std.specs.Prelude.{ℕ, Bool, false, ◌==◌, List, [], ◌∷◌, ◌++◌, if◌then◌else◌, drop, length, nat_lt, Option, Some, None, slice_get, slice_set}
 use Rattle.std.specs.List.{list_any, position_from, remove}
 use Rattle.std.specs.Option.{option_map_or}
 use Rattle.iox_lanes.specs.declared.wanted.Wanted.{Wanted}
@@ -35,6 +35,20 @@ connected c p = if has_room_for c then record c { pipes = c.pipes ++ p ∷ [] } 
 abbrev pub disconnected : IncomingState → ℕ → IncomingState
 disconnected c rank =
     option_map_or (λ _. record c { pipes = remove c.pipes rank }) (slice_get c.pipes rank) c
+
+-- ---- pipes that are kept
+
+-- one more is kept, as the last; where there is no room the oldest is given up for it, and where
+-- there is room for none the new one is
+abbrev pub with_kept : IncomingState → PipeState → IncomingState
+with_kept c p =
+    if has_room_for c then record c { pipes = c.pipes ++ p ∷ [] }
+    else (if nat_lt 0 c.most then record c { pipes = drop 1 c.pipes ++ p ∷ [] } else c)
+
+-- the pipe that is given up
+abbrev pub given_up_for : IncomingState → PipeState → Option PipeState
+given_up_for c p =
+    if has_room_for c then None else (if nat_lt 0 c.most then slice_get c.pipes 0 else Some p)
 
 -- what the pipe of that rank says; `none` where there is no such pipe
 abbrev pub on_pipe : {A : Type 0} → (PipeState → A) → A → IncomingState → ℕ → A

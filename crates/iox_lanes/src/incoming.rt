@@ -1,13 +1,13 @@
 //! What comes to one port, from each port that is connected to it.
 ghost use Rattle.std.specs.Option.{option_map};
-ghost use Rattle.std.specs.Prelude.{◌≡◌, IfOk, IfSome, None, Some, ◌<◌, false, is_some, length, slice_get, true};
+ghost use Rattle.std.specs.Prelude.{◌≡◌, ◌-◌, IfOk, IfSome, None, Some, ◌<◌, false, is_some, length, slice_get, take, true};
 ghost use Rattle.std.specs.Vec.{vec_capacity};
 ghost use Rattle.iox_model.specs.declared.way.RequestState.TheVariants.{Closed};
 ghost use Rattle.iox_lanes.specs.Lanes.{offered, has_room, is_full, is_taken, oldest, released, returned_times, without_oldest, without_returned};
 ghost use Rattle.iox_lanes.specs.Pipes.{IsSoundAt, PipeState, closed, hinted, lane_to_get, opened};
 ghost use Rattle.iox_lanes.specs.Searches.{state_on};
 ghost use Rattle.iox_lanes.specs.Visited.{all_visited, all_visits};
-ghost use Rattle.iox_lanes.specs.Incomings.{IncomingState, all_visited_of, connected, disconnected, has_room_for, has_waiting_from_any, no_pipes, on_lane_of, on_pipe, rank_from, with_lane_of, with_pipe};
+ghost use Rattle.iox_lanes.specs.Incomings.{IncomingState, all_visited_of, connected, disconnected, given_up_for, has_room_for, has_waiting_from_any, no_pipes, on_lane_of, on_pipe, rank_from, with_kept, with_lane_of, with_pipe};
 
 use crate::pipe::{Next, Pipe};
 use crate::search::LaneVisit;
@@ -134,6 +134,33 @@ impl Incoming {
             return Some(self.pipes.remove(rank));
         }
         None
+    }
+
+    /// Keeps one more pipe, as the last. Where there is no room the oldest is given up for it, and
+    /// where there is room for none the new one is. It tells which is given up. It takes no memory.
+    pub fn keep(&mut self, pipe: Pipe) -> Option<Pipe>
+        ensures given_up { result ≡ given_up_for self.old pipe }
+        ensures kept { self.new ≡ with_kept self.old pipe }
+    {
+        if self.pipes.len() < self.most {
+            self.pipes.push_reserved(pipe);
+            return None;
+        }
+        if self.most == 0 {
+            return Some(pipe);
+        }
+        let oldest = self.pipes.remove(0);
+        self.pipes.push_reserved(pipe);
+        Some(oldest)
+    }
+
+    /// Takes the last pipe out, if there is one.
+    pub fn take_pipe(&mut self) -> Option<Pipe>
+        ensures last { result ≡ slice_get self.old.pipes (length self.old.pipes - 1) }
+        ensures left { self.new
+            ≡ record (self.old) { pipes = take (length self.old.pipes - 1) self.old.pipes } }
+    {
+        self.pipes.pop()
     }
 
     // ---- a sender

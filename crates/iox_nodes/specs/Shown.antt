@@ -61,8 +61,7 @@ service_of v =
       response = v.response;
     })
 
--- the limits that these settings ask for, with such messages; a hub keeps nothing of ports that
--- are gone
+-- the limits that these settings ask for, with such messages
 abbrev pub limits_for : HubSettings → Shape → Shape → Limits
 limits_for s request response = record {
   clients = s.clients;
@@ -73,8 +72,8 @@ limits_for s request response = record {
   response_buffer = s.response_buffer;
   borrowed_responses = s.borrowed_responses;
   loaned_responses = s.loaned_responses;
-  client_expired = 0;
-  server_expired = 0;
+  client_expired = s.client_expired;
+  server_expired = s.server_expired;
   request_overflow = s.request_overflow;
   response_overflow = s.response_overflow;
   fire_and_forget = s.fire_and_forget;

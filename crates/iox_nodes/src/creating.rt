@@ -32,7 +32,7 @@ fn is_too_large(settings: &Settings) -> bool
 impl<Q: Payload, QH: Words, P: Payload, PH: Words> Service<Q, QH, P, PH> {
     /// The service of that number, with its first node, which has number 0 and that id. `asked` is
     /// the first of the creator's tests by types that fails, if one does. A limit of 0 is raised to
-    /// 1, and no port keeps messages of ports that are gone.
+    /// 1, but for those of what is kept of ports that are gone.
     ///
     /// It is refused as `InvalidNodeId`, by what is asked, as `LimitTooLarge`, and as
     /// `WantOfMemory`, in this order.

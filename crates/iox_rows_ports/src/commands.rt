@@ -4,6 +4,7 @@ ghost use Rattle.std.specs.Prelude.{IfOk};
 ghost use Rattle.iox_port_commands.specs.Applying.{HaveDefaults};
 
 mod exchanges;
+mod expired;
 mod growing;
 mod limits;
 mod names;
@@ -81,8 +82,9 @@ const OPTIONS: PortOptions<u64> = PortOptions {
     handler: None,
 };
 
-/// A hub whose elements have the default 7, and whose requests have a user header of 3.
-fn hub(alloc: Global) -> Result<TheHub, AllocError>
+/// A hub of these settings, whose elements have the default 7, and whose requests have a user header
+/// of 3.
+fn hub(alloc: Global, settings: Settings) -> Result<TheHub, AllocError>
     ensures { IfOk result (λ h. HaveDefaults h) }
 {
     let request: MessageShape<u64, u32> = MessageShape {
@@ -99,7 +101,7 @@ fn hub(alloc: Global) -> Result<TheHub, AllocError>
         user_part: PART,
         element_part: PART,
     };
-    Hub::new(alloc, settings(), request, response)
+    Hub::new(alloc, settings, request, response)
 }
 
 /// The reply without its list.
@@ -283,9 +285,14 @@ fn goes(rt: &impl Abort, hub: &mut TheHub, alloc: Global, list: &[Row]) -> Resul
     Ok(())
 }
 
-/// The same of a new hub.
-fn plays(rt: &impl Abort, alloc: Global, list: &[Row]) -> Result<(), Fail> {
-    let mut hub = hub(alloc)?;
+/// The same of a new hub of these settings.
+fn plays_in(rt: &impl Abort, alloc: Global, settings: Settings, list: &[Row]) -> Result<(), Fail> {
+    let mut hub = hub(alloc, settings)?;
     goes(rt, &mut hub, alloc, list)?;
     Ok(())
+}
+
+/// The same of a new hub, whose settings are the first ones.
+fn plays(rt: &impl Abort, alloc: Global, list: &[Row]) -> Result<(), Fail> {
+    plays_in(rt, alloc, settings(), list)
 }

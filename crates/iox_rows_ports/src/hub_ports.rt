@@ -31,7 +31,14 @@ impl Labels for NoLabel {
     }
 }
 
-fn a_port(alloc: Global, number: u64, role: Role, pipes: usize) -> Result<Port, AllocError>
+/// A port, with room for so many pipes from ports that are gone, and from connected ones.
+fn a_port(
+    alloc: Global,
+    number: u64,
+    role: Role,
+    kept: usize,
+    pipes: usize,
+) -> Result<Port, AllocError>
     ensures { IfOk result (λ p. (p.number ≡ number) × (p.loans ≡ 0)) }
 {
     let id = UniqueSystemId {
@@ -55,18 +62,18 @@ fn a_port(alloc: Global, number: u64, role: Role, pipes: usize) -> Result<Port, 
         held: true,
         loans: 0,
     };
-    let expired = Incoming::new(alloc, 0)?;
+    let expired = Incoming::new(alloc, kept)?;
     Ok(Port::new(info, expired, Incoming::new(alloc, pipes)?))
 }
 
 /// Client 1, and the servers 2 and 3. From the client a pipe leads to each server.
 fn one_client_two_servers(alloc: Global) -> Result<Ports, AllocError> {
     let mut ports = Ports::new(alloc, 1)?;
-    ports.add(a_port(alloc, 1, Role::Client, 2)?);
+    ports.add(a_port(alloc, 1, Role::Client, 0, 2)?);
     ports.count_loan(1);
     ports.reserve(2)?;
-    ports.add(a_port(alloc, 2, Role::Server, 1)?);
-    ports.add(a_port(alloc, 3, Role::Server, 1)?);
+    ports.add(a_port(alloc, 2, Role::Server, 0, 1)?);
+    ports.add(a_port(alloc, 3, Role::Server, 0, 1)?);
     ports.connect(2, Pipe::new(alloc, 1, 0, 1, 1, 1, 2)?);
     ports.connect(3, Pipe::new(alloc, 1, 0, 1, 1, 1, 2)?);
     Ok(ports)
@@ -101,9 +108,9 @@ fn seen(ports: &Ports, number: u64) -> Option<(u64, bool)> {
     Some((info.loans, info.held))
 }
 
-/// Who was disconnected.
-fn disconnect(ports: &mut Ports, number: u64, sender: u64) -> Option<u64> {
-    Some(ports.disconnect(number, sender)?.sender())
+/// From whom the pipe came that goes, as a sender is gone.
+fn expire(ports: &mut Ports, number: u64, sender: u64) -> Option<u64> {
+    Some(ports.expire(number, sender)?.sender())
 }
 
 /// The number of what was removed.
@@ -123,7 +130,7 @@ fn ports_are_found_until_they_go(rt: HostRuntime) -> Result<(), Fail> {
         &rt,
         !ports.connect(2, Pipe::new(rt.alloc(), 4, 1, 1, 1, 1, 0)?),
     );
-    equal(&rt, disconnect(&mut ports, 2, 1), Some(1));
+    equal(&rt, expire(&mut ports, 2, 1), Some(1));
     equal(&rt, remove(&mut ports, 2), Some(2));
     equal(&rt, remove(&mut ports, 2), None);
     equal(&rt, number_at(&ports, 1), Some(3));
@@ -207,5 +214,62 @@ fn requests_are_open_with_each_server(rt: HostRuntime) -> Result<(), Fail> {
     let mut ports = one_client_two_servers(rt.alloc())?;
     opens_and_closes(&rt, &mut ports);
     hints_and_opens(&rt, &mut ports);
+    Ok(())
+}
+
+/// Client 1, with room for what waits from so many servers that are gone. Server 2 delivered
+/// message 10 to it, and server 3 message 20.
+fn two_answered(rt: &impl Abort, alloc: Global, room: usize) -> Result<Ports, AllocError> {
+    let mut ports = Ports::new(alloc, 1)?;
+    ports.add(a_port(alloc, 1, Role::Client, room, 2)?);
+    holds(rt, ports.connect(1, Pipe::new(alloc, 2, 5, 2, 1, 1, 0)?));
+    holds(rt, ports.connect(1, Pipe::new(alloc, 3, 6, 2, 1, 1, 0)?));
+    holds(rt, ports.deliver(from(2), 10));
+    holds(rt, ports.deliver(from(3), 20));
+    Ok(ports)
+}
+
+/// What the client gets.
+fn gets(ports: &mut Ports) -> Visits {
+    ports.visit(1, 1, Wanted::Any, &NoLabel)
+}
+
+#[test]
+fn what_waits_from_two_that_are_gone_is_kept(rt: HostRuntime) -> Result<(), Fail> {
+    let mut ports = two_answered(&rt, rt.alloc(), 2)?;
+    equal(&rt, expire(&mut ports, 1, 2), None);
+    equal(&rt, expire(&mut ports, 1, 3), None);
+    equal(&rt, gets(&mut ports), Visits::Got(2, 5, 10));
+    equal(&rt, gets(&mut ports), Visits::Got(3, 6, 20));
+    equal(&rt, gets(&mut ports), Visits::Nothing);
+    Ok(())
+}
+
+#[test]
+fn the_older_is_given_up_for_the_younger(rt: HostRuntime) -> Result<(), Fail> {
+    let mut ports = two_answered(&rt, rt.alloc(), 1)?;
+    equal(&rt, expire(&mut ports, 1, 2), None);
+    equal(&rt, expire(&mut ports, 1, 3), Some(2));
+    equal(&rt, gets(&mut ports), Visits::Got(3, 6, 20));
+    equal(&rt, gets(&mut ports), Visits::Nothing);
+    Ok(())
+}
+
+#[test]
+fn without_room_nothing_is_kept(rt: HostRuntime) -> Result<(), Fail> {
+    let mut ports = two_answered(&rt, rt.alloc(), 0)?;
+    equal(&rt, expire(&mut ports, 1, 2), Some(2));
+    equal(&rt, expire(&mut ports, 1, 3), Some(3));
+    equal(&rt, gets(&mut ports), Visits::Nothing);
+    Ok(())
+}
+
+#[test]
+fn what_is_empty_is_not_kept(rt: HostRuntime) -> Result<(), Fail> {
+    let mut ports = two_answered(&rt, rt.alloc(), 2)?;
+    equal(&rt, gets(&mut ports), Visits::Got(2, 5, 10));
+    equal(&rt, expire(&mut ports, 1, 3), None);
+    equal(&rt, expire(&mut ports, 1, 2), Some(2));
+    equal(&rt, gets(&mut ports), Visits::Got(3, 6, 20));
     Ok(())
 }

@@ -165,6 +165,14 @@ impl Pools {
 
     // ---- what there is
 
+    /// How many places there are: no pool is in any other.
+    #[inline]
+    pub fn places(&self) -> usize
+        ensures { result ≡ length self.now }
+    {
+        self.pools.len()
+    }
+
     /// How many slots the pool in this place has.
     #[inline]
     pub fn len(&self, place: usize) -> usize

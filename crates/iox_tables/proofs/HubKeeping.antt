@@ -8,5 +8,6 @@ pub mod NewHandles
 pub mod LeftPorts
 pub mod LeftHandles
 pub mod GonePools
+pub mod Absent
 pub mod Reaching
 pub mod WorkedKeeps

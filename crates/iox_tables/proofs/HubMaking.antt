@@ -1,5 +1,6 @@
 pub mod Firsts
 pub mod Distinct
+pub mod PipesLeft
 pub mod Disconnecting
 pub mod Testing
 pub mod Keeping
@@ -8,6 +9,7 @@ pub mod Pooling
 pub mod Connecting
 pub mod Making
 pub mod Commanding
+pub mod Kept
 pub mod Leaving
 pub mod Joining
 pub mod Starting

@@ -1,4 +1,5 @@
 -- In reading order: the disconnection of a port, and calls that may end with one.
+pub mod Expirings
 pub mod Disconnections
 pub mod WholeReleases
 -- pools that nobody has messages of

@@ -1,5 +1,6 @@
 //! Tables of a hub that are in order stay so as ports come and go.
 //! The functions have nothing to do: each is there for its contract.
+ghost use Rattle.iox_tables.specs.HubKeeping.Connected.{ConnectedMayGo, NothingIsKept};
 ghost use Rattle.iox_tables.specs.HubKeeping.Connected.{OrderIsReadyForPorts, PlacesBecomeFree};
 ghost use Rattle.iox_tables.specs.HubKeeping.Hubs.{HubsDropPools, HubsReleasePorts};
 ghost use Rattle.iox_tables.specs.HubKeeping.Hubs.{HubsStart, HubsTakePorts};
@@ -17,8 +18,12 @@ pub fn values()
     ensures { ValuesKeepOrder }
 {}
 
-/// Where a hub is in order, a port may be made, in each place that is free for its pool.
+/// Where a hub is in order, a port may be made, in each place that is free for its pool, and each
+/// connected port may go. Where a service keeps nothing of ports that are gone, no port has pipes
+/// from them.
 pub fn places()
+    ensures goes { ConnectedMayGo }
+    ensures none { NothingIsKept }
     ensures ready { OrderIsReadyForPorts }
     ensures free { PlacesBecomeFree }
 {}

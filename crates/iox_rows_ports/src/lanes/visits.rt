@@ -143,3 +143,36 @@ fn ports_come_and_go(rt: HostRuntime) -> Result<(), Fail> {
     equal(&rt, disconnect(&mut incoming, 1), None);
     Ok(())
 }
+
+/// From whom the pipe came that is given up, as one more from that sender is kept.
+fn keep(alloc: Global, incoming: &mut Incoming, sender: u64) -> Result<Option<u64>, AllocError> {
+    match incoming.keep(Pipe::new(alloc, sender, 2, 1, 1, 1, 0)?) {
+        Some(pipe) => Ok(Some(pipe.sender())),
+        None => Ok(None),
+    }
+}
+
+/// From whom the last pipe came.
+fn take(incoming: &mut Incoming) -> Option<u64> {
+    Some(incoming.take_pipe()?.sender())
+}
+
+#[test]
+fn the_oldest_is_given_up_for_one_more(rt: HostRuntime) -> Result<(), Fail> {
+    let mut incoming = Incoming::new(rt.alloc(), 2)?;
+    equal(&rt, keep(rt.alloc(), &mut incoming, 11)?, None);
+    equal(&rt, keep(rt.alloc(), &mut incoming, 12)?, None);
+    equal(&rt, keep(rt.alloc(), &mut incoming, 13)?, Some(11));
+    equal(&rt, take(&mut incoming), Some(13));
+    equal(&rt, take(&mut incoming), Some(12));
+    equal(&rt, take(&mut incoming), None);
+    Ok(())
+}
+
+#[test]
+fn where_there_is_room_for_none_what_comes_is_given_up(rt: HostRuntime) -> Result<(), Fail> {
+    let mut incoming = Incoming::new(rt.alloc(), 0)?;
+    equal(&rt, keep(rt.alloc(), &mut incoming, 11)?, Some(11));
+    equal(&rt, take(&mut incoming), None);
+    Ok(())
+}

@@ -86,8 +86,8 @@ module _ (x : Given) (t : HubTables) (order : AreInOrder t) (n : ℕ) (p : PortS
   lane_kept : (w : Way) (l : LaneState) (j : ℕ) → lane_on t.ports w ≡ Some l → l.pool ≡ p.pool → has_number j (places_on l) ≡ true
       → is_outstanding (state_shown x t) n (slot_at t.pools p.pool j).serial ≡ true
   lane_kept w l j on e has =
-      let b = between t order w l on in
-      let sender : w.sender ≡ n = sym b.owner ∙ ap (owner_of t.pools) e ∙ owner_is in
+      let sender : w.sender ≡ n = sym (order.owners w l j on has) ∙ ap (owner_of t.pools) e ∙ owner_is in
+      let b = between t order w l on (ap (is_there t.ports) sender ∙ connected) in
       among-any (λ v. (state_shown x t).delivered v (slot_at t.pools p.pool j).serial) w (ways_from (fixed_of x t) n)
       (subst (λ k. IsAmong w (ways_from (fixed_of x t) k)) sender (way_from x t order w l b))
       (out_is x t order w l (slot_at t.pools p.pool j).serial on (ap (is_there t.ports) sender ∙ connected)
@@ -201,7 +201,7 @@ module _ (x : Given) (t : HubTables) (order : AreInOrder t) (n : ℕ) (p : PortS
       by_lane_of w from b at (Some l) on out =
           let there_too : is_there t.ports w.sender ≡ true = ap (is_there t.ports) from ∙ connected in
           let a = any-among (λ i. (slot_at t.pools l.pool i).serial == k) (places_on l) (sym (out_is x t order w l k on there_too) ∙ out) in
-          let c = between t order w l on in
+          let c = between t order w l on there_too in
           let pool : l.pool ≡ p.pool = c.pool ∙ ap (λ (y : PortState). y.pool) (only_port w.sender c.sender c.from from) in (
             a.0,
             subst (λ q. IsUsed t q a.0) pool (used_on_lane t order w l a.0 on (among-number a.0 (places_on l) a.1)),

@@ -10,7 +10,7 @@ use Rattle.iox_model.specs.Maps.{AreDistinct, has_number}
 use Rattle.iox_model.specs.Messages.{request_way, response_way}
 use Rattle.iox_laws.proofs.WeaveLedger.Lists.{IsAmong, among-append, among-number, distinct-no_repeats, no_repeats-distinct, no_repeats-last, number-among}
 use Rattle.iox_lanes.specs.Lanes.{LaneState}
-use Rattle.iox_tables.specs.HubStates.Tables.{HandleState, HubTables, PoolState, PortState, labels_of, owner_of, port_in, slot_at}
+use Rattle.iox_tables.specs.HubStates.Tables.{HandleState, HubTables, PoolState, PortState, labels_of, owner_of, port_in, senders_of, slot_at}
 use Rattle.iox_tables.specs.HubStates.Ways.{lane_on}
 use Rattle.iox_tables.specs.HubStates.Ends.{OfEachHandle}
 use Rattle.iox_tables.specs.HubStates.Steps.{is_there, places_on}
@@ -20,7 +20,7 @@ use Rattle.iox_tables.specs.HubBooks.Hubs.{AreInOrder, HaveNumbers, numbers_in}
 use Rattle.iox_tables.specs.HubBooks.Keeps.{bare_pools}
 use Rattle.iox_tables.proofs.HubBooks.Frames.{AreAlike, bare_lane, bare_lane_on, bare_port, first_map, lane_before, port_before}
 use Rattle.iox_tables.proofs.HubBooks.Held.{IsCountedIn}
-use Rattle.iox_tables.proofs.HubBooks.Structures.{pool_before, same_lane, same_owner}
+use Rattle.iox_tables.proofs.HubBooks.Structures.{low_kept, pool_before, same_lane, same_owner}
 use Rattle.iox_tables.proofs.HubBooks.Used.{at_itself, lane_below, own_count_is, passes_once}
 
 pub each_both : (P Q : HandleState → Type 0) (hs : List HandleState) → OfEachHandle P hs → OfEachHandle Q hs → OfEachHandle (λ h. P h × Q h) hs
@@ -95,6 +95,10 @@ module _ (t u : HubTables) (order : AreInOrder t) (alike : AreAlike t.ports u.po
 
   -- ---- numbers
 
+  low_ports : (next : ℕ) → ((k : ℕ) → k < t.next_number → k < next) → (n : ℕ) (p : PortState) → port_in u.ports n ≡ Some p → (k : ℕ)
+      → has_number k (senders_of p.expired.pipes) ≡ true → k < next
+  low_ports next more n p at k has = more k (low_kept t.ports u.ports alike t.next_number order.numbers.kept n p at k has)
+
   pub numbers_stay : numbers_in u ≡ numbers_in t → u.next_number ≡ t.next_number → HaveNumbers u
   numbers_stay e next = record {
     apart = subst AreDistinct (sym e) order.numbers.apart;
@@ -102,6 +106,7 @@ module _ (t u : HubTables) (order : AreInOrder t) (alike : AreAlike t.ports u.po
     owners = λ place q at.
         let p = pool_before t.pools u.pools same place q at in
         subst (λ k. q.port < k) (sym next) (subst (λ k. k < t.next_number) (ap (λ (x : PoolState). x.port) p.2) (order.numbers.owners place p.0 p.1));
+    kept = low_ports u.next_number (λ k low. subst (λ j. k < j) (sym next) low);
   }
 
   pub one_number_more : numbers_in u ≡ numbers_in t ++ t.next_number ∷ [] → u.next_number ≡ t.next_number + 1 → HaveNumbers u
@@ -114,6 +119,7 @@ module _ (t u : HubTables) (order : AreInOrder t) (alike : AreAlike t.ports u.po
     owners = λ place q at.
         let p = pool_before t.pools u.pools same place q at in
         more q.port (subst (λ k. k < t.next_number) (ap (λ (x : PoolState). x.port) p.2) (order.numbers.owners place p.0 p.1));
+    kept = low_ports u.next_number more;
   }
     where
       fresh : IsAmong t.next_number (numbers_in t) → ⊥

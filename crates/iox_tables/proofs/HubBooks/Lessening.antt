@@ -1,7 +1,7 @@
 -- Where lanes have no more than before and receivers have the same, the tables stay in order.
 use Rattle.std.specs.Prelude.{◌≡◌, ℕ, ◌+◌, ◌<◌, ◌≤◌, Bool, true, false, ◌&&◌, if◌then◌else◌, ◌==◌, List, [], ◌∷◌, ◌++◌, map, Option, Some, None, refl}
 use Rattle.std.specs.Option.{option_map, option_map_or}
-use Rattle.std.proofs.Common.{sym, ap, subst, ◌∙◌, arith}
+use Rattle.std.proofs.Common.{sym, ap, subst, ◌∙◌, arith, inl}
 use Rattle.iox_model.specs.declared.way.Way.{Way}
 use Rattle.iox_model.specs.Handles.{is_received}
 use Rattle.iox_model.specs.Maps.{has_number, same_way}
@@ -23,7 +23,7 @@ use Rattle.iox_tables.proofs.HubBooks.Held.{IsCountedIn, each_counts, each_handl
 use Rattle.iox_tables.proofs.HubBooks.LaneCounts.{emptied_places}
 use Rattle.iox_tables.proofs.HubBooks.LaneLists.{lanes_total}
 use Rattle.iox_tables.proofs.HubBooks.Places.{has_often, often_has}
-use Rattle.iox_tables.proofs.HubBooks.Structures.{lanes_stay, pools_stay, same_lane, same_numbers, same_role_in, same_serial, widths_stay, wired_stay}
+use Rattle.iox_tables.proofs.HubBooks.Structures.{lanes_stay, owners_stay, pools_stay, same_lane, same_numbers, same_role_in, same_serial, widths_stay, wired_stay}
 use Rattle.iox_tables.proofs.HubBooks.Totals.{total_same}
 use Rattle.iox_tables.proofs.HubBooks.Used.{at_itself, passes_once}
 
@@ -57,14 +57,18 @@ module _ (t : HubTables) (order : AreInOrder t) (ports : List PortState) (no_mor
             subst (λ c. c < p.loans) (same_serial t.pools pools same p.pool k) (subst (λ c. (slot_at t.pools p.pool k).serial < c) (ap (λ (x : PortState). x.loans) q.2) low);
       }
 
+      -- what is on a lane was there
+      was_there : (w : Way) (l m : LaneState) (k : ℕ) → lane_on ports w ≡ Some l → lane_on t.ports w ≡ Some m → has_number k (places_on l) ≡ true → has_number k (places_on m) ≡ true
+      was_there w l m k at on has =
+          let places = no_more.places w k in
+          let new : by_lane (λ x. how_often k (places_on x)) 0 (lane_on ports) w ≡ how_often k (places_on l) = ap (λ o. option_map_or (λ x. how_often k (places_on x)) o 0) at in
+          let old : by_lane (λ x. how_often k (places_on x)) 0 (lane_on t.ports) w ≡ how_often k (places_on m) = ap (λ o. option_map_or (λ x. how_often k (places_on x)) o 0) on in
+          let some = often_has k (places_on l) has in has_often k (places_on m) (omega (arith, places, new, old, some))
+
       labels : ResponsesAreOnTheirLanes less
       labels w l k at client has =
           let m = lane_before t.ports ports no_more.alike w l at in
-          let places = no_more.places w k in
-          let new : by_lane (λ x. how_often k (places_on x)) 0 (lane_on ports) w ≡ how_often k (places_on l) = ap (λ o. option_map_or (λ x. how_often k (places_on x)) o 0) at in
-          let old : by_lane (λ x. how_often k (places_on x)) 0 (lane_on t.ports) w ≡ how_often k (places_on m.0) = ap (λ o. option_map_or (λ x. how_often k (places_on x)) o 0) m.1 in
-          let some = often_has k (places_on l) has in
-          let there : has_number k (places_on m.0) ≡ true = has_often k (places_on m.0) (omega (arith, places, new, old, some)) in
+          let there : has_number k (places_on m.0) ≡ true = was_there w l m.0 k at m.1 has in
           sym (same_lane t.pools pools same l.pool k)
           ∙ subst (λ c. (slot_at t.pools c k).lane ≡ w.lane) (ap (λ (x : LaneState). x.pool) m.2)
           (order.labels w m.0 k m.1 (sym (same_role_in t.ports ports no_more.alike w.receiver) ∙ client) there)
@@ -99,6 +103,7 @@ module _ (t : HubTables) (order : AreInOrder t) (ports : List PortState) (no_mor
         once = no_more.once order.once;
         lanes = lanes_stay t less order no_more.alike same refl;
         labels = labels;
+        owners = owners_stay t less order no_more.alike same (λ w l m k at on has. inl (was_there w l m k at on has));
         widths = widths_stay t less order no_more.alike same refl;
         wired = wired_stay t less order no_more.alike same refl;
         numbers = numbers_stay t less order no_more.alike same (ap (λ xs. xs ++ map (λ h. h.number) t.handles) (same_numbers t.ports ports no_more.alike)) refl;

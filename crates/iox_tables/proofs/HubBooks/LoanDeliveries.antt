@@ -11,7 +11,8 @@ use Rattle.iox_model.specs.Maps.{AreDistinct, has_number, has_way, same_way}
 use Rattle.iox_laws.proofs.WeaveLaws.MapLemmas.{same_way-refl}
 use Rattle.iox_laws.proofs.WeaveLedger.Lists.{among-number, distinct-no_repeats, no_repeats-distinct, number-among}
 use Rattle.iox_lanes.specs.Lanes.{LaneState, delivered, without_oldest}
-use Rattle.iox_tables.specs.HubStates.Tables.{HandleState, HubTables, PoolState, PortState, numbers_of, port_in, slot_at}
+use Rattle.iox_tables.specs.HubStates.Tables.{HandleState, HubTables, PoolState, PortState, numbers_of, owner_of, pool_at, port_in, slot_at}
+use Rattle.iox_tables.proofs.HubStates.Fixing.{first_key}
 use Rattle.iox_tables.specs.HubStates.Ways.{lane_on, with_lanes_on}
 use Rattle.iox_tables.specs.HubStates.Ends.{OfEachHandle, changed_handles, dropped_handles}
 use Rattle.iox_tables.specs.HubStates.Sendings.{pending_of}
@@ -33,7 +34,7 @@ use Rattle.iox_tables.proofs.HubBooks.Lessening.{all_less, all_same}
 use Rattle.iox_tables.proofs.HubBooks.Places.{has_often, often_has}
 use Rattle.iox_tables.proofs.HubBooks.Release.{among_left, each_left, handles_apart, once_left}
 use Rattle.iox_tables.proofs.HubBooks.Sent.{Gives, GivesWay, IsAfterLoan, kept}
-use Rattle.iox_tables.proofs.HubBooks.Structures.{pool_before, same_numbers}
+use Rattle.iox_tables.proofs.HubBooks.Structures.{low_kept, pool_before, same_numbers}
 use Rattle.iox_tables.proofs.HubBooks.Used.{handle_is, on_no_lane}
 use Rattle.iox_tables.proofs.HubBooks.OneGiven.{gives_bare, gives_taken}
 
@@ -65,6 +66,13 @@ module _ (t : HubTables) (order : AreInOrder t) (node n : ℕ) (h : HandleState)
 
     pool_is : (w : Way) (l : LaneState) → has_way w ws ≡ true → lane_on t.ports w ≡ Some l → l.pool ≡ h.pool
     pool_is w l has at = (order.lanes w l is.port at (ap (port_in t.ports) (targets.sender w has) ∙ is.there)).of_pool ∙ sym (is.of_pool own)
+
+    -- what is of the loan's pool is of its port
+    owner : (w : Way) (l : LaneState) → has_way w ws ≡ true → lane_on t.ports w ≡ Some l → owner_of t.pools l.pool ≡ w.sender
+    owner w l has at =
+        let pool = order.pools.each h.port is.port is.there in
+        ap (owner_of t.pools) (pool_is w l has at ∙ is.of_pool own) ∙ ap (λ o. option_map_or (λ (x : PoolState). x.port) o 0) pool.there ∙ pool.port
+        ∙ first_key (λ (x : PortState). x.number) t.ports h.port is.port is.there ∙ sym (targets.sender w has)
 
     abbrev pub new_ports : List PortState
     new_ports = with_lanes_on (delivers overflow h.slot) t.ports ws
@@ -130,14 +138,16 @@ module _ (t : HubTables) (order : AreInOrder t) (node n : ℕ) (h : HandleState)
             at None e = omega arith
 
     places : (w : Way) (l m : LaneState) (i : ℕ) → lane_on new_ports w ≡ Some l → lane_on t.ports w ≡ Some m → has_number i (places_on l) ≡ true
-        → (has_number i (places_on m) ≡ true) ⊎ ((role_in t.ports w.receiver ≡ Client) → (slot_at t.pools m.pool i).lane ≡ w.lane)
+        → (has_number i (places_on m) ≡ true) ⊎ (((role_in t.ports w.receiver ≡ Client) → (slot_at t.pools m.pool i).lane ≡ w.lane) × (owner_of t.pools m.pool ≡ w.sender))
     places w l m i new old has = step (h.slot == i) (has_way w ws) refl refl
       where
         step : (a b : Bool) → (h.slot == i) ≡ a → has_way w ws ≡ b
-            → (has_number i (places_on m) ≡ true) ⊎ ((role_in t.ports w.receiver ≡ Client) → (slot_at t.pools m.pool i).lane ≡ w.lane)
+            → (has_number i (places_on m) ≡ true) ⊎ (((role_in t.ports w.receiver ≡ Client) → (slot_at t.pools m.pool i).lane ≡ w.lane) × (owner_of t.pools m.pool ≡ w.sender))
         step true true e f =
-            inr
-            (λ client. ap₂ (λ p j. (slot_at t.pools p j).lane) (pool_is w m f old) (sym (eqb-true h.slot i e)) ∙ targets.lane w f client)
+            inr (
+              (λ client. ap₂ (λ p j. (slot_at t.pools p j).lane) (pool_is w m f old) (sym (eqb-true h.slot i e)) ∙ targets.lane w f client),
+              owner w m f old,
+            )
         step true false e f =
             let same : l ≡ m = ap (λ o. option_map_or (λ (x : LaneState). x) o l) (sym new ∙ lane_elsewhere (delivers overflow h.slot) t.ports ws w f ∙ old) in
             inl (subst (λ x. has_number i (places_on x) ≡ true) same has)
@@ -284,4 +294,5 @@ response_deliveries_keep_order t node n h overflow ws pools order named kind tar
           (subst (λ xs. has_number m (xs ++ map (λ x. x.number) (dropped_handles node n t.handles)) ≡ true) (same_numbers t.ports ports given.alike) has))));
       owners = λ place q at.
           let p = pool_before t.pools pools same place q at in subst (λ c. c < t.next_number) (ap (λ (x : PoolState). x.port) p.2) (order.numbers.owners place p.0 p.1);
+      kept = low_kept t.ports ports given.alike t.next_number order.numbers.kept;
     }

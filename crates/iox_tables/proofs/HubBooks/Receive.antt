@@ -23,7 +23,7 @@ use Rattle.iox_tables.proofs.HubBooks.Held.{IsCountedIn, each_counts, each_handl
 use Rattle.iox_tables.proofs.HubBooks.LaneCounts.{visit_places, visited_count}
 use Rattle.iox_tables.proofs.HubBooks.LaneLists.{visits_keep, visits_same}
 use Rattle.iox_tables.proofs.HubBooks.Places.{has_often, often_has}
-use Rattle.iox_tables.proofs.HubBooks.Structures.{lanes_stay, pools_stay, same_lane, same_role_in, same_serial, widths_stay, wired_stay}
+use Rattle.iox_tables.proofs.HubBooks.Structures.{lanes_stay, owners_stay, pools_stay, same_lane, same_role_in, same_serial, widths_stay, wired_stay}
 use Rattle.iox_tables.proofs.HubBooks.Totals.{total_same}
 use Rattle.iox_tables.proofs.HubBooks.Used.{used_on_lane}
 use Rattle.iox_tables.proofs.HubBooks.Visited.{got_by, ports_count, taken_by}
@@ -108,14 +108,18 @@ module _ (t : HubTables) (order : AreInOrder t) (n lane : ℕ) (wanted : Wanted)
     once : OfAllLanes HasEachPlaceOnce after.ports
     once = visits_keep wanted (labels_of t.pools) lane HasEachPlaceOnce (λ test l has k. subst (λ c. c ≤ 1) (sym (visit_places (λ j. if j == k then 1 else 0) test l)) (has k)) t.ports n order.once
 
+    -- what is on a lane was there
+    was_there : (w : Way) (l m : LaneState) (k : ℕ) → lane_on after.ports w ≡ Some l → lane_on t.ports w ≡ Some m → has_number k (places_on l) ≡ true → has_number k (places_on m) ≡ true
+    was_there w l m k at on has =
+        let places = ports_count wanted (labels_of t.pools) lane (λ x. how_often k (places_on x)) (λ test x. visit_places (λ j. if j == k then 1 else 0) test x) t.ports n w in
+        let new : option_map_or (λ x. how_often k (places_on x)) (lane_on after.ports w) 0 ≡ how_often k (places_on l) = ap (λ o. option_map_or (λ x. how_often k (places_on x)) o 0) at in
+        let old : option_map_or (λ x. how_often k (places_on x)) (lane_on t.ports w) 0 ≡ how_often k (places_on m) = ap (λ o. option_map_or (λ x. how_often k (places_on x)) o 0) on in
+        let some = often_has k (places_on l) has in has_often k (places_on m) (omega (arith, places, new, old, some))
+
     labels : ResponsesAreOnTheirLanes after
     labels w l k at client has =
         let m = lane_before t.ports after.ports alike w l at in
-        let places = ports_count wanted (labels_of t.pools) lane (λ x. how_often k (places_on x)) (λ test x. visit_places (λ j. if j == k then 1 else 0) test x) t.ports n w in
-        let new : option_map_or (λ x. how_often k (places_on x)) (lane_on after.ports w) 0 ≡ how_often k (places_on l) = ap (λ o. option_map_or (λ x. how_often k (places_on x)) o 0) at in
-        let old : option_map_or (λ x. how_often k (places_on x)) (lane_on t.ports w) 0 ≡ how_often k (places_on m.0) = ap (λ o. option_map_or (λ x. how_often k (places_on x)) o 0) m.1 in
-        let some = often_has k (places_on l) has in
-        let there : has_number k (places_on m.0) ≡ true = has_often k (places_on m.0) (omega (arith, places, new, old, some)) in
+        let there : has_number k (places_on m.0) ≡ true = was_there w l m.0 k at m.1 has in
         sym (same_lane t.pools pools more.same l.pool k)
         ∙ subst (λ c. (slot_at t.pools c k).lane ≡ w.lane) (ap (λ (x : LaneState). x.pool) m.2)
         (order.labels w m.0 k m.1 (sym (same_role_in t.ports after.ports alike w.receiver) ∙ client) there)
@@ -175,6 +179,7 @@ module _ (t : HubTables) (order : AreInOrder t) (n lane : ℕ) (wanted : Wanted)
       once = once;
       lanes = lanes_stay t after order alike more.same refl;
       labels = labels;
+      owners = owners_stay t after order alike more.same (λ w l m k at on has. inl (was_there w l m k at on has));
       widths = widths_stay t after order alike more.same refl;
       wired = wired_stay t after order alike more.same refl;
       numbers = numbers;

@@ -105,18 +105,12 @@ module _ (t : HubTables) (order : AreInOrder t) (node n lane : ℕ) (p : PortSta
     on_way : (s pool k : ℕ) (c : Came (Got s pool k)) → lane_on t.ports (the_way s) ≡ Some c.0
     on_way s pool k c = ap (λ o. slice_get (lanes_from (option_map_or pipes_of o []) s) lane) there ∙ c.1
 
-    -- the pool of what is got is its sender's
-    owner_is : (s pool k : ℕ) → Came (Got s pool k) → owner_of t.pools pool ≡ s
-    owner_is s pool k c =
-        let senders : senders_of (pipes_of p) ≡ senders_of p.incoming.pipes = ap (λ (es : List PipeState). senders_of (es ++ p.incoming.pipes)) (order.wired.none_kept n p there) in
-        let q = of_role t order (other_role p.role) s (number-among s _ (sym (ap (has_number s) (senders ∙ (order.wired.each n p there).senders)) ∙ c.4)) in
-        let of_pool = (order.lanes (the_way s) c.0 q.0 (on_way s pool k c) q.1).of_pool in
-        let has = order.pools.each s q.0 q.1 in
-        ap (owner_of t.pools) (sym c.2 ∙ of_pool) ∙ ap (λ o. option_map_or (λ (x : PoolState). x.port) o 0) has.there ∙ has.port
-        ∙ first_key (λ (x : PortState). x.number) t.ports s q.0 q.1
-
     in_place : (s pool k : ℕ) (c : Came (Got s pool k)) → has_number k (places_on c.0) ≡ true
     in_place s pool k c = has_back k c.0.returned (c.0.waiting ++ c.0.taken) (has_front k c.0.waiting c.0.taken c.3)
+
+    -- the pool of what is got is its sender's
+    owner_is : (s pool k : ℕ) → Came (Got s pool k) → owner_of t.pools pool ≡ s
+    owner_is s pool k c = ap (owner_of t.pools) (sym c.2) ∙ order.owners (the_way s) c.0 k (on_way s pool k c) (in_place s pool k c)
 
     abbrev new_handle : ℕ → ℕ → HandleState
     new_handle pool k = got_handle t node role n pool k

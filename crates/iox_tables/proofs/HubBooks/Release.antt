@@ -22,7 +22,7 @@ use Rattle.iox_tables.proofs.HubBooks.Going.{each_both, from_lane_stays, of_port
 use Rattle.iox_tables.proofs.HubBooks.HandleTotals.{handle_dropped}
 use Rattle.iox_tables.proofs.HubBooks.Held.{IsCountedIn, each_counts, each_handle_from}
 use Rattle.iox_tables.proofs.HubBooks.Places.{has_often, often_has}
-use Rattle.iox_tables.proofs.HubBooks.Structures.{lanes_stay, pool_before, pools_stay, same_lane, same_numbers, same_role_in, same_serial, widths_stay, wired_stay}
+use Rattle.iox_tables.proofs.HubBooks.Structures.{lanes_stay, low_kept, owners_stay, pool_before, pools_stay, same_lane, same_numbers, same_role_in, same_serial, widths_stay, wired_stay}
 use Rattle.iox_tables.proofs.HubBooks.Totals.{total_same}
 use Rattle.iox_tables.proofs.HubBooks.Used.{at_itself, passes_once}
 
@@ -102,14 +102,18 @@ module _ (t : HubTables) (order : AreInOrder t) (node n : ℕ) (h : HandleState)
           subst (λ c. c < p.loans) (same_serial t.pools pools fewer.same p.pool k) (subst (λ c. (slot_at t.pools p.pool k).serial < c) (ap (λ (x : PortState). x.loans) q.2) low);
     }
 
+    -- what is on a lane was there
+    was_there : (w : Way) (l m : LaneState) (k : ℕ) → lane_on ports w ≡ Some l → lane_on t.ports w ≡ Some m → has_number k (places_on l) ≡ true → has_number k (places_on m) ≡ true
+    was_there w l m k at on has =
+        let places = gave.places w k in
+        let new : option_map_or (λ x. how_often k (places_on x)) (lane_on ports w) 0 ≡ how_often k (places_on l) = ap (λ o. option_map_or (λ x. how_often k (places_on x)) o 0) at in
+        let old : option_map_or (λ x. how_often k (places_on x)) (lane_on t.ports w) 0 ≡ how_often k (places_on m) = ap (λ o. option_map_or (λ x. how_often k (places_on x)) o 0) on in
+        let some = often_has k (places_on l) has in has_often k (places_on m) (omega (arith, places, new, old, some))
+
     labels : ResponsesAreOnTheirLanes left
     labels w l k at client has =
         let m = lane_before t.ports ports gave.alike w l at in
-        let places = gave.places w k in
-        let new : option_map_or (λ x. how_often k (places_on x)) (lane_on ports w) 0 ≡ how_often k (places_on l) = ap (λ o. option_map_or (λ x. how_often k (places_on x)) o 0) at in
-        let old : option_map_or (λ x. how_often k (places_on x)) (lane_on t.ports w) 0 ≡ how_often k (places_on m.0) = ap (λ o. option_map_or (λ x. how_often k (places_on x)) o 0) m.1 in
-        let some = often_has k (places_on l) has in
-        let there : has_number k (places_on m.0) ≡ true = has_often k (places_on m.0) (omega (arith, places, new, old, some)) in
+        let there : has_number k (places_on m.0) ≡ true = was_there w l m.0 k at m.1 has in
         sym (same_lane t.pools pools fewer.same l.pool k)
         ∙ subst (λ c. (slot_at t.pools c k).lane ≡ w.lane) (ap (λ (x : LaneState). x.pool) m.2)
         (order.labels w m.0 k m.1 (sym (same_role_in t.ports ports gave.alike w.receiver) ∙ client) there)
@@ -128,6 +132,7 @@ module _ (t : HubTables) (order : AreInOrder t) (node n : ℕ) (h : HandleState)
           (subst (λ xs. has_number m (xs ++ map (λ k. k.number) left.handles) ≡ true) (same_numbers t.ports ports gave.alike) has))));
       owners = λ place q at.
           let p = pool_before t.pools pools fewer.same place q at in subst (λ k. k < t.next_number) (ap (λ (x : PoolState). x.port) p.2) (order.numbers.owners place p.0 p.1);
+      kept = low_kept t.ports ports gave.alike t.next_number order.numbers.kept;
     }
 
     -- ---- handles
@@ -171,6 +176,7 @@ module _ (t : HubTables) (order : AreInOrder t) (node n : ℕ) (h : HandleState)
       once = gave.once;
       lanes = lanes_stay t left order gave.alike fewer.same refl;
       labels = labels;
+      owners = owners_stay t left order gave.alike fewer.same (λ w l m k at on has. inl (was_there w l m k at on has));
       widths = widths_stay t left order gave.alike fewer.same refl;
       wired = wired_stay t left order gave.alike fewer.same refl;
       numbers = numbers;

@@ -7,7 +7,7 @@ use Rattle.iox_model.specs.declared.way.Way.{Way}
 use Rattle.iox_model.specs.Handles.{is_own, is_received}
 use Rattle.iox_model.specs.Maps.{has_number, same_way}
 use Rattle.iox_lanes.specs.Lanes.{LaneState}
-use Rattle.iox_tables.specs.HubStates.Tables.{HandleState, HubTables, PoolState, PortState, slot_at}
+use Rattle.iox_tables.specs.HubStates.Tables.{HandleState, HubTables, PoolState, PortState, owner_of, slot_at}
 use Rattle.iox_tables.specs.HubStates.Ways.{lane_on}
 use Rattle.iox_tables.specs.HubStates.Ends.{OfEachHandle}
 use Rattle.iox_tables.specs.HubStates.Shown.{by_lane}
@@ -21,7 +21,7 @@ use Rattle.iox_tables.proofs.HubBooks.Frames.{AreAlike, lane_before, port_before
 use Rattle.iox_tables.proofs.HubBooks.Going.{each_both, from_lane_stays, of_port_stays, way_stays}
 use Rattle.iox_tables.proofs.HubBooks.Held.{IsCountedIn, each_counts, each_handle_from}
 use Rattle.iox_tables.proofs.HubBooks.Receive.{OfThat, of_that}
-use Rattle.iox_tables.proofs.HubBooks.Structures.{lanes_stay, pools_stay, same_lane, same_role_in, same_serial, widths_stay, wired_stay}
+use Rattle.iox_tables.proofs.HubBooks.Structures.{lanes_stay, owners_stay, pools_stay, same_lane, same_role_in, same_serial, widths_stay, wired_stay}
 use Rattle.iox_tables.proofs.HubBooks.Totals.{total_same}
 use Rattle.iox_tables.proofs.HubBooks.Used.{at_itself, passes_once, used_by_handle}
 
@@ -44,7 +44,8 @@ pub record Gives (t : HubTables) (h : HandleState) (ports : List PortState) : Ty
   pub others : (pool k : ℕ) → is_at pool k h ≡ false → lane_uses ports pool k ≤ lane_uses t.ports pool k
   pub places :
       (w : Way) (l m : LaneState) (k : ℕ) → lane_on ports w ≡ Some l → lane_on t.ports w ≡ Some m → has_number k (places_on l) ≡ true
-      → (has_number k (places_on m) ≡ true) ⊎ ((role_in t.ports w.receiver ≡ Client) → (slot_at t.pools m.pool k).lane ≡ w.lane)
+      → (has_number k (places_on m) ≡ true)
+      ⊎ (((role_in t.ports w.receiver ≡ Client) → (slot_at t.pools m.pool k).lane ≡ w.lane) × (owner_of t.pools m.pool ≡ w.sender))
   pub taken :
       (w : Way) (k : ℕ) → by_lane (λ l. how_often k l.taken) 0 (lane_on ports) w ≡ by_lane (λ l. how_often k l.taken) 0 (lane_on t.ports) w
 
@@ -103,9 +104,20 @@ module _ (t : HubTables) (order : AreInOrder t) (node n : ℕ) (h : HandleState)
           ∙ subst (λ c. (slot_at t.pools c k).lane ≡ w.lane) (ap (λ (x : LaneState). x.pool) m.2) (step m.0 m.1 client (gives.places w l m.0 k at m.1 has))
         where
           step : (m : LaneState) → lane_on t.ports w ≡ Some m → role_in t.ports w.receiver ≡ Client
-              → (has_number k (places_on m) ≡ true) ⊎ ((role_in t.ports w.receiver ≡ Client) → (slot_at t.pools m.pool k).lane ≡ w.lane) → (slot_at t.pools m.pool k).lane ≡ w.lane
+              → (has_number k (places_on m) ≡ true) ⊎ (((role_in t.ports w.receiver ≡ Client) → (slot_at t.pools m.pool k).lane ≡ w.lane) × (owner_of t.pools m.pool ≡ w.sender))
+              → (slot_at t.pools m.pool k).lane ≡ w.lane
           step m on client (inl there) = order.labels w m k on client there
-          step m on client (inr new) = new client
+          step m on client (inr new) = new.0 client
+
+      -- what is on a lane was there, or is of its sender
+      owned : (w : Way) (l m : LaneState) (k : ℕ) → lane_on ports w ≡ Some l → lane_on t.ports w ≡ Some m → has_number k (places_on l) ≡ true
+          → (has_number k (places_on m) ≡ true) ⊎ (owner_of t.pools m.pool ≡ w.sender)
+      owned w l m k at on has = step (gives.places w l m k at on has)
+        where
+          step : (has_number k (places_on m) ≡ true) ⊎ (((role_in t.ports w.receiver ≡ Client) → (slot_at t.pools m.pool k).lane ≡ w.lane) × (owner_of t.pools m.pool ≡ w.sender))
+              → (has_number k (places_on m) ≡ true) ⊎ (owner_of t.pools m.pool ≡ w.sender)
+          step (inl there) = inl there
+          step (inr new) = inr new.1
 
       alone : LoansAreAlone sent
       alone =
@@ -200,6 +212,7 @@ module _ (t : HubTables) (order : AreInOrder t) (node n : ℕ) (h : HandleState)
         once = gives.once;
         lanes = lanes_stay t sent order gives.alike same refl;
         labels = labels;
+        owners = owners_stay t sent order gives.alike same owned;
         widths = widths_stay t sent order gives.alike same refl;
         wired = wired_stay t sent order gives.alike same refl;
         numbers = numbers;

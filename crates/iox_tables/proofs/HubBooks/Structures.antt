@@ -1,21 +1,24 @@
 -- What is so of pools, pipes and widths stays as messages move and holders change.
-use Rattle.std.specs.Prelude.{◌≡◌, ℕ, Bool, true, false, if◌then◌else◌, List, [], ◌∷◌, map, filter, length, Option, Some, None, slice_get, refl}
+use Rattle.std.specs.Prelude.{◌≡◌, ◌⊎◌, ℕ, ◌<◌, ◌≤◌, Bool, true, false, if◌then◌else◌, List, [], ◌∷◌, map, filter, length, Option, Some, None, slice_get, refl}
 use Rattle.std.specs.Option.{option_map, option_map_or}
-use Rattle.std.proofs.Common.{sym, ap, ap₂, subst, ◌∙◌}
+use Rattle.std.proofs.Common.{sym, ap, ap₂, subst, ◌∙◌, inl, inr}
 use Rattle.std.proofs.lemmas.Option.{none-some, slice_get-map}
 use Rattle.iox_model.specs.declared.kind.Role.{Role}
+use Rattle.iox_model.specs.declared.way.Way.{Way}
 use Rattle.iox_model.specs.declared.kind.Role.TheVariants.{Client}
-use Rattle.iox_model.specs.Maps.{AreDistinct}
+use Rattle.iox_model.specs.Maps.{AreDistinct, has_number}
 use Rattle.iox_model.specs.Settings.{other_role, same_role}
 use Rattle.iox_lanes.specs.Lanes.{LaneState}
 use Rattle.iox_lanes.specs.Pipes.{PipeState}
-use Rattle.iox_tables.specs.HubStates.Tables.{HubTables, PoolState, PortState, SlotState, numbers_of, owner_of, pipes_of, pool_at, port_in, senders_of, slot_at, no_slot}
-use Rattle.iox_tables.specs.HubStates.Ways.{lanes_from, states_from}
+use Rattle.iox_tables.specs.HubStates.Tables.{HubTables, PoolState, PortState, SlotState, numbers_of, owner_of, pipe_from, pipes_of, pool_at, port_in, senders_of, slot_at, no_slot}
+use Rattle.iox_tables.specs.HubStates.Ways.{lane_on, lanes_from, states_from}
+use Rattle.iox_tables.specs.HubStates.Steps.{places_on}
 use Rattle.iox_tables.specs.HubStates.Wirings.{HaveLimits, IsWired, buffer_from, limit_from, numbers_of_role, role_in}
-use Rattle.iox_tables.specs.HubBooks.Hubs.{AreInOrder, AreWired, HasPool, HavePools, HaveWidths, LanesAreOfSenders}
+use Rattle.iox_tables.specs.HubBooks.Hubs.{AreInOrder, AreWired, HasPool, HavePools, HaveWidths, LanesAreOfSenders, PlacesAreOfSenders}
 use Rattle.iox_tables.specs.HubBooks.Keeps.{bare_pool, bare_pools, bare_slot}
-use Rattle.iox_tables.proofs.HubBooks.Frames.{AreAlike, bare_pipe, bare_port, bare_ports, bare_pipes_of, count_bare, first_map, lane_before, length_map, port_before, some_map, width_bare}
-use Rattle.iox_tables.specs.HubMaking.NewPorts.{states_of, width_of}
+use Rattle.iox_tables.proofs.HubBooks.Frames.{AreAlike, bare_lane, bare_pipe, bare_port, bare_ports, bare_pipes_of, count_bare, first_map, lane_before, length_map, port_before, some_map, width_bare}
+use Rattle.iox_tables.specs.HubMaking.Expirings.{KeepsExpired}
+use Rattle.iox_tables.specs.HubMaking.NewPorts.{room_for_gone, states_of, width_of}
 
 -- ---- ports
 
@@ -60,6 +63,84 @@ module _ (old new : List PortState) (alike : AreAlike old new) where
 
   pub same_role_in : (n : ℕ) → role_in new n ≡ role_in old n
   same_role_in n = sym (role_bare new n) ∙ ap (λ ps. role_in ps n) alike ∙ role_bare old n
+
+-- ---- tables whose ports are alike
+
+expired_senders : (p q : PortState) → bare_port q ≡ bare_port p → senders_of p.expired.pipes ≡ senders_of q.expired.pipes
+expired_senders p q e = sym (senders_bare p.expired.pipes) ∙ ap (λ (x : PortState). senders_of x.expired.pipes) (sym e) ∙ senders_bare q.expired.pipes
+
+-- the numbers of ports that are gone stay below the next one
+pub low_kept : (old new : List PortState) → AreAlike old new → (next : ℕ)
+    → ((n : ℕ) (p : PortState) → port_in old n ≡ Some p → (k : ℕ) → has_number k (senders_of p.expired.pipes) ≡ true → k < next)
+    → (n : ℕ) (p : PortState) → port_in new n ≡ Some p → (k : ℕ) → has_number k (senders_of p.expired.pipes) ≡ true → k < next
+low_kept old new alike next low n p at k has =
+    let q = port_before old new alike n p at in low n q.0 q.1 k (sym (ap (has_number k) (expired_senders p q.0 q.2)) ∙ has)
+
+module _ (t u : HubTables) (alike : AreAlike t.ports u.ports) (settings : u.settings ≡ t.settings) where
+  pub widths_alike : HaveWidths t → HaveWidths u
+  widths_alike widths n m to from a b roles =
+      let x = port_before t.ports u.ports alike n to a in
+      let y = port_before t.ports u.ports alike m from b in
+      let old = widths n m x.0 y.0 x.1 y.1 (ap (λ (p : PortState). p.role) x.2 ∙ roles ∙ sym (ap (λ (p : PortState). other_role p.role) y.2)) in record {
+        lanes =
+            sym (width_bare to from.number) ∙ ap₂ (λ (p : PortState) (q : PortState). length (lanes_from (pipes_of p) q.number)) (sym x.2) (sym y.2)
+            ∙ width_bare x.0 y.0.number ∙ old.lanes ∙ ap width_of x.2;
+        states =
+            sym (count_bare to from.number) ∙ ap₂ (λ (p : PortState) (q : PortState). length (states_from (pipes_of p) q.number)) (sym x.2) (sym y.2)
+            ∙ count_bare x.0 y.0.number ∙ old.states ∙ ap states_of y.2;
+      }
+
+  pub none_alike : (n : ℕ) → port_in t.ports n ≡ None → port_in u.ports n ≡ None
+  none_alike n none = step (port_in u.ports n) refl
+    where
+      step : (o : Option PortState) → port_in u.ports n ≡ o → o ≡ None
+      step None at = refl
+      step (Some p) at = let q = port_before t.ports u.ports alike n p at in absurd (none-some q.0 (sym none ∙ q.1))
+
+  -- what a port keeps of ports that are gone
+  kept_of : (p q : PortState) → bare_port q ≡ bare_port p → KeepsExpired t q → KeepsExpired u p
+  kept_of p q e old = record {
+    room =
+        ap (λ (x : PortState). x.expired.most) (sym e) ∙ old.room ∙ ap (λ (x : PortState). room_for_gone t.settings x.role) e
+        ∙ ap (λ c. room_for_gone c p.role) (sym settings);
+    few =
+        subst (λ k. length p.expired.pipes ≤ k) (ap (λ (x : PortState). x.expired.most) e)
+        (subst (λ k. k ≤ q.expired.most)
+        (sym (length_map bare_pipe q.expired.pipes) ∙ ap (λ (x : PortState). length x.expired.pipes) e ∙ length_map bare_pipe p.expired.pipes) old.few);
+    gone = λ n has. none_alike n (old.gone n (sym (ap (has_number n) (expired_senders p q e)) ∙ has));
+    wide = λ n z at.
+        let y =
+            some_map bare_pipe (pipe_from q.expired.pipes n) (bare_pipe z)
+            (sym (first_map (λ (x : PipeState). x.sender) (λ x. x.sender) bare_pipe (λ x. refl) q.expired.pipes n)
+            ∙ ap (λ (x : PortState). pipe_from x.expired.pipes n) e
+            ∙ first_map (λ (x : PipeState). x.sender) (λ x. x.sender) bare_pipe (λ x. refl) p.expired.pipes n ∙ ap (option_map bare_pipe) at) in
+        sym (length_map bare_lane z.lanes) ∙ ap (λ (x : PipeState). length x.lanes) (sym y.2) ∙ length_map bare_lane y.0.lanes ∙ old.wide n y.0 y.1 ∙ ap width_of e;
+  }
+
+  pub kept_alike : ((n : ℕ) (p : PortState) → port_in t.ports n ≡ Some p → KeepsExpired t p) → (n : ℕ) (p : PortState) → port_in u.ports n ≡ Some p → KeepsExpired u p
+  kept_alike kept n p at = let q = port_before t.ports u.ports alike n p at in kept_of p q.0 q.2 (kept n q.0 q.1)
+
+  pub each_alike : ((n : ℕ) (p : PortState) → port_in t.ports n ≡ Some p → IsWired t p) → (n : ℕ) (p : PortState) → port_in u.ports n ≡ Some p → IsWired u p
+  each_alike wired n p at =
+      let q = port_before t.ports u.ports alike n p at in
+      let old = wired n q.0 q.1 in record {
+        senders =
+            incoming_senders p q.0 q.2 ∙ old.senders ∙ ap (λ (x : PortState). numbers_of_role (other_role x.role) t.ports) q.2
+            ∙ sym (same_roles t.ports u.ports alike (other_role p.role));
+        apart = subst AreDistinct (all_senders p q.0 q.2) old.apart;
+        none_kept = λ e f. expired_none p q.0 q.2 (old.none_kept (ap (λ (x : PortState). x.role) q.2 ∙ e) (ap (λ c. c.fire_and_forget) (sym settings) ∙ f));
+      }
+    where
+      expired_none : (p q : PortState) → bare_port q ≡ bare_port p → q.expired.pipes ≡ [] → p.expired.pipes ≡ []
+      expired_none p q e none = none_of_none bare_pipe p.expired.pipes (sym (ap (λ (x : PortState). x.expired.pipes) e) ∙ ap (map bare_pipe) none)
+
+      incoming_senders : (p q : PortState) → bare_port q ≡ bare_port p → senders_of p.incoming.pipes ≡ senders_of q.incoming.pipes
+      incoming_senders p q e = sym (senders_bare p.incoming.pipes) ∙ ap (λ (x : PortState). senders_of x.incoming.pipes) (sym e) ∙ senders_bare q.incoming.pipes
+
+      all_senders : (p q : PortState) → bare_port q ≡ bare_port p → senders_of (pipes_of q) ≡ senders_of (pipes_of p)
+      all_senders p q e =
+          sym (senders_bare (pipes_of q)) ∙ ap senders_of (sym (bare_pipes_of q)) ∙ ap (λ (x : PortState). senders_of (pipes_of x)) e ∙ ap senders_of (bare_pipes_of p)
+          ∙ senders_bare (pipes_of p)
 
 -- ---- pools
 
@@ -114,6 +195,21 @@ module _ (old new : List (Option PoolState)) (same : bare_pools old ≡ bare_poo
 
 -- ---- the tables
 
+-- what is on lanes is of their senders' pools, where it was on these lanes before
+pub owners_stay : (t u : HubTables) → AreInOrder t → AreAlike t.ports u.ports → bare_pools t.pools ≡ bare_pools u.pools
+    → ((w : Way) (l m : LaneState) (k : ℕ) → lane_on u.ports w ≡ Some l → lane_on t.ports w ≡ Some m → has_number k (places_on l) ≡ true
+    → (has_number k (places_on m) ≡ true) ⊎ (owner_of t.pools m.pool ≡ w.sender))
+    → PlacesAreOfSenders u
+owners_stay t u order alike same before w l k at has =
+    let m = lane_before t.ports u.ports alike w l at in
+    sym (same_owner t.pools u.pools same l.pool)
+    ∙ subst (λ c. owner_of t.pools c ≡ w.sender) (ap (λ (x : LaneState). x.pool) m.2) (step m.0 m.1 (before w l m.0 k at m.1 has))
+  where
+    step : (m : LaneState) → lane_on t.ports w ≡ Some m → (has_number k (places_on m) ≡ true) ⊎ (owner_of t.pools m.pool ≡ w.sender) → owner_of t.pools m.pool ≡ w.sender
+    step m on (inl there) = order.owners w m k on there
+    step m on (inr new) = new
+
+
 module _ (t u : HubTables) (order : AreInOrder t) (alike : AreAlike t.ports u.ports) (same : bare_pools t.pools ≡ bare_pools u.pools) (settings : u.settings ≡ t.settings) where
   pub pools_stay : HavePools u
   pools_stay = record { each = λ n p at. has n p at (port_before t.ports u.ports alike n p at); apart = apart }
@@ -153,17 +249,7 @@ module _ (t u : HubTables) (order : AreInOrder t) (alike : AreAlike t.ports u.po
       }
 
   pub widths_stay : HaveWidths u
-  widths_stay n m to from a b roles =
-      let x = port_before t.ports u.ports alike n to a in
-      let y = port_before t.ports u.ports alike m from b in
-      let old = order.widths n m x.0 y.0 x.1 y.1 (ap (λ (p : PortState). p.role) x.2 ∙ roles ∙ sym (ap (λ (p : PortState). other_role p.role) y.2)) in record {
-        lanes =
-            sym (width_bare to from.number) ∙ ap₂ (λ (p : PortState) (q : PortState). length (lanes_from (pipes_of p) q.number)) (sym x.2) (sym y.2)
-            ∙ width_bare x.0 y.0.number ∙ old.lanes ∙ ap width_of x.2;
-        states =
-            sym (count_bare to from.number) ∙ ap₂ (λ (p : PortState) (q : PortState). length (states_from (pipes_of p) q.number)) (sym x.2) (sym y.2)
-            ∙ count_bare x.0 y.0.number ∙ old.states ∙ ap states_of y.2;
-      }
+  widths_stay = widths_alike t u alike settings order.widths
 
   limits_stay : HaveLimits u
   limits_stay w l at =
@@ -172,29 +258,8 @@ module _ (t u : HubTables) (order : AreInOrder t) (alike : AreAlike t.ports u.po
       ∙ ap₂ (λ c r. limit_from c (other_role r)) (sym settings) (sym (same_role_in t.ports u.ports alike w.receiver))
 
   pub wired_stay : AreWired u
-  wired_stay = record { each = each; none_kept = none_kept; limits = limits_stay }
-    where
-      expired_none : (p q : PortState) → bare_port q ≡ bare_port p → q.expired.pipes ≡ [] → p.expired.pipes ≡ []
-      expired_none p q e none = none_of_none bare_pipe p.expired.pipes (sym (ap (λ (x : PortState). x.expired.pipes) e) ∙ ap (map bare_pipe) none)
-
-      none_kept : (n : ℕ) (p : PortState) → port_in u.ports n ≡ Some p → p.expired.pipes ≡ []
-      none_kept n p at = let q = port_before t.ports u.ports alike n p at in expired_none p q.0 q.2 (order.wired.none_kept n q.0 q.1)
-
-      incoming_senders : (p q : PortState) → bare_port q ≡ bare_port p → senders_of p.incoming.pipes ≡ senders_of q.incoming.pipes
-      incoming_senders p q e = sym (senders_bare p.incoming.pipes) ∙ ap (λ (x : PortState). senders_of x.incoming.pipes) (sym e) ∙ senders_bare q.incoming.pipes
-
-      all_senders : (p q : PortState) → bare_port q ≡ bare_port p → senders_of (pipes_of q) ≡ senders_of (pipes_of p)
-      all_senders p q e =
-          sym (senders_bare (pipes_of q)) ∙ ap senders_of (sym (bare_pipes_of q)) ∙ ap (λ (x : PortState). senders_of (pipes_of x)) e ∙ ap senders_of (bare_pipes_of p)
-          ∙ senders_bare (pipes_of p)
-
-      each : (n : ℕ) (p : PortState) → port_in u.ports n ≡ Some p → IsWired u p
-      each n p at =
-          let q = port_before t.ports u.ports alike n p at in
-          let old = order.wired.each n q.0 q.1 in record {
-            senders =
-                incoming_senders p q.0 q.2 ∙ old.senders ∙ ap (λ (x : PortState). numbers_of_role (other_role x.role) t.ports) q.2
-                ∙ sym (same_roles t.ports u.ports alike (other_role p.role));
-            apart = subst AreDistinct (all_senders p q.0 q.2) old.apart;
-            none_kept = λ e f. none_kept n p at;
-          }
+  wired_stay = record {
+    each = each_alike t u alike settings order.wired.each;
+    kept = kept_alike t u alike settings order.wired.kept;
+    limits = limits_stay;
+  }

@@ -1,22 +1,28 @@
--- Each lane of a hub is on a way between connected ports.
-use Rattle.std.specs.Prelude.{◌≡◌, ℕ, zero, suc, ◌<◌, ◌≤◌, Bool, true, false, if◌then◌else◌, ◌==◌, List, [], ◌∷◌, ◌++◌, flat_map, Option, Some, None, slice_get, refl}
+-- Each lane of a hub from a connected port is on a way between connected ports.
+use Rattle.std.specs.Prelude.{◌≡◌, ℕ, zero, suc, ◌<◌, ◌≤◌, Bool, true, false, ◌||◌, if◌then◌else◌, ◌==◌, List, [], ◌∷◌, ◌++◌, flat_map, Option, Some, None, is_some, slice_get, refl}
 use Rattle.std.specs.Option.{option_map_or}
-use Rattle.std.proofs.Common.{sym, ap, subst, ◌∙◌, arith, inl, inr}
+use Rattle.std.proofs.Common.{sym, ap, subst, ◌∙◌, arith, inl, inr, true≢false}
+use Rattle.std.proofs.lemmas.List.{map-append}
 use Rattle.std.proofs.lemmas.Option.{none-some, slice_get_within}
 use Rattle.iox_model.specs.declared.kind.Role.{Role}
 use Rattle.iox_model.specs.declared.kind.Role.TheVariants.{Client, Server}
 use Rattle.iox_model.specs.declared.way.Way.{Way}
+use Rattle.iox_model.specs.Maps.{has_number}
 use Rattle.iox_model.specs.Settings.{other_role}
-use Rattle.iox_laws.proofs.WeaveLedger.Lists.{IsAmong, among-back, among-front, among-map, distinct-no_repeats}
+use Rattle.iox_laws.proofs.WeaveLedger.Lists.{IsAmong, among-back, among-front, among-map, distinct-no_repeats, number-among}
 use Rattle.iox_lanes.specs.Lanes.{LaneState}
 use Rattle.iox_lanes.specs.Pipes.{PipeState}
 use Rattle.iox_tables.specs.HubStates.Tables.{HubTables, PoolState, PortState, first_by, owner_of, pipe_from, pipes_of, port_in, senders_of}
 use Rattle.iox_tables.specs.HubStates.Ways.{lane_on, lanes_from}
+use Rattle.iox_tables.specs.HubStates.Steps.{is_there}
+use Rattle.iox_tables.specs.HubStates.Wirings.{numbers_of_role}
+use Rattle.iox_tables.proofs.HubStates.Emptied.{has-append}
 use Rattle.iox_tables.proofs.HubStates.Fixing.{first_key}
 use Rattle.iox_tables.specs.HubBooks.Counts.{in_pipe, in_port, on_lanes, total}
 use Rattle.iox_tables.specs.HubBooks.Hubs.{AreInOrder}
 use Rattle.iox_tables.proofs.HubBooks.Sendable.{first_own, numbers_apart, of_role}
 use Rattle.iox_tables.specs.HubMaking.NewPorts.{width_of}
+use Rattle.iox_tables.proofs.HubMaking.Firsts.{has_first}
 
 -- ---- lists
 
@@ -66,7 +72,8 @@ module _ (t : HubTables) (order : AreInOrder t) where
         l.2,
       )
 
-  -- The sender and the receiver of a lane are connected, of different roles, and the lane is one of those between them.
+  -- The sender and the receiver of a lane from a connected port are connected, of different roles, and the lane is one of
+  -- those between them.
   pub record IsBetween (w : Way) (l : LaneState) : Type 0 where
     pub receiver : PortState
     pub to : port_in t.ports w.receiver ≡ Some receiver
@@ -81,18 +88,26 @@ module _ (t : HubTables) (order : AreInOrder t) where
   twice_other Client = refl
   twice_other Server = refl
 
-  pub between : (w : Way) (l : LaneState) → lane_on t.ports w ≡ Some l → IsBetween w l
-  between w l there = at_port (port_in t.ports w.receiver) refl there
+  -- who sends to a port and is connected is of the other role
+  pub sends_in : (n : ℕ) (p : PortState) → port_in t.ports n ≡ Some p → (s : ℕ) → is_there t.ports s ≡ true → has_number s (senders_of (pipes_of p)) ≡ true
+      → has_number s (numbers_of_role (other_role p.role) t.ports) ≡ true
+  sends_in n p at s there has =
+      sym (ap (has_number s) (order.wired.each n p at).senders)
+      ∙ second (has_number s (senders_of p.expired.pipes)) refl (sym (ap (has_number s) (map-append (λ (x : PipeState). x.sender) p.expired.pipes p.incoming.pipes) ∙ has-append s (senders_of p.expired.pipes) (senders_of p.incoming.pipes)) ∙ has)
+    where
+      second : (b : Bool) → has_number s (senders_of p.expired.pipes) ≡ b → (b || has_number s (senders_of p.incoming.pipes)) ≡ true → has_number s (senders_of p.incoming.pipes) ≡ true
+      second false e h = h
+      second true e h = absurd (true≢false (sym there ∙ ap (λ (o : Option PortState). is_some o) ((order.wired.kept n p at).gone s e)))
+
+  pub between : (w : Way) (l : LaneState) → lane_on t.ports w ≡ Some l → is_there t.ports w.sender ≡ true → IsBetween w l
+  between w l there connected = at_port (port_in t.ports w.receiver) refl there
     where
       at_pipe : (p : PortState) → port_in t.ports w.receiver ≡ Some p → (o : Option PipeState) → pipe_from (pipes_of p) w.sender ≡ o
           → slice_get (option_map_or (λ (q : PipeState). q.lanes) o []) w.lane ≡ Some l → IsBetween w l
       at_pipe p port None pipe at = absurd (none-some l at)
       at_pipe p port (Some q) pipe at =
-          let senders : senders_of (pipes_of p) ≡ senders_of p.incoming.pipes = ap (λ (es : List PipeState). senders_of (es ++ p.incoming.pipes)) (order.wired.none_kept w.receiver p port) in
-          let among : IsAmong w.sender (senders_of (pipes_of p))
-          = subst (λ n. IsAmong n (senders_of (pipes_of p))) (first_key (λ (x : PipeState). x.sender) (pipes_of p) w.sender q pipe)
-          (among-map (λ (x : PipeState). x.sender) q (pipes_of p) (first_among (λ (x : PipeState). x.sender) (pipes_of p) w.sender q pipe)) in
-          let s = of_role t order (other_role p.role) w.sender (subst (IsAmong w.sender) (senders ∙ (order.wired.each w.receiver p port).senders) among) in
+          let has : has_number w.sender (senders_of (pipes_of p)) ≡ true = has_first (λ (x : PipeState). x.sender) (pipes_of p) w.sender ∙ ap (λ (o : Option PipeState). is_some o) pipe in
+          let s = of_role t order (other_role p.role) w.sender (number-among w.sender _ (sends_in w.receiver p port w.sender connected has)) in
           let lane = order.lanes w l s.0 there s.1 in
           let has = order.pools.each w.sender s.0 s.1 in
           let number = first_key (λ (x : PortState). x.number) t.ports w.sender s.0 s.1 in

@@ -9,14 +9,16 @@ use Rattle.iox_model.specs.declared.kind.Role.TheVariants.{Client, Server}
 use Rattle.iox_model.specs.Settings.{other_role, is_client}
 use Rattle.iox_lanes.specs.Lanes.{LaneState}
 use Rattle.iox_lanes.specs.Pipes.{PipeState, new_pipe}
-use Rattle.iox_tables.specs.HubStates.Tables.{HubTables, PoolState, PortState, pipe_from, pipes_of, pool_at, port_in, slot_at}
+use Rattle.iox_tables.specs.HubStates.Tables.{HubTables, PoolState, PortState, owner_of, pipe_from, pipes_of, pool_at, port_in, senders_of, slot_at}
 use Rattle.iox_tables.specs.HubStates.Ways.{lanes_from}
 use Rattle.iox_tables.specs.HubStates.Wirings.{HaveLimits, IsWired, limit_from, role_in}
 use Rattle.iox_tables.specs.HubStates.Worked.{one_of_each, port_with, requests}
 use Rattle.iox_tables.proofs.HubStates.Fixing.{first_key}
 use Rattle.iox_tables.specs.HubBooks.Counts.{OfAll, OfAllLanes, how_often, uses}
 use Rattle.iox_tables.specs.HubBooks.Handles.{OwnAreApart, TakenHaveHandles}
-use Rattle.iox_tables.specs.HubBooks.Hubs.{AreInOrder, AreWired, HasEachPlaceOnce, HasPool, HasWidth, HaveNumbers, HavePools, HaveSerials, HaveWidths, HoldersAreCounted, IsLaneOf, IsUsed, LanesAreOfSenders, ResponsesAreOnTheirLanes}
+use Rattle.iox_tables.specs.HubBooks.Hubs.{AreInOrder, AreWired, HasEachPlaceOnce, HasPool, HasWidth, HaveNumbers, HavePools, HaveSerials, HaveWidths, HoldersAreCounted, IsLaneOf, IsUsed, LanesAreOfSenders, PlacesAreOfSenders, ResponsesAreOnTheirLanes}
+use Rattle.iox_tables.specs.HubMaking.Expirings.{KeepsExpired}
+use Rattle.iox_model.specs.Maps.{has_number}
 use Rattle.iox_tables.specs.HubBooks.Worked.{with_holders, pool_with, TwoHaveTheRequest}
 use Rattle.iox_tables.proofs.HubBooks.Eachs.{all_first, all_get, lane_is}
 
@@ -181,10 +183,37 @@ labels w l k at role has = lane_zero l.pool k ∙ at_port (port_in t.ports w.rec
         at_pipe (pipe_from (pipes_of p) w.sender)
         (λ q e. all_first HasOne (λ x. x.sender) (pipes_of p) w.sender q (either_port (λ p. OfAll HasOne (pipes_of p)) (only_lane _, tt) (only_lane _, tt) w.receiver p is) e) there
 
+owners : PlacesAreOfSenders t
+owners w l k at has = at_port (port_in t.ports w.receiver) refl at
+  where
+    Owned : PipeState → Type 0
+    Owned q = OfAll (λ m. owner_of t.pools m.pool ≡ q.sender) q.lanes
+
+    at_pipe : (o : Option PipeState) → ((q : PipeState) → o ≡ Some q → Owned q × (q.sender ≡ w.sender)) → slice_get (option_map_or (λ (q : PipeState). q.lanes) o []) w.lane ≡ Some l
+        → owner_of t.pools l.pool ≡ w.sender
+    at_pipe None owned is = absurd (none-some l is)
+    at_pipe (Some q) owned is = let f = owned q refl in all_get (λ m. owner_of t.pools m.pool ≡ q.sender) q.lanes w.lane l f.0 is ∙ f.1
+
+    at_port : (o : Option PortState) → port_in t.ports w.receiver ≡ o → slice_get (lanes_from (option_map_or pipes_of o []) w.sender) w.lane ≡ Some l
+        → owner_of t.pools l.pool ≡ w.sender
+    at_port None is there = absurd (none-some l there)
+    at_port (Some p) is there =
+        at_pipe (pipe_from (pipes_of p) w.sender)
+        (λ q e. (
+          all_first Owned (λ x. x.sender) (pipes_of p) w.sender q (either_port (λ p. OfAll Owned (pipes_of p)) ((refl, tt), tt) ((refl, tt), tt) w.receiver p is) e,
+          first_key (λ x. x.sender) (pipes_of p) w.sender q e,
+        )) there
+
+client_keeps : KeepsExpired t client
+client_keeps = record { room = refl; few = omega arith; gone = λ n has. absurd (true≢false (sym has)); wide = λ n q at. absurd (none-some q at) }
+
+server_keeps : KeepsExpired t server
+server_keeps = record { room = refl; few = omega arith; gone = λ n has. absurd (true≢false (sym has)); wide = λ n q at. absurd (none-some q at) }
+
 wired : AreWired t
 wired = record {
   each = either_port (IsWired t) (record { senders = refl; apart = (refl, tt); none_kept = λ e f. refl }) (record { senders = refl; apart = (refl, tt); none_kept = λ e f. refl });
-  none_kept = either_port (λ p. p.expired.pipes ≡ []) refl refl;
+  kept = either_port (KeepsExpired t) client_keeps server_keeps;
   limits = limits;
 }
 
@@ -195,6 +224,7 @@ numbers = record {
   apart = (refl, (refl, (refl, tt)));
   below = λ n has. below n (0 == n) (1 == n) (2 == n) refl refl refl has;
   owners = λ place q at. owners place q at;
+  kept = λ n p at. either_port (λ p. (k : ℕ) → has_number k (senders_of p.expired.pipes) ≡ true → k < 3) (λ k has. absurd (true≢false (sym has))) (λ k has. absurd (true≢false (sym has))) n p at;
 }
   where
     below : (n : ℕ) (a b c : Bool) → (0 == n) ≡ a → (1 == n) ≡ b → (2 == n) ≡ c → (a || (b || (c || false))) ≡ true → n < 3
@@ -227,6 +257,7 @@ in_order = record {
   once = once;
   lanes = lanes_of_senders;
   labels = labels;
+  owners = owners;
   widths = widths;
   wired = wired;
   numbers = numbers;

@@ -137,13 +137,16 @@ module _ (t : HubTables) (place : ℕ) (order : AreInOrder t) (free : IsFreePlac
     lanes = λ w l sender at from. let is = order.lanes w l sender at from in record { of_pool = is.of_pool; buffer = is.buffer };
     labels = λ w l k at client has.
         ap (λ (s : SlotState). s.lane) (sym (slot_else l.pool k (used_else t order place free l.pool k (used_on_lane t order w l k at has)))) ∙ order.labels w l k at client has;
+    owners = λ w l k at has.
+        sym (ap (λ o. option_map_or (λ (p : PoolState). p.port) o 0) (others_at t.pools place l.pool (used_else t order place free l.pool k (used_on_lane t order w l k at has))))
+        ∙ order.owners w l k at has;
     widths = order.widths;
     wired = record {
       each = λ n p at. let it = order.wired.each n p at in record { senders = it.senders; apart = it.apart; none_kept = it.none_kept };
-      none_kept = order.wired.none_kept;
+      kept = λ n p at. let it = order.wired.kept n p at in record { room = it.room; few = it.few; gone = it.gone; wide = it.wide };
       limits = order.wired.limits;
     };
-    numbers = record { apart = order.numbers.apart; below = order.numbers.below; owners = λ i q at. order.numbers.owners i q (pool_was i q at) };
+    numbers = record { apart = order.numbers.apart; below = order.numbers.below; owners = λ i q at. order.numbers.owners i q (pool_was i q at); kept = order.numbers.kept };
     ports = each_is (IsOfPort t) (IsOfPort u) of_port order.ports;
     alone = each_is (IsAlone t) (IsAlone u) (λ h used alone loan. ap (λ (s : SlotState). s.holders) (sym (slot_stays h used)) ∙ alone loan) order.alone;
     own = order.own;

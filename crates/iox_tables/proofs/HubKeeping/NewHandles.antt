@@ -17,7 +17,6 @@ use Rattle.iox_tables.proofs.HubBooks.Held.{each_handle_from}
 use Rattle.iox_tables.specs.HubMaking.FreePools.{IsPut}
 use Rattle.iox_tables.specs.HubMaking.NewPorts.{connected_to, pool_made, with_port_made}
 use Rattle.iox_tables.specs.HubMaking.Wires.{IsNewLane}
-use Rattle.iox_tables.specs.HubKeeping.Connected.{KeepsNone}
 use Rattle.iox_tables.specs.HubKeeping.Keeps.{MakingsKeepOrder, MayBeMade}
 use Rattle.iox_tables.proofs.HubKeeping.NewNumbers.{numbers as new_numbers}
 use Rattle.iox_tables.proofs.HubKeeping.NewPorts as new_ports
@@ -27,7 +26,7 @@ and_false : (b : Bool) → (b && false) ≡ false
 and_false true = refl
 and_false false = refl
 
-module _ (t : HubTables) (new : PortState) (pools : List (Option PoolState)) (order : AreInOrder t) (keeps : KeepsNone t.settings) (may : MayBeMade t new)
+module _ (t : HubTables) (new : PortState) (pools : List (Option PoolState)) (order : AreInOrder t) (may : MayBeMade t new)
     (put : IsPut t.pools new.pool (pool_made new) pools)
   where
     abbrev u : HubTables
@@ -41,10 +40,10 @@ module _ (t : HubTables) (new : PortState) (pools : List (Option PoolState)) (or
     known = each_both (IsOfPort t) (λ h. IsUsed t h.pool h.slot) t.handles order.ports (each_used t order)
 
     slot_stays : (h : HandleState) → IsUsed t h.pool h.slot → slot_at t.pools h.pool h.slot ≡ slot_at pools h.pool h.slot
-    slot_stays h used = new_ports.slot_else t new pools order keeps may put h.pool h.slot (new_ports.else_if_used t new pools order keeps may put h.pool h.slot used)
+    slot_stays h used = new_ports.slot_else t new pools order may put h.pool h.slot (new_ports.else_if_used t new pools order may put h.pool h.slot used)
 
     owner_stays : (h : HandleState) → IsUsed t h.pool h.slot → owner_of t.pools h.pool ≡ owner_of pools h.pool
-    owner_stays h used = new_ports.owner_else t new pools order keeps may put h.pool (new_ports.else_if_used t new pools order keeps may put h.pool h.slot used)
+    owner_stays h used = new_ports.owner_else t new pools order may put h.pool (new_ports.else_if_used t new pools order may put h.pool h.slot used)
 
     way_stays : (h : HandleState) → IsUsed t h.pool h.slot → way_in t.pools h ≡ way_in pools h
     way_stays h used = way_same t.pools pools h (ap (λ (s : SlotState). s.lane) (slot_stays h used)) (owner_stays h used)
@@ -64,17 +63,17 @@ module _ (t : HubTables) (new : PortState) (pools : List (Option PoolState)) (or
     way_off : (h : HandleState) → Known h → is_end new.number (way_in t.pools h) ≡ false
     way_off h is =
         ap₂ (λ (a b : Bool). a || b) (sender_off h is)
-        (ap (λ k. k == new.number) (way_receiver t.pools h) ∙ new_ports.not_new t new pools order keeps may put h.port is.0.port is.0.there)
+        (ap (λ k. k == new.number) (way_receiver t.pools h) ∙ new_ports.not_new t new pools order may put h.port is.0.port is.0.there)
 
     shows : {B : Type 0} (show : PortState → B) → ((p : PortState) (ps : List _) → show (record p { incoming = record (p.incoming) { pipes = ps } }) ≡ show p) → (p : PortState) → show (connected_to t.settings new p) ≡ show p
-    shows show same p = new_ports.shows t new pools order keeps may put show same p
+    shows show same p = new_ports.shows t new pools order may put show same p
 
     of_port : (h : HandleState) → Known h → IsOfPort u h
     of_port h is =
         let o = is.0 in
         record {
           port = connected_to t.settings new o.port;
-          there = new_ports.old_port t new pools order keeps may put h.port o.port o.there;
+          there = new_ports.old_port t new pools order may put h.port o.port o.there;
           on_node = o.on_node ∙ sym (shows (λ x. x.node) (λ x ps. refl) o.port);
           role = shows (λ x. x.role) (λ x ps. refl) o.port ∙ o.role;
           either = o.either;
@@ -91,7 +90,7 @@ module _ (t : HubTables) (new : PortState) (pools : List (Option PoolState)) (or
         (each_both Known (IsAlone t) t.handles known order.alone)
 
     taken : TakenHaveHandles u
-    taken w l k at = step (new_ports.lane_was t new pools order keeps may put w l at)
+    taken w l k at = step (new_ports.lane_was t new pools order may put w l at)
       where
         none : is_end new.number w ≡ true → (h : HandleState) → Known h → one_from pools w l.pool k h ≡ 0
         none end h is =
@@ -117,23 +116,24 @@ module _ (t : HubTables) (new : PortState) (pools : List (Option PoolState)) (or
     from_lane h is received = subst (λ w. IsOfPoolOrGone u w h.pool) (way_stays h is.0.1) (step (is.1 received))
       where
         lane : lane_on u.ports (way_in t.pools h) ≡ lane_on t.ports (way_in t.pools h)
-        lane = new_ports.lane_else t new pools order keeps may put (way_in t.pools h) (way_off h is.0)
+        lane = new_ports.lane_else t new pools order may put (way_in t.pools h) (way_off h is.0)
 
         step : IsOfPoolOrGone t (way_in t.pools h) h.pool → IsOfPoolOrGone u (way_in t.pools h) h.pool
         step (inl a) = inl (a.0, lane ∙ a.1, a.2)
-        step (inr a) = inr (lane ∙ a.0, new_ports.there_else t new pools order keeps may put (way_in t.pools h).sender (sender_off h is.0) ∙ a.1)
+        step (inr a) = inr (lane ∙ a.0, new_ports.there_else t new pools order may put (way_in t.pools h).sender (sender_off h is.0) ∙ a.1)
 
     pub in_order : AreInOrder u
     in_order = record {
-      counted = new_ports.counted t new pools order keeps may put;
-      serials = new_ports.serials t new pools order keeps may put;
-      pools = new_ports.has_pools t new pools order keeps may put;
-      once = new_ports.once t new pools order keeps may put;
-      lanes = new_ports.lanes t new pools order keeps may put;
-      labels = new_ports.labels t new pools order keeps may put;
-      widths = new_ports.widths t new pools order keeps may put;
-      wired = new_ports.wired t new pools order keeps may put;
-      numbers = new_numbers t new pools order keeps may put;
+      counted = new_ports.counted t new pools order may put;
+      serials = new_ports.serials t new pools order may put;
+      pools = new_ports.has_pools t new pools order may put;
+      once = new_ports.once t new pools order may put;
+      lanes = new_ports.lanes t new pools order may put;
+      labels = new_ports.labels t new pools order may put;
+      owners = new_ports.owners t new pools order may put;
+      widths = new_ports.widths t new pools order may put;
+      wired = new_ports.wired t new pools order may put;
+      numbers = new_numbers t new pools order may put;
       ports = each_handle_from Known (IsOfPort u) of_port t.handles known;
       alone = alone;
       own = order.own;
@@ -142,4 +142,4 @@ module _ (t : HubTables) (new : PortState) (pools : List (Option PoolState)) (or
     }
 
 pub makings_keep_order : MakingsKeepOrder
-makings_keep_order t new pools order keeps may put = in_order t new pools order keeps may put
+makings_keep_order t new pools order may put = in_order t new pools order may put

@@ -2,6 +2,8 @@
 use Rattle.std.specs.Prelude.{◌≡◌, ◌⊎◌, ℕ, ◌<◌, ◌≤◌, Bool, true, false, ◌||◌, if◌then◌else◌, ◌==◌, List, [], ◌∷◌, ◌++◌, map, filter, length, Option, Some, None, is_some, slice_get, refl}
 use Rattle.std.specs.Option.{option_map, option_map_or}
 use Rattle.std.proofs.Common.{sym, ap, append_assoc, subst, ◌∙◌, arith, inl, inr, true≢false, eqb-true}
+use Rattle.std.proofs.lemmas.Bool.{or_right}
+use Rattle.std.proofs.lemmas.List.{map-append}
 use Rattle.std.proofs.lemmas.Option.{none-some}
 use Rattle.iox_model.specs.declared.kind.Role.{Role}
 use Rattle.iox_model.specs.declared.kind.Role.TheVariants.{Client}
@@ -10,26 +12,28 @@ use Rattle.iox_model.specs.Expiries.{is_end}
 use Rattle.iox_model.specs.Maps.{has_number, or_else}
 use Rattle.iox_model.specs.Settings.{other_role, same_role}
 use Rattle.iox_laws.proofs.WeaveLaws.MapLemmas.{eqb-refl}
+use Rattle.iox_lanes.specs.Incomings.{IncomingState}
 use Rattle.iox_lanes.specs.Lanes.{LaneState}
 use Rattle.iox_lanes.specs.Pipes.{PipeState}
 use Rattle.iox_tables.specs.HubStates.Tables.{HubTables, PoolState, PortState, SlotState, no_slot, owner_of, pipe_from, pipes_of, pipes_to, pool_at, port_in, senders_of, slot_at}
 use Rattle.iox_tables.specs.HubStates.Ways.{lane_on, lanes_from, states_from}
+use Rattle.iox_tables.specs.HubStates.States.{expired_in}
 use Rattle.iox_tables.specs.HubStates.Steps.{is_there, places_on}
+use Rattle.iox_tables.proofs.HubStates.Emptied.{has-append}
 use Rattle.iox_tables.specs.HubStates.Wirings.{IsWired, numbers_of_role, role_in}
 use Rattle.iox_tables.proofs.HubStates.Fixing.{first_key}
 use Rattle.iox_tables.proofs.HubStates.Keys.{first_append, flip, has_some}
 use Rattle.iox_tables.specs.HubBooks.Counts.{OfAllLanes, how_often, lane_count, uses}
-use Rattle.iox_tables.specs.HubBooks.Hubs.{AreInOrder, AreWired, HasEachPlaceOnce, HasPool, HasWidth, HaveNumbers, HavePools, HaveSerials, HaveWidths, HoldersAreCounted, IsUsed, LanesAreOfSenders, ResponsesAreOnTheirLanes, numbers_in}
+use Rattle.iox_tables.specs.HubBooks.Hubs.{AreInOrder, AreWired, HasEachPlaceOnce, HasPool, HasWidth, HaveNumbers, HavePools, HaveSerials, HaveWidths, HoldersAreCounted, IsUsed, LanesAreOfSenders, PlacesAreOfSenders, ResponsesAreOnTheirLanes, numbers_in}
 use Rattle.iox_tables.proofs.HubBooks.Used.{used_on_lane}
 use Rattle.iox_tables.specs.HubMaking.FreePools.{IsPut}
 use Rattle.iox_tables.specs.HubMaking.NewPorts.{connected_from, connected_to, is_other, pipe_between, pool_made, states_of, width_of, with_port_made}
 use Rattle.iox_tables.specs.HubMaking.Wires.{AreConnected, IsNewLane, IsNewPipe, PortIsNew}
 use Rattle.iox_tables.proofs.HubMaking.Connecting.{old_there, port_with, shows_same, there_with}
 use Rattle.iox_tables.proofs.HubMaking.Joining.{new_ports_are_connected}
-use Rattle.iox_tables.specs.HubKeeping.Connected.{KeepsNone}
 use Rattle.iox_tables.specs.HubKeeping.Keeps.{MayBeMade}
 use Rattle.iox_tables.proofs.HubKeeping.NewLanes.{length_same, same_or, new_lanes_are, new_lanes_same}
-use Rattle.iox_tables.proofs.HubKeeping.Ordered.{are_connected, not_there, used_else}
+use Rattle.iox_tables.proofs.HubKeeping.Ordered.{are_connected, not_there, unkept, used_else}
 
 -- a connected port is among those of its role
 pub in_role : (ports : List PortState) (n : ℕ) (p : PortState) (role : Role) → port_in ports n ≡ Some p → same_role p.role role ≡ true
@@ -60,7 +64,7 @@ same_self a b e = subst (λ r. same_role a r ≡ true) e (itself a)
     itself Client = refl
     itself _ = refl
 
-module _ (t : HubTables) (new : PortState) (pools : List (Option PoolState)) (order : AreInOrder t) (keeps : KeepsNone t.settings) (may : MayBeMade t new)
+module _ (t : HubTables) (new : PortState) (pools : List (Option PoolState)) (order : AreInOrder t) (may : MayBeMade t new)
     (put : IsPut t.pools new.pool (pool_made new) pools)
   where
     abbrev u : HubTables
@@ -75,11 +79,17 @@ module _ (t : HubTables) (new : PortState) (pools : List (Option PoolState)) (or
     pub fresh : is_there t.ports new.number ≡ false
     fresh = ap (is_there t.ports) may.number ∙ not_there t order
 
+    new_unkept : (n : ℕ) → has_number new.number (expired_in t.ports n) ≡ false
+    new_unkept n = ap (λ k. has_number k (expired_in t.ports n)) may.number ∙ unkept t order n
+
+    bare : new.expired.pipes ≡ []
+    bare = ap (λ (c : IncomingState). c.pipes) may.none
+
     pub is_new : PortIsNew t new u
-    is_new = (new_ports_are_connected t new pools (are_connected t order keeps) fresh may.none).0
+    is_new = (new_ports_are_connected t new pools (are_connected t order) fresh new_unkept may.none).0
 
     connected : AreConnected u
-    connected = (new_ports_are_connected t new pools (are_connected t order keeps) fresh may.none).1
+    connected = (new_ports_are_connected t new pools (are_connected t order) fresh new_unkept may.none).1
 
     -- ---- ports
 
@@ -97,7 +107,7 @@ module _ (t : HubTables) (new : PortState) (pools : List (Option PoolState)) (or
         step true e = absurd (true≢false (sym (ap (λ (o : Option PortState). is_some o) at) ∙ ap (is_there t.ports) (eqb-true k new.number e) ∙ fresh))
 
     -- each port was there, or is the new one
-    abbrev Was : ℕ → PortState → Type 0
+    abbrev pub Was : ℕ → PortState → Type 0
     Was k p = ((q : PortState) × (port_in t.ports k ≡ Some q) × (p ≡ C q)) ⊎ ((k ≡ new.number) × (p ≡ last))
 
     pub port_was : (k : ℕ) (p : PortState) → port_in u.ports k ≡ Some p → Was k p
@@ -172,7 +182,7 @@ module _ (t : HubTables) (new : PortState) (pools : List (Option PoolState)) (or
 
         old : (slot_at t.pools pool k).holders ≡ uses u pool k
         old =
-            let lanes = new_lanes_same t.settings t.ports new may.none (lane_count pool k) nothing in
+            let lanes = new_lanes_same t.settings t.ports new bare (lane_count pool k) nothing in
             let before = order.counted pool k in omega (arith, lanes, before)
 
         step : (b : Bool) → (pool == new.pool) ≡ b → (slot_at pools pool k).holders ≡ uses u pool k
@@ -319,20 +329,20 @@ module _ (t : HubTables) (new : PortState) (pools : List (Option PoolState)) (or
             ∙ order.labels w l k q.0 (sym (role_else w.receiver (ends w q.1).0) ∙ client) has
         step (inr q) = absurd (true≢false (sym has ∙ ap (λ (x : LaneState). has_number k (places_on x)) q.0.lane))
 
+    pub owners : PlacesAreOfSenders u
+    owners w l k at has = step (lane_was w l at)
+      where
+        step : LaneWas w l → owner_of pools l.pool ≡ w.sender
+        step (inl q) = sym (owner_else l.pool (else_if_used l.pool k (used_on_lane t order w l k q.0 has))) ∙ order.owners w l k q.0 has
+        step (inr q) = absurd (true≢false (sym has ∙ ap (λ (x : LaneState). has_number k (places_on x)) q.0.lane))
+
     pub once : OfAllLanes HasEachPlaceOnce u.ports
-    once = new_lanes_are t.settings t.ports new may.none HasEachPlaceOnce (λ a b c k. omega arith) order.once
+    once = new_lanes_are t.settings t.ports new bare HasEachPlaceOnce (λ a b c k. omega arith) order.once
 
     -- ---- pipes
 
-    none_kept : (n : ℕ) (p : PortState) → port_in u.ports n ≡ Some p → p.expired.pipes ≡ []
-    none_kept n p at = step (port_was n p at)
-      where
-        step : Was n p → p.expired.pipes ≡ []
-        step (inl q) = ap (λ (x : PortState). x.expired.pipes) q.2 ∙ shows (λ x. x.expired.pipes) (λ x ps. refl) q.0 ∙ order.wired.none_kept n q.0 q.1
-        step (inr q) = ap (λ (x : PortState). x.expired.pipes) q.1 ∙ may.none
-
     pub wired : AreWired u
-    wired = record { each = connected.wired; none_kept = none_kept; limits = connected.limits }
+    wired = record { each = connected.wired; kept = connected.kept; limits = connected.limits }
 
     pub widths : HaveWidths u
     widths n m to from a b roles = made (some_is (pipe_from (pipes_of to) m) found)
@@ -346,9 +356,12 @@ module _ (t : HubTables) (new : PortState) (pools : List (Option PoolState)) (or
 
         found : is_some (pipe_from (pipes_of to) m) ≡ true
         found =
-            sym (has_some (pipes_of to) m) ∙ ap (λ (es : List PipeState). has_number m (senders_of (es ++ to.incoming.pipes))) (none_kept n to a)
-            ∙ ap (has_number m) (connected.wired n to a).senders
-            ∙ in_role u.ports m from (other_role to.role) b (same_self from.role (other_role to.role) (role_back to.role from.role roles))
+            sym (has_some (pipes_of to) m)
+            ∙ ap (has_number m) (map-append (λ (q : PipeState). q.sender) to.expired.pipes to.incoming.pipes)
+            ∙ has-append m (senders_of to.expired.pipes) (senders_of to.incoming.pipes)
+            ∙ or_right (has_number m (senders_of to.expired.pipes)) (has_number m (senders_of to.incoming.pipes))
+            (ap (has_number m) (connected.wired n to a).senders
+            ∙ in_role u.ports m from (other_role to.role) b (same_self from.role (other_role to.role) (role_back to.role from.role roles)))
 
         own : from.number ≡ m
         own = first_key (λ (x : PortState). x.number) u.ports m from b

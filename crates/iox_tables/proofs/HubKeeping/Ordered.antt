@@ -1,5 +1,5 @@
 -- What is so of ports and handles where the tables of a hub are in order.
-use Rattle.std.specs.Prelude.{◌≡◌, ℕ, ◌+◌, ◌<◌, Bool, true, false, if◌then◌else◌, ◌==◌, List, [], ◌∷◌, ◌++◌, map, Option, Some, None, is_some, slice_get, refl}
+use Rattle.std.specs.Prelude.{◌≡◌, ℕ, ◌+◌, ◌<◌, ◌≤◌, Bool, true, false, if◌then◌else◌, ◌==◌, List, [], ◌∷◌, ◌++◌, length, map, Option, Some, None, is_some, slice_get, refl}
 use Rattle.std.specs.List.{sum_by}
 use Rattle.std.specs.Option.{option_map_or}
 use Rattle.std.proofs.Common.{sym, ap, ap₂, subst, ◌∙◌, true≢false, arith, eqb-true}
@@ -14,20 +14,29 @@ use Rattle.iox_laws.proofs.WeaveLedger.Lists.{NoRepeats, among-front, among-numb
 use Rattle.iox_lanes.specs.Lanes.{LaneState}
 use Rattle.iox_tables.specs.HubStates.Tables.{HandleState, HubTables, PoolState, PortState, SlotState, labels_of, no_slot, numbers_of, owner_of, pool_at, port_in, senders_of, slot_at}
 use Rattle.iox_tables.specs.HubStates.Ways.{lane_on}
+use Rattle.iox_tables.specs.HubStates.States.{expired_in}
 use Rattle.iox_tables.specs.HubStates.Ends.{OfEachHandle}
 use Rattle.iox_tables.specs.HubStates.Steps.{is_there, places_on}
 use Rattle.iox_tables.proofs.HubStates.Fixing.{first_key}
-use Rattle.iox_tables.specs.HubBooks.Counts.{in_pipe, in_port, is_at, on_lanes, total}
+use Rattle.iox_tables.specs.HubBooks.Counts.{OfAll, in_pipe, in_port, is_at, on_lanes, total}
 use Rattle.iox_tables.specs.HubBooks.Handles.{IsOfPort, is_from, way_in}
 use Rattle.iox_tables.specs.HubBooks.Hubs.{AreInOrder, IsUsed}
+use Rattle.iox_tables.specs.HubStates.Wirings.{IsHandle}
 use Rattle.iox_tables.proofs.HubBooks.Held.{IsCountedIn, each_counts, each_handle_from}
-use Rattle.iox_tables.proofs.HubBooks.Used.{at_itself, passes_once, used_on_lane}
-use Rattle.iox_tables.specs.HubMaking.Disconnections.{IsAtHome, KeepsNoExpired}
+use Rattle.iox_tables.proofs.HubBooks.Used.{at_itself, handle_is, passes_once, used_on_lane}
+use Rattle.iox_tables.specs.HubMaking.Disconnections.{IsAtHome, MayGo}
 use Rattle.iox_tables.specs.HubMaking.FreePools.{NobodyHas}
 use Rattle.iox_tables.specs.HubMaking.LaneSums.{sum_in_pipe, sum_in_port, sum_on_lanes}
 use Rattle.iox_tables.specs.HubMaking.Wires.{AreConnected}
 use Rattle.iox_tables.proofs.HubMaking.Firsts.{has_first}
-use Rattle.iox_tables.specs.HubKeeping.Connected.{PlacesBecomeFree, IsFreePlace, KeepsNone, OrderIsReadyForPorts}
+use Rattle.iox_tables.proofs.HubMaking.Removing.{distinct_behind, senders_append}
+use Rattle.iox_laws.proofs.WeaveLaws.MapLemmas.{eqb-refl}
+use Rattle.iox_tables.specs.HubKeeping.Connected.{ConnectedMayGo, IsFreePlace, KeepsNone, NothingIsKept, OrderIsReadyForPorts, PlacesBecomeFree}
+use Rattle.iox_tables.specs.HubMaking.Expirings.{KeepsExpired}
+use Rattle.iox_tables.specs.HubMaking.NewPorts.{room_for_gone}
+use Rattle.iox_model.specs.declared.kind.Role.{Role}
+use Rattle.iox_model.specs.declared.kind.Role.TheVariants.{Client, Server}
+use Rattle.iox_lanes.specs.Pipes.{PipeState}
 
 -- ---- lists
 
@@ -176,26 +185,88 @@ module _ (t : HubTables) (order : AreInOrder t) where
 
   -- ---- ports
 
-  module _ (keeps : KeepsNone t.settings) where
-    pub no_expired : KeepsNoExpired t
-    no_expired = record { clients = keeps.clients; servers = keeps.servers; none = λ n. step n (port_in t.ports n) refl }
-      where
-        step : (n : ℕ) (o : Option PortState) → port_in t.ports n ≡ o → option_map_or (λ (p : PortState). senders_of p.expired.pipes) o [] ≡ []
-        step n (Some p) is = ap senders_of (order.wired.none_kept n p is)
-        step n None is = refl
+  pub are_connected : AreConnected t
+  are_connected = record { apart = names_apart; wired = order.wired.each; kept = order.wired.kept; limits = order.wired.limits }
 
-    pub are_connected : AreConnected t
-    are_connected = record { apart = names_apart; wired = order.wired.each; limits = order.wired.limits; none = no_expired }
+  pub may_go : (n : ℕ) → is_there t.ports n ≡ true → MayGo t n
+  may_go n there = record { there = there; apart = names_apart; wired = order.wired.each; kept = order.wired.kept; widths = order.widths }
+
+  -- nothing is kept of a port of the next number
+  pub unkept : (n : ℕ) → has_number t.next_number (expired_in t.ports n) ≡ false
+  unkept n = step (port_in t.ports n) refl
+    where
+      either : (b : Bool) (p : PortState) → port_in t.ports n ≡ Some p → has_number t.next_number (senders_of p.expired.pipes) ≡ b → b ≡ false
+      either false p at e = refl
+      either true p at e = let low = order.numbers.kept n p at t.next_number e in absurd (omega (arith, low))
+
+      step : (o : Option PortState) → port_in t.ports n ≡ o → has_number t.next_number (option_map_or (λ (p : PortState). senders_of p.expired.pipes) o []) ≡ false
+      step (Some p) at = either (has_number t.next_number (senders_of p.expired.pipes)) p at refl
+      step None at = refl
+
+  -- what is so of each port that is found is so of all
+  pub all_found : (P : PortState → Type 0) → ((k : ℕ) (p : PortState) → port_in t.ports k ≡ Some p → P p) → OfAll P t.ports
+  all_found P each = all P t.ports names_apart each
+    where
+      all : (P : PortState → Type 0) (ports : List PortState) → AreDistinct (numbers_of ports) → ((k : ℕ) (p : PortState) → port_in ports k ≡ Some p → P p) → OfAll P ports
+      all P [] apart each = tt
+      all P (p ∷ ps) apart each =
+          (each p.number p (ap (λ (b : Bool). if b then Some p else port_in ps p.number) (eqb-refl p.number)), all P ps apart.1 behind)
+        where
+          behind : (k : ℕ) (q : PortState) → port_in ps k ≡ Some q → P q
+          behind k q is = each k q (other (p.number == k) refl)
+            where
+              other : (b : Bool) → (p.number == k) ≡ b → (if b then Some p else port_in ps k) ≡ Some q
+              other false e = is
+              other true e =
+                  absurd (true≢false
+                  (sym (has_first (λ (z : PortState). z.number) ps k ∙ ap (λ (o : Option PortState). is_some o) is)
+                  ∙ ap (λ j. has_number j (numbers_of ps)) (sym (eqb-true p.number k e)) ∙ apart.0))
+
+  -- no two pipes to a port come from one
+  pub senders_apart : OfAll (λ p. AreDistinct (senders_of p.incoming.pipes)) t.ports
+  senders_apart =
+      all_found (λ p. AreDistinct (senders_of p.incoming.pipes))
+      (λ k p at. distinct_behind (senders_of p.expired.pipes) (senders_of p.incoming.pipes)
+      (subst AreDistinct (senders_append p.expired.pipes p.incoming.pipes) (order.wired.each k p at).apart))
 
   pub at_home : OfEachHandle (IsAtHome t) t.handles
   at_home = each_handle_from (IsOfPort t) (IsAtHome t) (λ h is. is.on_node ∙ sym (ap (λ o. option_map_or (λ (p : PortState). p.node) o 0) is.there)) t.handles order.ports
 
 pub order_is_ready_for_ports : OrderIsReadyForPorts
-order_is_ready_for_ports t order keeps = record {
-  connected = are_connected t order keeps;
-  takes = record { fresh = not_there t order; apart = names_apart t order; wired = order.wired.each; none = no_expired t order keeps };
+order_is_ready_for_ports t order = record {
+  connected = are_connected t order;
+  takes = record { fresh = not_there t order; apart = names_apart t order; wired = order.wired.each; unkept = unkept t order };
   home = at_home t order;
 }
+
+pub connected_may_go : ConnectedMayGo
+connected_may_go t n order there = may_go t order n there
+
+-- the port of a handle may go
+pub handle_may_go : (t : HubTables) → AreInOrder t → (node n : ℕ) (h : HandleState) → IsHandle t node n h → MayGo t h.port
+handle_may_go t order node n h named =
+    may_go t order h.port (ap (λ (o : Option PortState). is_some o) (handle_is (IsOfPort t) t.handles node n h order.ports named.there).there)
+
+pub nothing_is_kept : NothingIsKept
+nothing_is_kept t n p order none at = no_pipes (p.expired.pipes) (fewest (length p.expired.pipes) p.expired.most its.few (its.room ∙ no_room p.role))
+  where
+    its : KeepsExpired t p
+    its = order.wired.kept n p at
+
+    no_room : (role : Role) → room_for_gone t.settings role ≡ 0
+    no_room Client = none.clients
+    no_room Server = step t.settings.fire_and_forget
+      where
+        step : (b : Bool) → (if b then t.settings.server_expired else 0) ≡ 0
+        step true = none.servers
+        step false = refl
+
+    fewest : (a b : ℕ) → a ≤ b → b ≡ 0 → a ≡ 0
+    fewest a b low e = omega (arith, low, e)
+
+    no_pipes : (ps : List PipeState) → length ps ≡ 0 → ps ≡ []
+    no_pipes [] e = refl
+    no_pipes (q ∷ qs) e = absurd (omega (arith, e))
 
 pub places_become_free : PlacesBecomeFree
 places_become_free t place order = record { empty = empty_free t order place; left = left_free t order place; nobody = nobody_has t order place }

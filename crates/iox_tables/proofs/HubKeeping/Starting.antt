@@ -18,16 +18,18 @@ starts_are_in_order settings = record {
   once = tt;
   lanes = λ w l sender at from. absurd (none-some l at);
   labels = λ w l k at client has. absurd (none-some l at);
+  owners = λ w l k at has. absurd (none-some l at);
   widths = λ n m to from a b roles. absurd (none-some to a);
   wired = record {
     each = λ n p at. absurd (none-some p at);
-    none_kept = λ n p at. absurd (none-some p at);
+    kept = λ n p at. absurd (none-some p at);
     limits = λ w l at. absurd (none-some l at);
   };
   numbers = record {
     apart = tt;
     below = λ n has. absurd (true≢false (sym has));
     owners = λ place q at. absurd (none-some q at);
+    kept = λ n p at. absurd (none-some p at);
   };
   ports = tt;
   alone = tt;

@@ -61,6 +61,7 @@ module _ (t : HubTables) (n : ℕ) where
       once = all_with_first (OfPort HasEachPlaceOnce) (λ p. p.number) unheld t.ports n (λ p a. a) order.once;
       lanes = lanes_stay t u order alike refl refl;
       labels = λ w l k at client has. order.labels w l k (sym (lane_is w) ∙ at) (sym (same_role_in t.ports u.ports alike w.receiver) ∙ client) has;
+      owners = λ w l k at has. order.owners w l k (sym (lane_is w) ∙ at) has;
       widths = widths_stay t u order alike refl refl;
       wired = wired_stay t u order alike refl refl;
       numbers = numbers_stay t u order alike refl (ap (λ (ns : List ℕ). ns ++ map (λ h. h.number) t.handles) (same_numbers t.ports u.ports alike)) refl;

@@ -26,14 +26,14 @@ use Rattle.iox_tables.specs.HubLending.Emptying.{HasFewerHolders}
 
 first : AreInOrder one_port
 first =
-    makings_keep_order (no_ports one_of_each) the_client (Some (pool_made the_client) ∷ []) (starts_are_in_order one_of_each) (record { clients = refl; servers = refl })
+    makings_keep_order (no_ports one_of_each) the_client (Some (pool_made the_client) ∷ []) (starts_are_in_order one_of_each)
     (record { number = refl; place = empty_free (no_ports one_of_each) (starts_are_in_order one_of_each) 0 refl; none = refl })
     (new_pools_are_put [] (pool_made the_client)).behind
 
 pub two_ports_are_in_order : TwoPortsAreInOrder
 two_ports_are_in_order = (
   first,
-  makings_keep_order one_port the_server two_pools first (record { clients = refl; servers = refl })
+  makings_keep_order one_port the_server two_pools first
       (record { number = refl; place = empty_free one_port first 1 refl; none = refl })
       (new_pools_are_put one_port.pools (pool_made the_server)).behind,
 )
@@ -59,7 +59,7 @@ lost_is : (pool k : ℕ) → lost_uses released 1 pool k ≡ on_both (0 == pool)
 lost_is pool k =
     let old = lanes_sum (lane_count pool k) released.ports in
     let new = lanes_sum (lane_count pool k) (ports_without 1 released.ports) in
-    let all = gone_lanes_count (lane_count pool k) 1 released.ports in
+    let all = gone_lanes_count (lane_count pool k) 1 released.ports ((refl, tt), ((refl, tt), tt)) in
     let none = none_left pool k in
     let lost : lost_uses released 1 pool k ≡ lane_uses released.ports pool k = omega (arith, old, new, all, none) in lost ∙ both_are pool k
 
@@ -92,6 +92,6 @@ fewer = record { same = refl; holders = holders }
 
 pub one_has_the_request : OneHasTheRequest
 one_has_the_request = (
-  disconnections_keep_order released 1 (with_holders 1).pools (values_keep_order (with_holders 2) 1 two_have_the_request.0) (record { clients = refl; servers = refl }) refl fewer,
+  disconnections_keep_order released 1 (with_holders 1).pools (values_keep_order (with_holders 2) 1 two_have_the_request.0) refl refl fewer,
   λ order. let never = order.counted 0 0 in absurd (omega (arith, never)),
 )

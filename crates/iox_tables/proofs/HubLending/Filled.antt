@@ -195,6 +195,7 @@ module _ (t : HubTables) (node n : ℕ) (h : HandleState) (kind : Kind) (order :
     once = order.once;
     lanes = lanes_stay t u order refl refl refl;
     labels = order.labels;
+    owners = order.owners;
     widths = widths_stay t u order refl refl refl;
     wired = wired_stay t u order refl refl refl;
     numbers = numbers_stay t u order refl refl (ap (λ (ns : List ℕ). numbers_of t.ports ++ ns) (changed_numbers new t.handles)) refl;

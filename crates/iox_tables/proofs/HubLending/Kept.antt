@@ -17,9 +17,9 @@ use Rattle.iox_laws.proofs.WeaveLedger.Lists.{IsAmong, NoRepeats, among-any, amo
 use Rattle.iox_laws.proofs.WeaveLedger.Ranges.{range-has}
 use Rattle.iox_lanes.specs.Lanes.{LaneState}
 use Rattle.iox_lanes.specs.Pipes.{PipeState}
-use Rattle.iox_tables.specs.HubStates.Tables.{HandleState, HubTables, PortState, first_by, labels_of, numbers_of, owner_of, pipe_from, pipes_of, port_in, senders_of, slot_at}
+use Rattle.iox_tables.specs.HubStates.Tables.{HandleState, HubTables, PoolState, PortState, first_by, labels_of, numbers_of, owner_of, pipe_from, pipes_of, pool_at, port_in, senders_of, slot_at}
 use Rattle.iox_tables.specs.HubStates.Ways.{lane_on, lanes_from}
-use Rattle.iox_tables.specs.HubStates.Steps.{places_on}
+use Rattle.iox_tables.specs.HubStates.Steps.{is_there, places_on}
 use Rattle.iox_tables.specs.HubStates.Wirings.{numbers_of_role}
 use Rattle.iox_tables.proofs.HubStates.Keys.{has_some}
 use Rattle.iox_tables.specs.HubBooks.Counts.{how_often, in_pipe, in_port, is_at, lane_count, lane_uses, handle_uses, total}
@@ -29,6 +29,7 @@ use Rattle.iox_tables.proofs.HubBooks.Held.{IsCountedIn, each_counts}
 use Rattle.iox_tables.proofs.HubBooks.Places.{has_often}
 use Rattle.iox_tables.proofs.HubBooks.Sendable.{of_role}
 use Rattle.iox_tables.proofs.HubBooks.Used.{at_itself, passes_once}
+use Rattle.iox_tables.proofs.HubBooks.Ways.{sends_in}
 use Rattle.iox_tables.specs.HubLoans.Lenders.{size_in, ways_by, ways_to_client}
 use Rattle.iox_tables.specs.HubLoans.Pools.{is_slot_held, is_slot_kept, is_slot_out}
 use Rattle.iox_tables.specs.HubLoans.Slots.{is_place}
@@ -151,19 +152,20 @@ module _ (t : HubTables) (order : AreInOrder t) where
         is_way = ap (λ (s : ℕ). record { sender = s; receiver = w.receiver; lane = w.lane }) (sym from)
 
     -- a lane with messages of the port's pool is on one of its ways
-    pub way_is : (w : Way) (l : LaneState) → lane_on t.ports w ≡ Some l → l.pool ≡ p.pool → IsAmong w (ways_by p.role t p.number)
-    way_is w l at pool = at_port (port_in t.ports w.receiver) refl at
+    pub way_is : (w : Way) (l : LaneState) (k : ℕ) → lane_on t.ports w ≡ Some l → l.pool ≡ p.pool → has_number k (places_on l) ≡ true → IsAmong w (ways_by p.role t p.number)
+    way_is w l k at pool has = at_port (port_in t.ports w.receiver) refl at
       where
         at_pipe : (q : PortState) → port_in t.ports w.receiver ≡ Some q → (o : Option PipeState) → pipe_from (pipes_of q) w.sender ≡ o
             → slice_get (option_map_or (λ (x : PipeState). x.lanes) o []) w.lane ≡ Some l → IsAmong w (ways_by p.role t p.number)
         at_pipe q port None pipe is = absurd (none-some l is)
         at_pipe q port (Some x) pipe is =
-            let wired = order.wired.each w.receiver q port in
-            let senders : senders_of (pipes_of q) ≡ senders_of q.incoming.pipes = ap (λ (es : List PipeState). senders_of (es ++ q.incoming.pipes)) (order.wired.none_kept w.receiver q port) in
-            let has : has_number w.sender (senders_of (pipes_of q)) ≡ true = has_some (pipes_of q) w.sender ∙ ap is_some pipe in
-            let r = of_role t order (other_role q.role) w.sender (number-among w.sender _ (sym (ap (has_number w.sender) (senders ∙ wired.senders)) ∙ has)) in
-            let of_pool : r.0.pool ≡ p.pool = sym (order.lanes w l r.0 at r.1).of_pool ∙ pool in
-            let from : w.sender ≡ p.number = same_port w.sender n r.0 p r.1 there of_pool ∙ sym (number_is t order n p there) in
+            let its = order.pools.each n p there in
+            let owner : w.sender ≡ n
+            = sym (order.owners w l k at has) ∙ ap (owner_of t.pools) pool ∙ ap (λ o. option_map_or (λ (y : PoolState). y.port) o 0) its.there ∙ its.port ∙ number_is t order n p there in
+            let sends : has_number w.sender (senders_of (pipes_of q)) ≡ true = has_some (pipes_of q) w.sender ∙ ap is_some pipe in
+            let connected : is_there t.ports w.sender ≡ true = ap (is_there t.ports) owner ∙ ap is_some there in
+            let r = of_role t order (other_role q.role) w.sender (number-among w.sender _ (sends_in t order w.receiver q port w.sender connected sends)) in
+            let from : w.sender ≡ p.number = owner ∙ sym (number_is t order n p there) in
             let same : r.0 ≡ p = port_is t order n p there w.sender r.0 r.1 from in
             let role : p.role ≡ other_role q.role = ap (λ (y : PortState). y.role) (sym same) ∙ r.2 in
             let other : q.role ≡ other_role p.role = sym (other_other q.role) ∙ ap other_role (sym role) in
@@ -178,7 +180,7 @@ module _ (t : HubTables) (order : AreInOrder t) where
 
     out_on : (w : Way) (l : LaneState) (k : ℕ) → lane_on t.ports w ≡ Some l → l.pool ≡ p.pool → has_number k (places_on l) ≡ true → is_slot_out t p k ≡ true
     out_on w l k at pool has =
-        among-any (λ v. option_map_or (λ m. has_number k (places_on m)) (lane_on t.ports v) false) w (ways_by p.role t p.number) (way_is w l at pool)
+        among-any (λ v. option_map_or (λ m. has_number k (places_on m)) (lane_on t.ports v) false) w (ways_by p.role t p.number) (way_is w l k at pool has)
         (ap (λ o. option_map_or (λ (m : LaneState). has_number k (places_on m)) o false) at ∙ has)
 
     -- ---- lanes

@@ -11,13 +11,13 @@ use Rattle.iox_model.specs.Maps.{AreDistinct, has_number, same_way}
 use Rattle.iox_laws.proofs.WeaveLaws.MapLemmas.{eqb-refl}
 use Rattle.iox_laws.proofs.WeaveLedger.Lists.{IsAmong, among-append, among-number, distinct-no_repeats, no_repeats-distinct, no_repeats-last, number-among}
 use Rattle.iox_lanes.specs.Lanes.{LaneState}
-use Rattle.iox_tables.specs.HubStates.Tables.{HandleState, HubTables, PoolState, PortState, SlotState, numbers_of, pool_at, port_in, slot_at}
+use Rattle.iox_tables.specs.HubStates.Tables.{HandleState, HubTables, PoolState, PortState, SlotState, numbers_of, pool_at, port_in, senders_of, slot_at}
 use Rattle.iox_tables.specs.HubStates.Ways.{OnWays, lane_on}
 use Rattle.iox_tables.specs.HubStates.Ends.{OfEachHandle}
 use Rattle.iox_tables.proofs.HubStates.Keys.{flip}
 use Rattle.iox_tables.specs.HubBooks.Counts.{handle_uses, how_many, is_at, lane_count, lane_uses, total}
 use Rattle.iox_tables.specs.HubBooks.Handles.{IsAlone, IsFromLane, IsOfPoolOrGone, IsOfPort, OwnAreApart, TakenHaveHandles, is_from, is_own_at, role_for, way_in}
-use Rattle.iox_tables.specs.HubBooks.Hubs.{AreInOrder, HasEachPlaceOnce, HasPool, HaveNumbers, HavePools, HaveSerials, HoldersAreCounted, IsUsed, ResponsesAreOnTheirLanes, numbers_in}
+use Rattle.iox_tables.specs.HubBooks.Hubs.{AreInOrder, HasEachPlaceOnce, HasPool, HaveNumbers, HavePools, HaveSerials, HoldersAreCounted, IsUsed, PlacesAreOfSenders, ResponsesAreOnTheirLanes, numbers_in}
 use Rattle.iox_tables.proofs.HubBooks.Frames.{map_append}
 use Rattle.iox_tables.proofs.HubBooks.Going.{each_both, each_last}
 use Rattle.iox_tables.proofs.HubBooks.Held.{IsCountedIn, each_counts, each_handle_from, used_by_counted}
@@ -233,6 +233,9 @@ module _ (t : HubTables) (y : Lender) (uninit : Bool) (k slot : ℕ) (order : Ar
       ap (λ (z : SlotState). z.lane) (stays l.pool j (used_on_lane t order w l j before has))
       ∙ order.labels w l j before (sym (role_same t.ports n w.receiver) ∙ client) has
 
+  owners : PlacesAreOfSenders u
+  owners w l j at has = owner_same t p.pool slot s may.free l.pool ∙ order.owners w l j (sym (lane_was w) ∙ at) has
+
   -- ---- numbers
 
   numbers_are : numbers_in u ≡ numbers_in t ++ t.next_number ∷ []
@@ -249,6 +252,9 @@ module _ (t : HubTables) (y : Lender) (uninit : Bool) (k slot : ℕ) (order : Ar
     below = λ m has. below m (among-append m (numbers_in t) (t.next_number ∷ []) (number-among m (numbers_in t ++ t.next_number ∷ []) (subst (λ ns. has_number m ns ≡ true) numbers_are has)));
     owners = λ place q at.
         let a = pool_before t p.pool slot s may.free place q at in more q.port (subst (λ i. i < t.next_number) a.2 (order.numbers.owners place a.0 a.1));
+    kept = λ m q at j has.
+        let before = was t.ports n m q at in
+        more j (order.numbers.kept m before.port before.there j (ap (λ (x : PortState). has_number j (senders_of x.expired.pipes)) before.same ∙ has));
   }
     where
       fresh : IsAmong t.next_number (numbers_in t) → ⊥
@@ -343,6 +349,7 @@ module _ (t : HubTables) (y : Lender) (uninit : Bool) (k slot : ℕ) (order : Ar
     once = all_same t.ports n HasEachPlaceOnce order.once;
     lanes = senders_stay t u order n refl refl;
     labels = labels;
+    owners = owners;
     widths = widths_stay t u order n refl refl;
     wired = wired_stay t u order n refl refl;
     numbers = numbers;

@@ -21,7 +21,9 @@ use Rattle.iox_tables.proofs.HubBooks.Eachs.{OfPort, all_with_first}
 use Rattle.iox_tables.proofs.HubBooks.Frames.{first_map, some_map}
 use Rattle.iox_tables.proofs.HubLending.Owning.{same_some}
 use Rattle.iox_tables.proofs.HubBooks.Structures.{map_map}
+use Rattle.iox_tables.specs.HubMaking.Expirings.{KeepsExpired}
 use Rattle.iox_tables.specs.HubMaking.NewPorts.{states_of, width_of}
+use Rattle.iox_tables.proofs.HubMaking.Kept.{kept_same}
 
 -- the port but for the count of its loans
 abbrev pub but_loans : PortState → PortState
@@ -164,10 +166,20 @@ module _ (t u : HubTables) (order : AreInOrder t) (n : ℕ) (is : u.ports ≡ wi
       ∙ ap₂ (λ c r. limit_from c (other_role r)) (sym settings) (sym (ap (λ ps. role_in ps w.receiver) is ∙ role_same t.ports n w.receiver))
 
   pub wired_stay : AreWired u
-  wired_stay = record { each = each; none_kept = none_kept; limits = limits_stay }
+  wired_stay = record { each = each; kept = kept; limits = limits_stay }
     where
-      none_kept : (m : ℕ) (p : PortState) → port_in u.ports m ≡ Some p → p.expired.pipes ≡ []
-      none_kept m p at = let q = had m p at in sym (ap (λ (x : PortState). x.expired.pipes) q.same) ∙ order.wired.none_kept m q.port q.there
+      none_more : (m : ℕ) → port_in t.ports m ≡ None → port_in u.ports m ≡ None
+      none_more m none = step (port_in u.ports m) refl
+        where
+          step : (o : Option PortState) → port_in u.ports m ≡ o → o ≡ None
+          step None at = refl
+          step (Some p) at = let q = had m p at in absurd (none-some q.port (sym none ∙ q.there))
+
+      kept : (m : ℕ) (p : PortState) → port_in u.ports m ≡ Some p → KeepsExpired u p
+      kept m p at =
+          let q = had m p at in
+          kept_same t u q.port p settings (sym (ap (λ (x : PortState). x.expired) q.same)) (sym (ap (λ (x : PortState). x.role) q.same)) (sym (ap width_of q.same))
+          (λ k has none. none_more k none) (order.wired.kept m q.port q.there)
 
       each : (m : ℕ) (p : PortState) → port_in u.ports m ≡ Some p → IsWired u p
       each m p at =
@@ -178,5 +190,7 @@ module _ (t u : HubTables) (order : AreInOrder t) (n : ℕ) (is : u.ports ≡ wi
                 ∙ ap (λ (x : PortState). numbers_of_role (other_role x.role) t.ports) q.same
                 ∙ sym (ap (numbers_of_role (other_role p.role)) is ∙ roles_same t.ports n (other_role p.role));
             apart = subst AreDistinct (ap (λ (x : PortState). senders_of (pipes_of x)) q.same) old.apart;
-            none_kept = λ e f. none_kept m p at;
+            none_kept = λ e f.
+                sym (ap (λ (x : PortState). x.expired.pipes) q.same)
+                ∙ old.none_kept (ap (λ (x : PortState). x.role) q.same ∙ e) (ap (λ c. c.fire_and_forget) (sym settings) ∙ f);
           }

@@ -52,7 +52,7 @@ module _ (x : Given) (t : HubTables) (node : ℕ) (role : Role) (id : UniqueSyst
       fresh = can.fresh;
       apart = can.apart;
       wired = λ n p is. record { senders = (can.wired n p is).senders; apart = (can.wired n p is).apart; none_kept = (can.wired n p is).none_kept };
-      none = record { clients = can.none.clients; servers = can.none.servers; none = can.none.none };
+      unkept = can.unkept;
     }
 
     made_is : made_of s ≡ state_shown (given_made x words t.next_number o.handler) (with_port_made t new pools)

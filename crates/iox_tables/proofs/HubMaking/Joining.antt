@@ -1,7 +1,7 @@
 -- Once a port is made, all ports are connected.
-use Rattle.std.specs.Prelude.{◌≡◌, ◌⊎◌, ℕ, zero, suc, Bool, true, false, ◌||◌, if◌then◌else◌, ◌==◌, List, [], ◌∷◌, ◌++◌, map, filter, replicate, Option, Some, None, is_some, slice_get, refl}
+use Rattle.std.specs.Prelude.{◌≡◌, ◌⊎◌, ℕ, zero, suc, ◌≤◌, Bool, true, false, ◌||◌, if◌then◌else◌, ◌==◌, List, [], ◌∷◌, ◌++◌, map, filter, length, replicate, Option, Some, None, is_some, slice_get, refl}
 use Rattle.std.specs.Option.{option_map, option_map_or}
-use Rattle.std.proofs.Common.{sym, ap, ap₂, append_assoc, ◌∙◌, inl, inr, subst}
+use Rattle.std.proofs.Common.{sym, ap, ap₂, append_assoc, ◌∙◌, arith, inl, inr, subst, true≢false, eqb-true}
 use Rattle.std.proofs.lemmas.List.{append-nil, map-append}
 use Rattle.std.proofs.lemmas.Option.{none-some}
 use Rattle.iox_model.specs.declared.kind.Role.{Role}
@@ -10,18 +10,22 @@ use Rattle.iox_model.specs.declared.way.Way.{Way}
 use Rattle.iox_model.specs.Expiries.{is_end}
 use Rattle.iox_model.specs.Maps.{AreDistinct, has_number, or_else}
 use Rattle.iox_model.specs.Settings.{other_role, same_role}
+use Rattle.iox_lanes.specs.Incomings.{IncomingState, no_pipes}
 use Rattle.iox_lanes.specs.Lanes.{LaneState, empty_lane}
 use Rattle.iox_lanes.specs.Pipes.{PipeState}
 use Rattle.iox_tables.specs.HubStates.Tables.{HubTables, PoolState, PortState, numbers_of, pipe_from, pipes_of, pipes_to, port_in, senders_of}
 use Rattle.iox_tables.specs.HubStates.Ways.{lane_on}
+use Rattle.iox_tables.specs.HubStates.States.{expired_in}
 use Rattle.iox_tables.specs.HubStates.Steps.{is_there}
 use Rattle.iox_tables.specs.HubStates.Wirings.{HaveLimits, IsWired, buffer_from, limit_from, numbers_of_role, role_in}
 use Rattle.iox_tables.proofs.HubStates.Keys.{flip, has_some}
-use Rattle.iox_tables.specs.HubMaking.NewPorts.{connected_from, connected_to, is_other, pipe_between, ports_with, width_of, with_port_made}
+use Rattle.iox_tables.specs.HubMaking.NewPorts.{connected_from, connected_to, is_other, pipe_between, ports_with, room_for_gone, width_of, with_port_made}
+use Rattle.iox_tables.specs.HubMaking.Expirings.{KeepsExpired}
 use Rattle.iox_tables.specs.HubMaking.Wires.{AreConnected, IsNewLane, IsNewPipe, NewPortsAreConnected, PortIsNew}
 use Rattle.iox_tables.proofs.HubMaking.Connecting.{Comes, IsNew, comes, part_with, port_with, shows_same, there_is}
 use Rattle.iox_tables.proofs.HubMaking.Distinct.{distinct_last}
 use Rattle.iox_tables.proofs.HubMaking.Firsts.{has_first}
+use Rattle.iox_tables.proofs.HubMaking.Kept.{kept_same}
 use Rattle.iox_tables.proofs.HubMaking.Making.{among_role, none_is_sent_from}
 
 -- ---- roles
@@ -88,7 +92,11 @@ module _ (t : HubTables) (new : PortState) where
       step true = refl
       step false = refl
 
-module _ (t : HubTables) (new : PortState) (are : AreConnected t) (fresh : is_there t.ports new.number ≡ false) (bare : new.expired.pipes ≡ []) where
+module _ (t : HubTables) (new : PortState) (are : AreConnected t) (fresh : is_there t.ports new.number ≡ false)
+    (unkept : (n : ℕ) → has_number new.number (expired_in t.ports n) ≡ false) (room : new.expired ≡ no_pipes (room_for_gone t.settings new.role)) where
+  bare : new.expired.pipes ≡ []
+  bare = ap (λ (c : IncomingState). c.pipes) room
+
   abbrev after : List PortState
   after = ports_with t.settings t.ports new
 
@@ -102,7 +110,7 @@ module _ (t : HubTables) (new : PortState) (are : AreConnected t) (fresh : is_th
   absent = there_is (port_in t.ports new.number) fresh
 
   unsent : (r : ℕ) → pipe_from (pipes_to t.ports r) new.number ≡ None
-  unsent r = none_is_sent_from t are.wired are.none new.number fresh r
+  unsent r = none_is_sent_from t are.wired new.number unkept fresh r
 
   -- ---- numbers and roles
 
@@ -279,12 +287,45 @@ module _ (t : HubTables) (new : PortState) (are : AreConnected t) (fresh : is_th
       apart = subst AreDistinct (sym numbers_with) (distinct_last new.number (numbers_of t.ports) are.apart (has_first (λ q. q.number) t.ports new.number ∙ fresh));
       wired = each_with;
       limits = limits_with;
-      none = record {
-        clients = are.none.clients;
-        servers = are.none.servers;
-        none = λ k. sym (part_with t.settings t.ports new (λ p. senders_of p.expired.pipes) [] (λ p. shows_same t.settings t.ports new (λ q. senders_of q.expired.pipes) p (λ ps. refl)) (ap senders_of bare) k) ∙ are.none.none k;
-      };
+      kept = each_kept;
     }
+      where
+        -- a port of a number that somebody keeps is still not there
+        still : (k : ℕ) (p : PortState) → port_in t.ports k ≡ Some p → (n : ℕ) → has_number n (senders_of p.expired.pipes) ≡ true → port_in t.ports n ≡ None → port_in u.ports n ≡ None
+        still k p at n has none =
+            port_with t.settings t.ports new n ∙ ap (λ o. or_else (option_map (connected_to t.settings new) o) (if new.number == n then Some last else None)) none
+            ∙ other (new.number == n) refl
+          where
+            other : (b : Bool) → (new.number == n) ≡ b → (if b then Some last else None) ≡ None
+            other false e = refl
+            other true e =
+                absurd (true≢false
+                (sym has ∙ ap (λ m. has_number m (senders_of p.expired.pipes)) (sym (eqb-true new.number n e))
+                ∙ sym (ap (λ o. has_number new.number (option_map_or (λ q. senders_of q.expired.pipes) o [])) at) ∙ unkept k))
+
+        old_kept : (k : ℕ) (p : PortState) → port_in t.ports k ≡ Some p → KeepsExpired u (C p)
+        old_kept k p at =
+            kept_same t u p (C p) refl (shows_same t.settings t.ports new (λ q. q.expired) p (λ qs. refl)) (shows_same t.settings t.ports new (λ q. q.role) p (λ qs. refl))
+            (shows_same t.settings t.ports new width_of p (λ qs. refl)) (still k p at) (are.kept k p at)
+
+        new_kept : KeepsExpired u last
+        new_kept = record {
+          room = ap (λ (c : IncomingState). c.most) room;
+          few = subst (λ (c : IncomingState). length c.pipes ≤ c.most) (sym room) (zero-≤ (room_for_gone t.settings new.role));
+          gone = λ n has. absurd (true≢false (sym has ∙ ap (λ ps. has_number n (senders_of ps)) bare));
+          wide = λ n z at. absurd (none-some z (sym (ap (λ ps. pipe_from ps n) bare) ∙ at));
+        }
+          where
+            zero-≤ : (m : ℕ) → 0 ≤ m
+            zero-≤ m = omega arith
+
+        each_kept : (k : ℕ) (q : PortState) → port_in u.ports k ≡ Some q → KeepsExpired u q
+        each_kept k q is = step (port_in t.ports k) refl (new.number == k) (sym (port_with t.settings t.ports new k) ∙ is)
+          where
+            step : (o : Option PortState) → port_in t.ports k ≡ o → (b : Bool) → or_else (option_map (connected_to t.settings new) o) (if b then Some last else None) ≡ Some q → KeepsExpired u q
+            step (Some p) there b e = subst (λ (z : Option PortState). KeepsExpired u (option_map_or (λ y. y) z (C p))) e (old_kept k p there)
+            step None there true e = subst (λ (z : Option PortState). KeepsExpired u (option_map_or (λ y. y) z last)) e new_kept
+            step None there false e = absurd (none-some q e)
 
 pub new_ports_are_connected : NewPortsAreConnected
-new_ports_are_connected t new pools are fresh bare = (is_new t new are fresh bare pools, with_connected t new are fresh bare pools)
+new_ports_are_connected t new pools are fresh unkept room = (is_new t new are fresh unkept room pools, with_connected t new are fresh unkept room pools)

@@ -5,21 +5,19 @@ use Rattle.std.proofs.Common.{sym, ap, ◌∙◌, true≢false, subst}
 use Rattle.std.proofs.lemmas.Option.{none-some}
 use Rattle.iox_model.specs.declared.kind.Role.{Role}
 use Rattle.iox_model.specs.declared.kind.Role.TheVariants.{Client}
-use Rattle.iox_model.specs.Maps.{AreDistinct, is_empty}
+use Rattle.iox_model.specs.Maps.{AreDistinct, has_number}
 use Rattle.iox_model.specs.Settings.{other_role, same_role}
 use Rattle.iox_lanes.specs.Pipes.{PipeState}
-use Rattle.iox_tables.specs.HubStates.Tables.{HubTables, PortState, numbers_of, port_in, senders_of}
+use Rattle.iox_tables.specs.HubStates.Tables.{HubTables, PortState, numbers_of, pipes_of, port_in, senders_of}
+use Rattle.iox_tables.specs.HubStates.States.{expired_in}
 use Rattle.iox_tables.specs.HubStates.Ways.{lane_on}
 use Rattle.iox_tables.specs.HubStates.Wirings.{HaveLimits, IsWired, limit_from, numbers_of_role, role_in}
-use Rattle.iox_tables.specs.HubMaking.Disconnections.{cut_from, ports_without, with_disconnected}
+use Rattle.iox_tables.specs.HubMaking.Disconnections.{MayGo, cut_from, is_left, ports_without, with_disconnected}
+use Rattle.iox_tables.specs.HubMaking.Expirings.{KeepsExpired}
 use Rattle.iox_tables.specs.HubMaking.Wires.{AreConnected, GonePortsLeaveOthers, PortIsGone}
 use Rattle.iox_tables.proofs.HubMaking.Disconnecting.{lane_left, part_left, pipe_left, port_left, state_left}
 use Rattle.iox_tables.proofs.HubMaking.Distinct.{distinct_kept, numbers_kept}
-
--- no sender is of no pipe
-pub no_pipe : (ps : List PipeState) → senders_of ps ≡ [] → ps ≡ []
-no_pipe [] e = refl
-no_pipe (p ∷ ps) e = absurd (true≢false (sym (ap (λ (l : List ℕ). is_empty l) e)))
+use Rattle.iox_tables.proofs.HubMaking.Kept.{apart_cut, kept_cut, none_cut}
 
 module _ (n : ℕ) where
   abbrev stay : ℕ → Bool
@@ -49,67 +47,64 @@ module _ (n : ℕ) where
           rest ∙ sym (ap (λ (a : Bool). map (λ q. q.number) (if a then cut_from n p ∷ filter (λ q. same_role q.role role) (ports_without n ps) else filter (λ q. same_role q.role role) (ports_without n ps))) ea)
       step false ea false eb rest = rest
 
-module _ (t : HubTables) (n : ℕ) (are : AreConnected t) where
+module _ (t : HubTables) (n : ℕ) (are : AreConnected t) (may : MayGo t n) where
   abbrev u : HubTables
   u = with_disconnected t n
+
+  apart : (k : ℕ) (p : PortState) → port_in t.ports k ≡ Some p → AreDistinct (senders_of (pipes_of p))
+  apart k p at = (are.wired k p at).apart
 
   gone : PortIsGone t n
   gone = record {
     numbers = numbers_left n t.ports;
     ports = port_left n t.ports;
-    pipes = pipe_left n t.ports are.none.none;
-    lanes = lane_left n t.ports are.none.none;
-    states = state_left n t.ports are.none.none;
+    pipes = pipe_left n t.ports apart;
+    lanes = lane_left n t.ports apart;
+    states = state_left n t.ports apart;
   }
 
   wired_left : (k : ℕ) (p : PortState) → port_in t.ports k ≡ Some p → IsWired u (cut_from n p)
-  wired_left k p is =
-      let it : IsWired t p = are.wired k p is in
-      let senders : senders_of (filter (λ q. not (q.sender == n)) p.incoming.pipes) ≡ filter (stay n) (senders_of p.incoming.pipes)
-      = numbers_kept (λ q. q.sender) (stay n) p.incoming.pipes in
-      let none : p.expired.pipes ≡ [] = no_pipe p.expired.pipes (sym (ap (λ o. option_map_or (λ q. senders_of q.expired.pipes) o []) is) ∙ are.none.none k) in
-      record {
-        senders = senders ∙ ap (filter (stay n)) it.senders ∙ roles_left n (other_role p.role) t.ports;
-        apart = subst AreDistinct (sym (ap (λ (es : List PipeState). senders_of (es ++ filter (λ q. not (q.sender == n)) p.incoming.pipes)) none ∙ senders))
-            (distinct_kept (stay n) (senders_of p.incoming.pipes) (subst (λ (es : List PipeState). AreDistinct (senders_of (es ++ p.incoming.pipes))) none it.apart));
-        none_kept = λ e h. none;
-      }
+  wired_left k p is = record {
+    senders =
+        numbers_kept (λ q. q.sender) (stay n) p.incoming.pipes ∙ ap (filter (stay n)) (are.wired k p is).senders
+        ∙ roles_left n (other_role p.role) t.ports;
+    apart = apart_cut t n may k p is;
+    none_kept = none_cut t n may k p is;
+  }
 
-  each_left : (k : ℕ) (q : PortState) → port_in u.ports k ≡ Some q → IsWired u q
-  each_left k q is = step (k == n) (port_in t.ports k) refl (sym (port_left n t.ports k) ∙ is)
+  -- what is so of each port that is cut is so of each that is left
+  each_left : (P : PortState → Type 0) → ((k : ℕ) (p : PortState) → port_in t.ports k ≡ Some p → P (cut_from n p)) → (k : ℕ) (q : PortState) → port_in u.ports k ≡ Some q → P q
+  each_left P cut k q is = step (k == n) (port_in t.ports k) refl (sym (port_left n t.ports k) ∙ is)
     where
-      step : (b : Bool) (o : Option PortState) → port_in t.ports k ≡ o → (if b then None else option_map (cut_from n) o) ≡ Some q → IsWired u q
+      step : (b : Bool) (o : Option PortState) → port_in t.ports k ≡ o → (if b then None else option_map (cut_from n) o) ≡ Some q → P q
       step true o there e = absurd (none-some q e)
       step false None there e = absurd (none-some q e)
-      step false (Some p) there e = subst (λ (z : Option PortState). IsWired u (option_map_or (λ y. y) z (cut_from n p))) e (wired_left k p there)
+      step false (Some p) there e = subst (λ (z : Option PortState). P (option_map_or (λ y. y) z (cut_from n p))) e (cut k p there)
 
   limits_left : HaveLimits u
-  limits_left w l is = step (w.sender == n) (w.receiver == n) refl (sym (lane_left n t.ports are.none.none w) ∙ is)
+  limits_left w l is = step (w.receiver == n) refl (sym (lane_left n t.ports apart w) ∙ is)
     where
-      step : (a b : Bool) → (w.receiver == n) ≡ b → (if a || b then None else lane_on t.ports w) ≡ Some l
+      some_if : (b : Bool) → (if b then lane_on t.ports w else None) ≡ Some l → lane_on t.ports w ≡ Some l
+      some_if true e = e
+      some_if false e = absurd (none-some l e)
+
+      step : (b : Bool) → (w.receiver == n) ≡ b → (if is_left n t.ports w.receiver w.sender then lane_on t.ports w else None) ≡ Some l
           → l.limit ≡ limit_from t.settings (other_role (role_in u.ports w.receiver))
-      step true b eb e = absurd (none-some l e)
-      step false true eb e = absurd (none-some l e)
-      step false false eb e =
-          are.limits w l e
+      step true eb e =
+          absurd (none-some l
+          (sym (ap (λ (b : Bool). if (if b then false else (if (w.sender == n) || has_number w.sender (expired_in t.ports w.receiver) then has_number w.sender (expired_in u.ports w.receiver) else true)) then lane_on t.ports w else None) eb) ∙ e))
+      step false eb e =
+          are.limits w l (some_if (is_left n t.ports w.receiver w.sender) e)
           ∙ ap (λ role. limit_from t.settings (other_role role))
           (sym (part_left n t.ports (λ p. p.role) Client (λ p. refl) w.receiver ∙ ap (λ (b : Bool). if b then Client else role_in t.ports w.receiver) eb))
 
   pub left_connected : AreConnected u
   left_connected = record {
     apart = subst AreDistinct (sym (numbers_left n t.ports)) (distinct_kept (stay n) (numbers_of t.ports) are.apart);
-    wired = each_left;
+    wired = each_left (IsWired u) wired_left;
+    kept = each_left (KeepsExpired u) (kept_cut t n may);
     limits = limits_left;
-    none = record {
-      clients = are.none.clients;
-      servers = are.none.servers;
-      none = λ k. part_left n t.ports (λ p. senders_of p.expired.pipes) [] (λ p. refl) k ∙ none (k == n) k;
-    };
   }
-    where
-      none : (b : Bool) (k : ℕ) → (if b then [] else option_map_or (λ p. senders_of p.expired.pipes) (port_in t.ports k) []) ≡ []
-      none true k = refl
-      none false k = are.none.none k
 
 pub gone_ports_leave_others : GonePortsLeaveOthers
-gone_ports_leave_others t n are = (gone t n are, left_connected t n are)
+gone_ports_leave_others t n are may = (gone t n are may, left_connected t n are may)

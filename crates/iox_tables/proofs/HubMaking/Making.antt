@@ -19,12 +19,11 @@ use Rattle.iox_lanes.specs.Pipes.{PipeState}
 use Rattle.iox_tables.specs.HubStates.Tables.{HubTables, PortState, numbers_of, pipe_from, pipes_of, pipes_to, port_in, senders_of}
 use Rattle.iox_tables.specs.HubStates.Ways.{lane_on}
 use Rattle.iox_tables.specs.HubStates.Shown.{is_out_in, returned_in, waiting_in}
-use Rattle.iox_tables.specs.HubStates.States.{Given, fixed_of, message_of, port_of, state_shown}
+use Rattle.iox_tables.specs.HubStates.States.{Given, expired_in, fixed_of, message_of, port_of, state_shown}
 use Rattle.iox_tables.specs.HubStates.Steps.{is_there}
 use Rattle.iox_tables.specs.HubStates.Wirings.{IsWired, buffer_from, limit_from, numbers_of_role}
 use Rattle.iox_tables.proofs.HubStates.Keys.{first_append, flip, has_some}
 use Rattle.iox_tables.proofs.HubStates.Steps.{connected_is}
-use Rattle.iox_tables.specs.HubMaking.Disconnections.{KeepsNoExpired}
 use Rattle.iox_tables.specs.HubMaking.NewPorts.{CanTakePort, connected_to, given_made, pipe_between, ports_with, states_of, width_of, with_port_made}
 use Rattle.iox_tables.proofs.HubMaking.Connecting.{Comes, IsNew, comes, part_with, shows_same, there_is, there_with}
 use Rattle.iox_tables.proofs.HubMaking.Firsts.{has_first}
@@ -46,17 +45,18 @@ among_role role (p ∷ ps) n e = step (p.number == n) refl (same_role p.role rol
 none_from : (ps : List PipeState) (n : ℕ) → has_number n (senders_of ps) ≡ false → pipe_from ps n ≡ None
 none_from ps n e = there_is (pipe_from ps n) (sym (has_some ps n) ∙ e)
 
-pub none_is_sent_from : (t : HubTables) → ((k : ℕ) (p : PortState) → port_in t.ports k ≡ Some p → IsWired t p) → KeepsNoExpired t → (n : ℕ) → is_there t.ports n ≡ false
+pub none_is_sent_from : (t : HubTables) → ((k : ℕ) (p : PortState) → port_in t.ports k ≡ Some p → IsWired t p) → (n : ℕ)
+    → ((r : ℕ) → has_number n (expired_in t.ports r) ≡ false) → is_there t.ports n ≡ false
     → (r : ℕ) → pipe_from (pipes_to t.ports r) n ≡ None
-none_is_sent_from t wired keeps n fresh r = step (port_in t.ports r) refl (keeps.none r)
+none_is_sent_from t wired n unkept fresh r = step (port_in t.ports r) refl (unkept r)
   where
-    step : (o : Option PortState) → port_in t.ports r ≡ o → option_map_or (λ p. senders_of p.expired.pipes) o [] ≡ []
+    step : (o : Option PortState) → port_in t.ports r ≡ o → has_number n (option_map_or (λ p. senders_of p.expired.pipes) o []) ≡ false
         → pipe_from (option_map_or pipes_of o []) n ≡ None
     step None is e = refl
     step (Some p) is e =
         first_append (λ q. q.sender) p.expired.pipes p.incoming.pipes n
         ∙ ap₂ or_else
-        (none_from p.expired.pipes n (ap (has_number n) e))
+        (none_from p.expired.pipes n e)
         (none_from p.incoming.pipes n
         (ap (has_number n) (wired r p is).senders
         ∙ among_role (other_role p.role) t.ports n (has_first (λ q. q.number) t.ports n ∙ fresh)))
@@ -85,7 +85,7 @@ module _ (x : Given) (t : HubTables) (new : PortState) (can : CanTakePort t) (nu
   u = with_port_made t new t.pools
 
   pub comes_to : (r s : ℕ) → Comes t.settings t.ports new r s
-  comes_to = comes t.settings t.ports new (ap (port_in t.ports) number ∙ there_is (port_in t.ports t.next_number) can.fresh) can.apart bare (λ r. ap (pipe_from (pipes_to t.ports r)) number ∙ none_is_sent_from t can.wired can.none t.next_number can.fresh r)
+  comes_to = comes t.settings t.ports new (ap (port_in t.ports) number ∙ there_is (port_in t.ports t.next_number) can.fresh) can.apart bare (λ r. ap (pipe_from (pipes_to t.ports r)) number ∙ none_is_sent_from t can.wired t.next_number can.unkept can.fresh r)
 
   conn : (k : ℕ) → is_connected_port (fixed_of x' u) k ≡ (is_connected_port s.fixed k || (new.number == k))
   conn k = connected_is x' after k ∙ there_with t.settings t.ports new k ∙ ap (λ (b : Bool). b || (new.number == k)) (sym (connected_is x t.ports k))

@@ -8,9 +8,10 @@ use Rattle.iox_model.specs.Settings.{other_role}
 use Rattle.iox_laws.proofs.WeaveLaws.MapLemmas.{eqb-refl}
 use Rattle.iox_lanes.specs.Incomings.{IncomingState, connected}
 use Rattle.iox_lanes.specs.Pipes.{PipeState}
-use Rattle.iox_tables.specs.HubStates.Tables.{PortState, numbers_of, port_in, senders_of}
+use Rattle.iox_tables.specs.HubStates.Tables.{PortState, numbers_of, pipe_from, port_in, senders_of}
 use Rattle.iox_tables.specs.HubStates.Wirings.{numbers_of_role}
 use Rattle.iox_tables.specs.HubMaking.Disconnections.{cut_from}
+use Rattle.iox_tables.specs.HubMaking.Expirings.{with_expired}
 use Rattle.iox_tables.specs.HubMaking.NewPorts.{connected_from, connected_to, is_other, pipe_between}
 use Rattle.iox_tables.specs.HubMaking.OneByOne.{NewPipesHaveRoom, PortsGoOneByOne, all_connected, most_of, without_first_by, without_first_pipe}
 use Rattle.iox_tables.proofs.HubMaking.Connecting.{other_twice, same_roles}
@@ -20,7 +21,7 @@ use Rattle.iox_tables.proofs.HubMaking.Firsts.{has_first}
 
 module _ {A : Type 0} (key : A → ℕ) (n : ℕ) where
   -- where the number is not there, all stay
-  all_stay : (xs : List A) → has_number n (map key xs) ≡ false → xs ≡ filter (λ x. not (key x == n)) xs
+  pub all_stay : (xs : List A) → has_number n (map key xs) ≡ false → xs ≡ filter (λ x. not (key x == n)) xs
   all_stay [] e = refl
   all_stay (x ∷ xs) e =
       ap (λ zs. x ∷ zs) (all_stay xs (or_parts (key x == n) (has_number n (map key xs)) e).1)
@@ -62,7 +63,7 @@ module _ (n : ℕ) where
               ∙ ap (λ j. has_number j (numbers_of ps)) (sym (eqb-true p.number k e)) ∙ apart.0))
 
       here : without_first_pipe n p ≡ cut_from n p
-      here = ap (λ ps. record p { incoming = record (p.incoming) { pipes = ps } })
+      here = ap (λ ps. record p { expired = with_expired p.expired (pipe_from p.incoming.pipes n); incoming = record (p.incoming) { pipes = ps } })
           (only_one (λ q. q.sender) n p.incoming.pipes (each p.number p (ap (λ (b : Bool). if b then Some p else port_in ps p.number) (eqb-refl p.number))))
 
       step : (b : Bool) → map (without_first_pipe n) (filter test ps) ≡ map (cut_from n) (filter test ps)

@@ -12,8 +12,10 @@ use Rattle.iox_tables.specs.HubStates.Ways.{lane_by, with_port}
 use Rattle.iox_tables.specs.HubStates.Releases.{with_value_released}
 use Rattle.iox_tables.specs.HubStates.Wirings.{HaveLimits, IsWired, limit_from, numbers_of_role}
 use Rattle.iox_tables.proofs.HubStates.Keys.{first_changed, same_mapped}
-use Rattle.iox_tables.specs.HubMaking.Disconnections.{is_unused, with_disconnected}
+use Rattle.iox_tables.specs.HubMaking.Disconnections.{MayGo, is_unused, with_disconnected}
 use Rattle.iox_tables.specs.HubMaking.Wires.{AreConnected, ReleasesKeepOthers}
+use Rattle.iox_tables.proofs.HubBooks.Frames.{port_bare}
+use Rattle.iox_tables.proofs.HubBooks.Structures.{kept_alike}
 use Rattle.iox_tables.proofs.HubMaking.Leaving.{left_connected}
 
 abbrev pub unheld : PortState → PortState
@@ -83,16 +85,12 @@ module _ (t : HubTables) (n : ℕ) (are : AreConnected t) where
     apart = subst AreDistinct (sym (same_mapped (λ p. p.number) unheld (λ p. p.number) (λ p. refl) t.ports n)) are.apart;
     wired = each_wired;
     limits = limits_are;
-    none = record {
-      clients = are.none.clients;
-      servers = are.none.servers;
-      none = λ k. part_is t n (λ p. senders_of p.expired.pipes) [] (λ p. refl) k ∙ are.none.none k;
-    };
+    kept = kept_alike t u (port_bare unheld (λ p. refl) t.ports n) refl are.kept;
   }
 
 pub releases_keep_others : ReleasesKeepOthers
-releases_keep_others t n are = (unheld_connected t n are, step (is_unused t n))
+releases_keep_others t n are = (unheld_connected t n are, λ may. step may (is_unused t n))
   where
-    step : (b : Bool) → AreConnected (if b then with_disconnected t n else t)
-    step true = left_connected t n are
-    step false = are
+    step : MayGo t n → (b : Bool) → AreConnected (if b then with_disconnected t n else t)
+    step may true = left_connected t n are may
+    step may false = are

@@ -20,23 +20,14 @@ use Rattle.iox_tables.specs.HubMaking.Worked.{OneOfEachIsMade, RequestsGoWithCli
 use Rattle.iox_tables.proofs.HubMaking.Commanding.{each_making_is_shown}
 use Rattle.iox_tables.proofs.HubMaking.Disconnecting.{disconnections_are_shown}
 use Rattle.iox_tables.proofs.HubMaking.Ending.{ports_end}
-use Rattle.iox_tables.proofs.HubMaking.Joining.{new_ports_are_connected}
+use Rattle.iox_tables.proofs.HubMaking.Keeping.{with_alike}
+use Rattle.iox_tables.specs.HubBooks.Worked.{with_holders}
+use Rattle.iox_tables.proofs.HubBooks.WorkedHolds.{two_have_the_request}
+use Rattle.iox_tables.proofs.HubKeeping.Ordered.{connected_may_go, order_is_ready_for_ports}
+use Rattle.iox_tables.proofs.HubKeeping.Starting.{starts_are_in_order}
+use Rattle.iox_tables.proofs.HubKeeping.WorkedKeeps.{two_ports_are_in_order}
 use Rattle.iox_tables.proofs.HubMaking.Pooling.{free_pools_may_go}
 use Rattle.iox_tables.proofs.HubMaking.Starting.{each_start_is_shown}
-
--- ---- the tables are connected
-
-at_start : AreConnected (no_ports one_of_each)
-at_start = (each_start_is_shown at_first one_of_each).connected refl refl
-
-with_one : AreConnected one_port
-with_one = (new_ports_are_connected (no_ports one_of_each) the_client (Some (pool_made the_client) ∷ []) at_start refl refl).1
-
-with_two : AreConnected two_ports
-with_two = (new_ports_are_connected one_port the_server two_pools with_one refl refl).1
-
-can_take : (t : HubTables) → AreConnected t → is_there t.ports t.next_number ≡ false → CanTakePort t
-can_take t are fresh = record { fresh = fresh; apart = are.apart; wired = are.wired; none = are.none }
 
 -- ---- pools
 
@@ -80,14 +71,14 @@ second_place words a b = record { pools = stay; user = λ q k e. refl; payload =
 pub one_of_each_is_made : OneOfEachIsMade
 one_of_each_is_made = record {
   client = (each_making_is_shown at_first (no_ports one_of_each) 0 Client (process 1) of_length_one).made true 0 at_first (Some (pool_made the_client) ∷ []) refl
-      (can_take (no_ports one_of_each) at_start refl) ((each_start_is_shown at_first one_of_each).free 0) (first_place at_first (pool_made the_client));
+      (order_is_ready_for_ports (no_ports one_of_each) (starts_are_in_order one_of_each)).takes ((each_start_is_shown at_first one_of_each).free 0) (first_place at_first (pool_made the_client));
   server = (each_making_is_shown after_one one_port 0 Server (process 1) of_length_one).made true 1 after_one two_pools refl
-      (can_take one_port with_one refl) nobody_has (second_place after_one (pool_made the_client) (pool_made the_server));
+      (order_is_ready_for_ports one_port two_ports_are_in_order.0).takes nobody_has (second_place after_one (pool_made the_client) (pool_made the_server));
   to_client = refl;
   to_server = refl;
   no_more = refl;
   used = refl;
-  released = ports_end after_two two_ports 0 0 _ refl refl refl with_two.apart with_two.none;
+  released = ports_end after_two two_ports 0 0 _ refl refl refl (refl, (refl, tt)) (connected_may_go two_ports 0 two_ports_are_in_order.1 refl);
   left = refl;
   nothing_comes = refl;
   pool_goes = free_pools_may_go after_two one_left 0 nobody_is_left;
@@ -95,17 +86,9 @@ one_of_each_is_made = record {
 
 -- ---- a request that waits
 
-no_expired : (n : ℕ) → expired_in one_request.ports n ≡ []
-no_expired n = step (0 == n) (1 == n)
-  where
-    step : (a b : Bool) → option_map_or (λ (p : PortState). senders_of p.expired.pipes) (if a then Some (port_with 0 Client (new_pipe 1 1 1 1 1 0)) else (if b then Some (port_with 1 Server requests) else None)) [] ≡ []
-    step true b = refl
-    step false true = refl
-    step false false = refl
-
 pub requests_go_with_clients : RequestsGoWithClients
 requests_go_with_clients x = record {
-  shown = disconnections_are_shown x one_request 0 (record { clients = refl; servers = refl; none = no_expired });
+  shown = disconnections_are_shown x one_request 0 (with_alike (with_holders 2) 0 (connected_may_go (with_holders 2) 0 two_have_the_request.0 refl) one_request refl refl);
   waited = refl;
   gone = refl;
   open_before = refl;

@@ -6,13 +6,14 @@ use Rattle.iox_model.specs.Maps.{has_number, AreDistinct}
 use Rattle.iox_model.specs.Runs.{IsReachableState}
 use Rattle.iox_model.specs.Settings.{is_client, other_role}
 use Rattle.iox_lanes.specs.Lanes.{LaneState}
-use Rattle.iox_tables.specs.HubStates.Tables.{HubTables, PoolState, PortState, numbers_of, pipes_of, pool_at, port_in, slot_at}
+use Rattle.iox_tables.specs.HubStates.Tables.{HubTables, PoolState, PortState, numbers_of, owner_of, pipes_of, pool_at, port_in, senders_of, slot_at}
 use Rattle.iox_tables.specs.HubStates.Ways.{lane_on, lanes_from, states_from}
 use Rattle.iox_tables.specs.HubStates.States.{Given, state_shown}
 use Rattle.iox_tables.specs.HubStates.Steps.{places_on}
 use Rattle.iox_tables.specs.HubStates.Wirings.{HaveLimits, IsWired, buffer_from, role_in}
 use Rattle.iox_tables.specs.HubBooks.Counts.{how_often, uses, OfAllLanes}
 use Rattle.iox_tables.specs.HubBooks.Handles.{AreOfPorts, LoansAreAlone, OwnAreApart, ReceivedAreFromLanes, TakenHaveHandles}
+use Rattle.iox_tables.specs.HubMaking.Expirings.{KeepsExpired}
 use Rattle.iox_tables.specs.HubMaking.NewPorts.{states_of, width_of}
 
 -- ---- slots
@@ -88,11 +89,16 @@ HaveWidths t =
     (n m : ℕ) (to from : PortState) → port_in t.ports n ≡ Some to
     → port_in t.ports m ≡ Some from → to.role ≡ other_role from.role → HasWidth to from
 
--- Each port is wired, and keeps nothing from ports that are gone.
+-- What is on a lane is of its sender's pool, even if its sender is gone.
+abbrev pub PlacesAreOfSenders : HubTables → Type 0
+PlacesAreOfSenders t =
+    (w : Way) (l : LaneState) (k : ℕ) → lane_on t.ports w ≡ Some l
+    → has_number k (places_on l) ≡ true → owner_of t.pools l.pool ≡ w.sender
+
+-- Each port is wired, and keeps pipes of ports that are gone.
 pub record AreWired (t : HubTables) : Type 0 where
   pub each : (n : ℕ) (p : PortState) → port_in t.ports n ≡ Some p → IsWired t p
-  pub none_kept :
-      (n : ℕ) (p : PortState) → port_in t.ports n ≡ Some p → p.expired.pipes ≡ []
+  pub kept : (n : ℕ) (p : PortState) → port_in t.ports n ≡ Some p → KeepsExpired t p
   pub limits : HaveLimits t
 
 -- ---- numbers
@@ -101,12 +107,16 @@ pub record AreWired (t : HubTables) : Type 0 where
 abbrev pub numbers_in : HubTables → List ℕ
 numbers_in t = numbers_of t.ports ++ map (λ h. h.number) t.handles
 
--- No number is used twice, and the next one was never used.
+-- No number is used twice, and the next one was never used: of no port, handle or pool, and not by a
+-- port that is gone and of which something is kept.
 pub record HaveNumbers (t : HubTables) : Type 0 where
   pub apart : AreDistinct (numbers_in t)
   pub below : (n : ℕ) → has_number n (numbers_in t) ≡ true → n < t.next_number
   pub owners :
       (place : ℕ) (q : PoolState) → pool_at t.pools place ≡ Some q → q.port < t.next_number
+  pub kept :
+      (n : ℕ) (p : PortState) → port_in t.ports n ≡ Some p → (k : ℕ)
+      → has_number k (senders_of p.expired.pipes) ≡ true → k < t.next_number
 
 -- ---- all
 
@@ -120,6 +130,7 @@ pub record AreInOrder (t : HubTables) : Type 0 where
   pub once : OfAllLanes HasEachPlaceOnce t.ports
   pub lanes : LanesAreOfSenders t
   pub labels : ResponsesAreOnTheirLanes t
+  pub owners : PlacesAreOfSenders t
   pub widths : HaveWidths t
   pub wired : AreWired t
   -- handles

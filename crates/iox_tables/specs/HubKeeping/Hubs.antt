@@ -15,7 +15,7 @@ use Rattle.iox_tables.specs.HubMaking.FreePools.{IsPut, OthersStay, with_pool_go
 use Rattle.iox_tables.specs.HubMaking.NewPorts.{given_made, making_refused, pool_made, port_made, with_port_made}
 use Rattle.iox_tables.specs.HubMaking.Reached.{IsFirst}
 use Rattle.iox_tables.specs.HubMaking.Starts.{no_ports}
-use Rattle.iox_tables.specs.HubKeeping.Connected.{IsFreePlace, KeepsNone}
+use Rattle.iox_tables.specs.HubKeeping.Connected.{IsFreePlace}
 use Rattle.iox_tables.specs.HubKeeping.Keeps.{lost_uses}
 use Rattle.iox_tables.specs.HubLending.Emptying.{HasFewerHolders}
 
@@ -44,7 +44,7 @@ abbrev pub HubsTakePorts : Type 0
 HubsTakePorts =
     (t : HubTables) (hub : IsHub t) (node : ℕ) (role : Role) (id : UniqueSystemId) (o : Options)
     → (memory : Bool) (place : ℕ) (words : Given) (pools : List (Option PoolState))
-    → KeepsNone t.settings → making_refused hub.given t role o memory ≡ None
+    → making_refused hub.given t role o memory ≡ None
     → IsPoolOf hub.given t (port_made hub.given t node role id o place) words pools
     → IsHubWith (given_made hub.given words t.next_number o.handler)
     (with_port_made t (port_made hub.given t node role id o place) pools)
@@ -71,7 +71,7 @@ pub record PortIsReleased (x : Given) (t : HubTables) (node n : ℕ) : Type 0 wh
 -- It is so of each port of the node whose own value is there.
 abbrev pub HubsReleasePorts : Type 0
 HubsReleasePorts =
-    (t : HubTables) (hub : IsHub t) (node n : ℕ) (p : PortState) → KeepsNone t.settings
+    (t : HubTables) (hub : IsHub t) (node n : ℕ) (p : PortState)
     → port_in t.ports n ≡ Some p → p.node ≡ node → p.held ≡ true
     → PortIsReleased hub.given t node n
 

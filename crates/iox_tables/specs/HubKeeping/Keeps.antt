@@ -1,17 +1,19 @@
 -- Tables that are in order stay so as ports come and go.
 use Rattle.std.specs.Prelude.{◌≡◌, ℕ, ◌+◌, true, [], List, Option}
 use Rattle.std.specs.List.{sum_by}
+use Rattle.iox_lanes.specs.Incomings.{no_pipes}
 use Rattle.iox_tables.specs.HubStates.Tables.{HubSettings, HubTables, PoolState, PortState, slot_at}
 use Rattle.iox_tables.specs.HubStates.Releases.{with_value_released}
+use Rattle.iox_tables.specs.HubStates.Steps.{is_there}
 use Rattle.iox_tables.specs.HubBooks.Counts.{lane_count}
 use Rattle.iox_tables.specs.HubBooks.Hubs.{AreInOrder}
 use Rattle.iox_tables.specs.HubBooks.Keeps.{bare_pools}
 use Rattle.iox_tables.specs.HubMaking.Disconnections.{is_unused, with_disconnected}
 use Rattle.iox_tables.specs.HubMaking.FreePools.{IsPut, with_pool_gone}
 use Rattle.iox_tables.specs.HubMaking.LaneSums.{sum_that_goes}
-use Rattle.iox_tables.specs.HubMaking.NewPorts.{pool_made, with_port_made}
+use Rattle.iox_tables.specs.HubMaking.NewPorts.{pool_made, room_for_gone, with_port_made}
 use Rattle.iox_tables.specs.HubMaking.Starts.{no_ports}
-use Rattle.iox_tables.specs.HubKeeping.Connected.{IsFreePlace, KeepsNone}
+use Rattle.iox_tables.specs.HubKeeping.Connected.{IsFreePlace}
 use Rattle.iox_tables.specs.HubLending.Emptying.{HasFewerHolders}
 
 -- The tables with no port are in order, whatever the settings are.
@@ -24,18 +26,18 @@ ValuesKeepOrder = (t : HubTables) (n : ℕ) → AreInOrder t → AreInOrder (wit
 
 -- ---- a new port
 
--- The port may be made: it has the next number, a free place for its pool, and nothing from ports
--- that are gone.
+-- The port may be made: it has the next number, a free place for its pool, and room for what its
+-- service keeps of ports that are gone.
 pub record MayBeMade (t : HubTables) (new : PortState) : Type 0 where
   pub number : new.number ≡ t.next_number
   pub place : IsFreePlace t new.pool
-  pub none : new.expired.pipes ≡ []
+  pub none : new.expired ≡ no_pipes (room_for_gone t.settings new.role)
 
 -- The making of a port keeps the tables in order, where its pool is put into its place.
 abbrev pub MakingsKeepOrder : Type 0
 MakingsKeepOrder =
     (t : HubTables) (new : PortState) (pools : List (Option PoolState)) → AreInOrder t
-    → KeepsNone t.settings → MayBeMade t new → IsPut t.pools new.pool (pool_made new) pools
+    → MayBeMade t new → IsPut t.pools new.pool (pool_made new) pools
     → AreInOrder (with_port_made t new pools)
 
 -- ---- a port that goes
@@ -49,7 +51,7 @@ lost_uses t n pool k = sum_by (sum_that_goes (lane_count pool k) n) t.ports
 abbrev pub DisconnectionsKeepOrder : Type 0
 DisconnectionsKeepOrder =
     (t : HubTables) (n : ℕ) (pools : List (Option PoolState)) → AreInOrder t
-    → KeepsNone t.settings → is_unused t n ≡ true
+    → is_there t.ports n ≡ true → is_unused t n ≡ true
     → HasFewerHolders t.pools pools (lost_uses t n)
     → AreInOrder (record (with_disconnected t n) { pools = pools })
 

@@ -2,11 +2,15 @@
 -- often it has a message, how many more its receiver may have, or 1.
 use Rattle.std.specs.Prelude.{◌≡◌, ℕ, ◌+◌, ◌*◌, if◌then◌else◌, ◌==◌, List, [], filter}
 use Rattle.std.specs.List.{sum_by}
+use Rattle.std.specs.Option.{option_map_or}
+use Rattle.iox_model.specs.Maps.{AreDistinct}
 use Rattle.iox_lanes.specs.Lanes.{LaneState, empty_lane}
 use Rattle.iox_lanes.specs.Pipes.{PipeState}
-use Rattle.iox_tables.specs.HubStates.Tables.{HubSettings, PortState, pipes_of}
+use Rattle.iox_tables.specs.HubStates.Tables.{HubSettings, PortState, pipe_from, pipes_of, senders_of}
 use Rattle.iox_tables.specs.HubStates.Wirings.{buffer_from, limit_from}
+use Rattle.iox_tables.specs.HubBooks.Counts.{OfAll}
 use Rattle.iox_tables.specs.HubMaking.Disconnections.{ports_without}
+use Rattle.iox_tables.specs.HubMaking.Expirings.{gone_with}
 use Rattle.iox_tables.specs.HubMaking.NewPorts.{is_other, pipe_between, ports_with, width_of}
 
 -- the sum over the lanes of a pipe
@@ -23,16 +27,19 @@ sum_on_lanes f ports = sum_by (sum_in_port f) ports
 
 -- ---- a port that is gone
 
--- what goes with the port of that number: all lanes to it, or the lanes from it
+-- what goes with the port of that number: all lanes to it, and of each other port those from it, or
+-- those that are given up for them
 abbrev pub sum_that_goes : (LaneState → ℕ) → ℕ → PortState → ℕ
 sum_that_goes f n p =
     if p.number == n then sum_in_port f p
-    else sum_by (sum_in_pipe f) (filter (λ q. q.sender == n) p.incoming.pipes)
+    else option_map_or (sum_in_pipe f) (gone_with p.expired (pipe_from p.incoming.pipes n)) 0
 
--- As a port goes, what is left and what goes is what there was.
+-- As a port goes, what is left and what goes is what there was, where no two pipes to a port come
+-- from one.
 abbrev pub GoneLanesCount : Type 0
 GoneLanesCount =
     (f : LaneState → ℕ) (n : ℕ) (ports : List PortState)
+    → OfAll (λ p. AreDistinct (senders_of p.incoming.pipes)) ports
     → sum_on_lanes f ports
     ≡ sum_on_lanes f (ports_without n ports) + sum_by (sum_that_goes f n) ports
 

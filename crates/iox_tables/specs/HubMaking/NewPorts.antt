@@ -7,16 +7,15 @@ use Rattle.iox_model.specs.declared.reply.Refusal.TheVariants.{UnableToCreateDat
 use Rattle.iox_model.specs.declared.reply.Reply.TheVariants.{Refused}
 use Rattle.iox_model.specs.Commands.{Create, Options, Refusal}
 use Rattle.iox_model.specs.Makings.{IsHubCommand, allocation_of, chosen_pool, is_large, loans_of_one, longest_of, making_refusal, most_ports, port_reply, strategy_of, too_many_ports}
-use Rattle.iox_model.specs.Maps.{AreDistinct, or_else, put_at, refused_if}
+use Rattle.iox_model.specs.Maps.{AreDistinct, has_number, or_else, put_at, refused_if}
 use Rattle.iox_model.specs.Settings.{Limits, is_client, is_static, other_role, same_role, shape_of}
 use Rattle.iox_lanes.specs.Incomings.{no_pipes}
 use Rattle.iox_lanes.specs.Pipes.{PipeState, new_pipe}
 use Rattle.iox_tables.specs.HubStates.Tables.{HubSettings, HubTables, PoolState, PortState, no_slot, numbers_of, port_in}
 use Rattle.iox_tables.specs.HubStates.Ways.{with_pipes}
-use Rattle.iox_tables.specs.HubStates.States.{Given, fixed_of, limits_of, state_shown}
+use Rattle.iox_tables.specs.HubStates.States.{Given, expired_in, fixed_of, limits_of, state_shown}
 use Rattle.iox_tables.specs.HubStates.Steps.{is_there}
 use Rattle.iox_tables.specs.HubStates.Wirings.{IsWired, buffer_from, limit_from, numbers_of_role}
-use Rattle.iox_tables.specs.HubMaking.Disconnections.{KeepsNoExpired}
 use Rattle.iox_tables.specs.HubMaking.FreePools.{NobodyHas, OthersStay}
 
 -- ---- pipes
@@ -134,13 +133,13 @@ making_refused x t role o memory =
     (nat_le (most_ports (limits_of x t) role) (length (numbers_of_role role t.ports)))
     (too_many_ports role)))
 
--- The next number is no port's, no two ports have one number, each is wired, and nothing is kept
--- from ports that are gone.
+-- The next number is no port's, no two ports have one number, each is wired, and nothing is kept of
+-- a port of the next number.
 pub record CanTakePort (t : HubTables) : Type 0 where
   pub fresh : is_there t.ports t.next_number ≡ false
   pub apart : AreDistinct (numbers_of t.ports)
   pub wired : (n : ℕ) (p : PortState) → port_in t.ports n ≡ Some p → IsWired t p
-  pub none : KeepsNoExpired t
+  pub unkept : (n : ℕ) → has_number t.next_number (expired_in t.ports n) ≡ false
 
 -- The making of a port is the machine's: it is refused by the same tests, and leaves the state that
 -- the tables then show. Nobody has messages of the new pool's place, and all other pools stay.

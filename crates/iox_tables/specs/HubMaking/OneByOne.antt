@@ -6,11 +6,12 @@ use Rattle.iox_model.specs.declared.kind.Role.TheVariants.{Client, Server}
 use Rattle.iox_model.specs.Settings.{other_role}
 use Rattle.iox_lanes.specs.Incomings.{IncomingState, connected}
 use Rattle.iox_lanes.specs.Pipes.{PipeState}
-use Rattle.iox_tables.specs.HubStates.Tables.{HubSettings, HubTables, PoolState, PortState, port_in}
+use Rattle.iox_tables.specs.HubStates.Tables.{HubSettings, HubTables, PoolState, PortState, pipe_from, port_in}
 use Rattle.iox_tables.specs.HubStates.Ways.{with_pipes}
 use Rattle.iox_tables.specs.HubStates.Releases.{with_value_released}
 use Rattle.iox_tables.specs.HubStates.Wirings.{numbers_of_role}
 use Rattle.iox_tables.specs.HubMaking.Disconnections.{with_disconnected}
+use Rattle.iox_tables.specs.HubMaking.Expirings.{with_expired}
 use Rattle.iox_tables.specs.HubMaking.NewPorts.{connected_from, connected_to, is_other, pipe_between, with_port_made}
 use Rattle.iox_tables.specs.HubMaking.Wires.{AreConnected}
 
@@ -21,15 +22,17 @@ abbrev pub without_first_by : {A : Type 0} → (A → ℕ) → List A → ℕ �
 without_first_by key [] n = []
 without_first_by key (x ∷ xs) n = if key x == n then xs else x ∷ without_first_by key xs n
 
--- the first pipe from that connected sender is gone
+-- that connected sender is gone: the first pipe from it is kept if something waits there, and else
+-- no more
 abbrev pub without_first_pipe : ℕ → PortState → PortState
 without_first_pipe n p =
     record p {
+      expired = with_expired p.expired (pipe_from p.incoming.pipes n);
       incoming =
           with_pipes p.incoming (without_first_by (λ q. q.sender) p.incoming.pipes n);
     }
 
--- Where the port of a number is removed, and then at each other port the pipe from it, the port is
+-- Where the port of a number is removed, and then each other port is without it, the port is
 -- disconnected.
 abbrev pub PortsGoOneByOne : Type 0
 PortsGoOneByOne =

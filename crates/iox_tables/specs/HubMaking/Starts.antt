@@ -26,8 +26,7 @@ pub record StartIsShown (x : Given) (settings : HubSettings) : Type 0 where
   pub state :
       (l : Limits) → limits_of x (no_ports settings) ≡ raised l
       → state_shown x (no_ports settings) ≡ at_rest x.members (untouched l x.acts)
-  pub connected :
-      settings.client_expired ≡ 0 → settings.server_expired ≡ 0 → AreConnected (no_ports settings)
+  pub connected : AreConnected (no_ports settings)
   pub room : HaveRoom (no_ports settings)
   pub free : (place : ℕ) → NobodyHas (no_ports settings) place
 

@@ -18,7 +18,7 @@ use Rattle.iox_tables.specs.HubStates.Releases.{IsHeldOn, handle_shown, with_giv
 use Rattle.iox_tables.specs.HubStates.Sendings.{IsRequestToSend, IsResponseToSend, pending_of, request_sending, response_sending}
 use Rattle.iox_tables.specs.HubStates.Sends.{MaySendFrom, sent_count, with_pushed, with_sent}
 use Rattle.iox_tables.specs.HubStates.Wirings.{IsHandle}
-use Rattle.iox_tables.specs.HubMaking.Disconnections.{KeepsNoExpired, with_released}
+use Rattle.iox_tables.specs.HubMaking.Disconnections.{MayGo, with_released}
 
 -- a reply, and the state that tables show
 abbrev pub answering : Given → Reply × HubTables → Reply × State
@@ -30,7 +30,7 @@ answering x v = (v.0, state_shown x v.1)
 abbrev pub LoansEnd : Type 0
 LoansEnd =
     (x : Given) (t : HubTables) (node n : ℕ) (h : HandleState) → IsHandle t node n h
-    → is_received h.kind ≡ false → same_kind h.kind PendingResponse ≡ false → KeepsNoExpired t
+    → is_received h.kind ≡ false → same_kind h.kind PendingResponse ≡ false → MayGo t h.port
     → released_by (state_shown x t) node n
     ≡ answering x (Done, with_released (with_dropped t node n) h.port)
 
@@ -38,7 +38,7 @@ LoansEnd =
 abbrev pub PendingsEnd : Type 0
 PendingsEnd =
     (x : Given) (t : HubTables) (node n : ℕ) (h : HandleState) → IsHandle t node n h
-    → h.kind ≡ PendingResponse → KeepsNoExpired t
+    → h.kind ≡ PendingResponse → MayGo t h.port
     → released_by (state_shown x t) node n
     ≡ answering x (Done, with_released (with_pending_released t node n h) h.port)
 
@@ -46,7 +46,7 @@ PendingsEnd =
 abbrev pub ResponsesEnd : Type 0
 ResponsesEnd =
     (x : Given) (t : HubTables) (node n : ℕ) (h : HandleState) → IsHandle t node n h
-    → h.kind ≡ Response → IsHeldOn t (way_of (handle_shown x t h)) h → KeepsNoExpired t
+    → h.kind ≡ Response → IsHeldOn t (way_of (handle_shown x t h)) h → MayGo t h.port
     → released_by (state_shown x t) node n
     ≡ answering x (
       Done,
@@ -59,7 +59,7 @@ ResponsesEnd =
 abbrev pub RequestsEnd : Type 0
 RequestsEnd =
     (x : Given) (t : HubTables) (node n : ℕ) (h : HandleState) → IsHandle t node n h
-    → h.kind ≡ ActiveRequest → IsHeldOn t (way_of (handle_shown x t h)) h → KeepsNoExpired t
+    → h.kind ≡ ActiveRequest → IsHeldOn t (way_of (handle_shown x t h)) h → MayGo t h.port
     → released_by (state_shown x t) node n
     ≡ answering x (
       Done,
@@ -74,7 +74,7 @@ RequestsEnd =
 abbrev pub PortsEnd : Type 0
 PortsEnd =
     (x : Given) (t : HubTables) (node n : ℕ) (p : PortState) → port_in t.ports n ≡ Some p
-    → p.node ≡ node → p.held ≡ true → AreDistinct (numbers_of t.ports) → KeepsNoExpired t
+    → p.node ≡ node → p.held ≡ true → AreDistinct (numbers_of t.ports) → MayGo t n
     → released_by (state_shown x t) node n
     ≡ answering x (Done, with_released (with_value_released t n) n)
 
@@ -92,7 +92,7 @@ request_left t node n h None =
 abbrev pub SpentRequestsEnd : Type 0
 SpentRequestsEnd =
     (x : Given) (t : HubTables) (node n : ℕ) (h : HandleState) → IsRequestToSend t node n h
-    → is_active_spent (fixed_of x t) (handle_shown x t h) ≡ true → KeepsNoExpired t
+    → is_active_spent (fixed_of x t) (handle_shown x t h) ≡ true → MayGo t h.port
     → loan_sent_by (state_shown x t) node n
     ≡ answering x
     (Refused ExceedsMaxActiveRequests, with_released (with_dropped t node n) h.port)
@@ -103,7 +103,7 @@ RequestSendsEnd =
     (x : Given) (t : HubTables) (node n : ℕ) (h : HandleState) → IsRequestToSend t node n h
     → is_active_spent (fixed_of x t) (handle_shown x t h) ≡ false
     → t.settings.request_overflow ≡ false
-    → MaySendFrom x t (request_sending x t h) h.pool h.slot → KeepsNoExpired t
+    → MaySendFrom x t (request_sending x t h) h.pool h.slot → MayGo t h.port
     → loan_sent_by (state_shown x t) node n
     ≡ answering x
     (request_left (with_sent t (request_sending x t h) h.slot) node n h
@@ -135,7 +135,7 @@ response_left t node n h None =
 abbrev pub UnawaitedEnd : Type 0
 UnawaitedEnd =
     (x : Given) (t : HubTables) (node n : ℕ) (h : HandleState) → IsResponseToSend t node n h
-    → is_awaited (state_shown x t) (handle_shown x t h) ≡ false → KeepsNoExpired t
+    → is_awaited (state_shown x t) (handle_shown x t h) ≡ false → MayGo t h.port
     → loan_sent_by (state_shown x t) node n ≡ answering x (response_left t node n h (Some 0))
 
 -- So is the send of a response without overflow.
@@ -144,7 +144,7 @@ ResponseSendsEnd =
     (x : Given) (t : HubTables) (node n : ℕ) (h : HandleState) → IsResponseToSend t node n h
     → is_awaited (state_shown x t) (handle_shown x t h) ≡ true
     → t.settings.response_overflow ≡ false
-    → MaySendFrom x t (response_sending x t h) h.pool h.slot → KeepsNoExpired t
+    → MaySendFrom x t (response_sending x t h) h.pool h.slot → MayGo t h.port
     → loan_sent_by (state_shown x t) node n
     ≡ answering x
     (response_left (with_sent t (response_sending x t h) h.slot) node n h
@@ -156,7 +156,7 @@ ResponseSendsOverEnd =
     (x : Given) (t : HubTables) (node n : ℕ) (h : HandleState) → IsResponseToSend t node n h
     → is_awaited (state_shown x t) (handle_shown x t h) ≡ true
     → t.settings.response_overflow ≡ true
-    → MaySendFrom x t (response_sending x t h) h.pool h.slot → KeepsNoExpired t
+    → MaySendFrom x t (response_sending x t h) h.pool h.slot → MayGo t h.port
     → loan_sent_by (state_shown x t) node n
     ≡ answering x
     (response_left (with_pushed t (response_sending x t h) h.slot) node n h

@@ -3,25 +3,28 @@ use Rattle.std.specs.Prelude.{◌≡◌, ◌⊎◌, ℕ, false, not, ◌||◌, i
 use Rattle.std.specs.Option.{option_map}
 use Rattle.iox_model.specs.declared.way.Way.{Way}
 use Rattle.iox_model.specs.Expiries.{is_end}
-use Rattle.iox_model.specs.Maps.{AreDistinct, or_else}
+use Rattle.iox_model.specs.Maps.{AreDistinct, has_number, or_else}
 use Rattle.iox_model.specs.Settings.{other_role}
+use Rattle.iox_lanes.specs.Incomings.{no_pipes}
 use Rattle.iox_lanes.specs.Lanes.{LaneState, empty_lane}
 use Rattle.iox_lanes.specs.Pipes.{PipeState}
 use Rattle.iox_tables.specs.HubStates.Tables.{HubTables, PoolState, PortState, numbers_of, pipe_from, pipes_to, port_in}
 use Rattle.iox_tables.specs.HubStates.Ways.{lane_on, state_on}
 use Rattle.iox_tables.specs.HubStates.Releases.{with_value_released}
+use Rattle.iox_tables.specs.HubStates.States.{expired_in}
 use Rattle.iox_tables.specs.HubStates.Steps.{is_there}
 use Rattle.iox_tables.specs.HubStates.Wirings.{HaveLimits, IsWired, buffer_from, limit_from}
-use Rattle.iox_tables.specs.HubMaking.Disconnections.{KeepsNoExpired, cut_from, with_disconnected, with_released}
-use Rattle.iox_tables.specs.HubMaking.NewPorts.{connected_from, connected_to, pipe_between, with_port_made}
+use Rattle.iox_tables.specs.HubMaking.Disconnections.{MayGo, cut_from, is_left, with_disconnected, with_released}
+use Rattle.iox_tables.specs.HubMaking.Expirings.{KeepsExpired}
+use Rattle.iox_tables.specs.HubMaking.NewPorts.{connected_from, connected_to, pipe_between, room_for_gone, with_port_made}
 
--- No two ports have one number, each is wired, each lane has its receiver's limit, and nothing is
--- kept from ports that are gone.
+-- No two ports have one number, each is wired and keeps pipes of ports that are gone, and each lane
+-- has its receiver's limit.
 pub record AreConnected (t : HubTables) : Type 0 where
   pub apart : AreDistinct (numbers_of t.ports)
   pub wired : (n : ℕ) (p : PortState) → port_in t.ports n ≡ Some p → IsWired t p
   pub limits : HaveLimits t
-  pub none : KeepsNoExpired t
+  pub kept : (n : ℕ) (p : PortState) → port_in t.ports n ≡ Some p → KeepsExpired t p
 
 -- ---- a port that is gone
 
@@ -36,19 +39,20 @@ pub record PortIsGone (t : HubTables) (n : ℕ) : Type 0 where
   pub pipes :
       (to from : ℕ)
       → pipe_from (pipes_to (with_disconnected t n).ports to) from
-      ≡ (if (to == n) || (from == n) then None else pipe_from (pipes_to t.ports to) from)
+      ≡ (if is_left n t.ports to from then pipe_from (pipes_to t.ports to) from else None)
   pub lanes :
       (w : Way)
-      → lane_on (with_disconnected t n).ports w ≡ (if is_end n w then None else lane_on t.ports w)
+      → lane_on (with_disconnected t n).ports w
+      ≡ (if is_left n t.ports w.receiver w.sender then lane_on t.ports w else None)
   pub states :
       (w : Way)
       → state_on (with_disconnected t n).ports w
-      ≡ (if is_end n w then None else state_on t.ports w)
+      ≡ (if is_left n t.ports w.sender w.receiver then state_on t.ports w else None)
 
 -- Once a port is gone the tables are as before without it, and all others stay connected.
 abbrev pub GonePortsLeaveOthers : Type 0
 GonePortsLeaveOthers =
-    (t : HubTables) (n : ℕ) → AreConnected t
+    (t : HubTables) (n : ℕ) → AreConnected t → MayGo t n
     → PortIsGone t n × AreConnected (with_disconnected t n)
 
 -- Ports stay connected as the own value of one is released, and as one goes if nothing of it is
@@ -56,7 +60,7 @@ GonePortsLeaveOthers =
 abbrev pub ReleasesKeepOthers : Type 0
 ReleasesKeepOthers =
     (t : HubTables) (n : ℕ) → AreConnected t
-    → AreConnected (with_value_released t n) × AreConnected (with_released t n)
+    → AreConnected (with_value_released t n) × (MayGo t n → AreConnected (with_released t n))
 
 -- ---- a new port
 
@@ -98,10 +102,12 @@ pub record PortIsNew (t : HubTables) (new : PortState) (t' : HubTables) : Type 0
       (w : Way) (l : LaneState) → lane_on t'.ports w ≡ Some l
       → ((lane_on t.ports w ≡ Some l) × (is_end new.number w ≡ false)) ⊎ IsNewLane t' w l
 
--- Once a port is made whose number is no other's, all is as before but what is at its ends, and
--- all ports are connected.
+-- Once a port is made whose number is no other's, and of which nothing is kept, all is as before but
+-- what is at its ends, and all ports are connected.
 abbrev pub NewPortsAreConnected : Type 0
 NewPortsAreConnected =
     (t : HubTables) (new : PortState) (pools : List (Option PoolState)) → AreConnected t
-    → is_there t.ports new.number ≡ false → new.expired.pipes ≡ []
+    → is_there t.ports new.number ≡ false
+    → ((n : ℕ) → has_number new.number (expired_in t.ports n) ≡ false)
+    → new.expired ≡ no_pipes (room_for_gone t.settings new.role)
     → PortIsNew t new (with_port_made t new pools) × AreConnected (with_port_made t new pools)

@@ -32,19 +32,19 @@ returns-in_default-clause-whole_refused c x o is =
 pub join-requires-clause-fresh : goal.join-requires-clause-fresh
 join-requires-clause-fresh c =
     fresh_is c.args.control.now.tables c.args.node c.args.role c.args.id c.args.asked c.in-Ok.ensures.passed
-    c.requires.order.order c.requires.order.none c.requires.order.ports c.requires.order.counted
+    c.requires.order.order c.requires.order.ports c.requires.order.counted
     c.prepare.new.control c.in-Ok-prepare.parts c.in-Ok-prepare.ensures.pool c.in-Ok-prepare.ensures.parts
 
 pub returns-clause-made : goal.returns-clause-made
 returns-clause-made c =
     tables_are c.args.control.now.tables c.args.node c.args.role c.args.id c.args.asked c.in-Ok.ensures.passed
-    c.requires.order.order c.requires.order.none c.requires.order.ports c.requires.order.counted
+    c.requires.order.order c.requires.order.ports c.requires.order.counted
     c.prepare.new.control c.join.new.control c.in-Ok-prepare.parts c.in-Ok-prepare.ensures.pool c.in-Ok-prepare.ensures.parts c.join.ensures
 
 pub returns-clause-order : goal.returns-clause-order
 returns-clause-order c =
     control_is c.args.control.now.tables c.args.node c.args.role c.args.id c.args.asked c.in-Ok.ensures.passed
-    c.requires.order.order c.requires.order.none c.requires.order.ports c.requires.order.counted
+    c.requires.order.order c.requires.order.ports c.requires.order.counted
     c.prepare.new.control c.join.new.control c.in-Ok-prepare.parts c.in-Ok-prepare.ensures.pool c.in-Ok-prepare.ensures.parts c.join.ensures
     c.requires.order.buffers
     (subst (HasRoomFor c.prepare.new.control) c.in-Ok.ensures.after c.in-Ok-prepare.ensures.handles)
@@ -52,8 +52,8 @@ returns-clause-order c =
 pub returns-clause-whole : goal.returns-clause-whole
 returns-clause-whole c x words o is others =
     made_whole x c.args.control.now.tables c.args.role o c.args.asked is c.args.node c.args.id c.in-Ok.ensures.passed
-    c.requires.order.order c.requires.order.none c.join.new.control.tables words
+    c.requires.order.order c.join.new.control.tables words
     (tables_are c.args.control.now.tables c.args.node c.args.role c.args.id c.args.asked c.in-Ok.ensures.passed
-    c.requires.order.order c.requires.order.none c.requires.order.ports c.requires.order.counted
+    c.requires.order.order c.requires.order.ports c.requires.order.counted
     c.prepare.new.control c.join.new.control c.in-Ok-prepare.parts c.in-Ok-prepare.ensures.pool c.in-Ok-prepare.ensures.parts c.join.ensures)
     others

@@ -5,7 +5,8 @@ use Rattle.iox_control_making.proofs.sizes.sizes_of.Goals as goal
 
 pub loop-place-preserved : goal.loop-place-preserved
 loop-place-preserved c =
-    sizes_next c.args.ports.now.ports c.loop-place.place c.in_ok-info.info c.loop-place.sizes c.in_ok-sizes.sizes c.loop-place.invariant c.in_ok-info.ensures c.in_ok-sizes.ensures
+    sizes_next c.args.ports.now.ports c.loop-place.place c.in_ok-info.info c.loop-place.sizes c.in_ok-more.more c.in_ok-sizes.sizes c.kept.result c.loop-place.invariant
+    c.in_ok-info.ensures c.kept.ensures c.in_ok-more.ensures c.in_ok-sizes.ensures
 
 pub returns : goal.returns
 returns c =

@@ -29,11 +29,6 @@ returns-clause-pools c =
 pub returns-clause-tidy : goal.returns-clause-tidy
 returns-clause-tidy c =
     release_tidies c.args.control.now.tables c.end_handle-entry.new.control.tables c.disconnect_if_unused.new.control.tables c.drop_pool.new.control.tables (handle_state c.end_handle-entry.result)
-    c.requires.order.order
-    (ended c.args.control.now c.end_handle-entry.new.control (handle_state c.end_handle-entry.result) c.requires.order
-    (named_itself c.args.control.now.tables c.args.node c.args.number (handle_state c.end_handle-entry.result) c.requires.named c.end_handle-entry.ensures.told)
-    c.end_handle-entry.ensures.room c.end_handle-entry.ensures.left).order
-    (named_itself c.args.control.now.tables c.args.node c.args.number (handle_state c.end_handle-entry.result) c.requires.named c.end_handle-entry.ensures.told)
     c.end_handle-entry.ensures.left c.disconnect_if_unused.ensures.tidy c.drop_pool.ensures.tidy c.drop_pool.ensures.gone
 
 pub returns-clause-gone : goal.returns-clause-gone

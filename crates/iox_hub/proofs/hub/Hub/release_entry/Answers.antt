@@ -23,7 +23,7 @@ unreachable-requires g c =
 pub invariant_of-self : goal.invariant_of-self
 invariant_of-self g c =
     hub_goes_on _ c.release.new.control c.args.node (Release c.args.number) Done c.self.invariant c.release.ensures.order
-    (fits_released _ c.self.inside.control.tables c.release.new.control.tables c.self.invariant.words c.release.ensures.pools (handle_state c.args.entry)
+    (fits_released _ c.self.inside.control.tables c.release.new.control.tables c.self.invariant.words c.self.invariant.control.order c.release.ensures.pools (handle_state c.args.entry)
     (c.release.ensures.left (handle_state c.args.entry) (sym (subst (λ (d : HubState). Some (handle_state c.args.entry) ≡ handle_in d.control.tables.handles c.args.node c.args.number) (sym c.self.view_is) c.requires.there))))
     c.release.ensures.whole
 

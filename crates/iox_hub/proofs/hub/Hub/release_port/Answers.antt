@@ -18,7 +18,7 @@ unreachable-requires g c =
 pub invariant_of-self : goal.invariant_of-self
 invariant_of-self g c =
     hub_goes_on _ c.release_port.new.control c.args.node (Release c.args.port) Done c.self.invariant c.release_port.ensures.order
-    (fits_port_released _ c.self.inside.control.tables c.release_port.new.control.tables c.self.invariant.words c.release_port.ensures.pools c.args.port c.release_port.ensures.left)
+    (fits_port_released _ c.self.inside.control.tables c.release_port.new.control.tables c.self.invariant.words c.self.invariant.control.order c.release_port.ensures.pools c.args.port c.release_port.ensures.left)
     c.release_port.ensures.whole
 
 pub returns-clause-whole : goal.returns-clause-whole

@@ -26,7 +26,7 @@ pub invariant_of-self : goal.invariant_of-self
 invariant_of-self g c =
     hub_goes_on_as _ c.send_request-requested.new.control c.args.node (Send c.args.number) (reply_of_send c.send_request-requested.result)
     c.self.invariant c.send_request-requested.ensures.order
-    (fits_request_sent _ c.self.inside.control.tables c.send_request-requested.new.control.tables c.self.invariant.words c.send_request-requested.ensures.pools
+    (fits_request_sent _ c.self.inside.control.tables c.send_request-requested.new.control.tables c.self.invariant.words c.self.invariant.control.order c.send_request-requested.ensures.pools
     c.args.node c.args.number (handle_state c.in-Some.entry) (sym c.in-Some.ensures)
     (loan_is_request c.self.inside.control.tables c.args.node c.args.number (handle_state c.in-Some.entry)
     (request_of_hub c.self.invariant c.args.self.now c.self.view_is c.args.node c.args.number c.requires.has) c.in-Some.ensures)

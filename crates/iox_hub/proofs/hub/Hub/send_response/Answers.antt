@@ -18,7 +18,7 @@ pub invariant_of-self : goal.invariant_of-self
 invariant_of-self g c =
     hub_goes_on_as _ c.send_response-responded.new.control c.args.node (Send c.args.number) (reply_of_send c.send_response-responded.result)
     c.self.invariant c.send_response-responded.ensures.order
-    (fits_response_sent _ c.self.inside.control.tables c.send_response-responded.new.control.tables c.self.invariant.words c.send_response-responded.ensures.pools
+    (fits_response_sent _ c.self.inside.control.tables c.send_response-responded.new.control.tables c.self.invariant.words c.self.invariant.control.order c.send_response-responded.ensures.pools
     c.args.node c.args.number (handle_state c.in-Some.entry) c.fails_when_full-fails.result
     (c.send_response-responded.ensures.left (handle_state c.in-Some.entry) (sym c.in-Some.ensures)))
     (λ x. c.send_response-responded.ensures.whole (handle_state c.in-Some.entry) (sym c.in-Some.ensures) (given_of c.self.invariant x)

@@ -1,0 +1,160 @@
+//! What waits of ports that are gone.
+use super::{Asked, Given, Row, Told, plays_in, settings};
+use iox_control::Settings;
+use std::alloc::Global;
+use std::process::Abort;
+use std::test::Fail;
+
+/// Two servers, and so many ports that are gone of which a client, and a server, keeps what waits.
+fn keeping(clients: usize, servers: usize) -> Settings {
+    Settings {
+        servers: 2,
+        client_expired: clients,
+        server_expired: servers,
+        ..settings()
+    }
+}
+
+/// Servers 1 and 2 receive the request of client 0, and answer with 10 and 20.
+const ANSWERS: &[Row] = &[
+    (0, Asked::Client(Given::Nothing), Told::Client(0)),
+    (1, Asked::Server, Told::Server(1)),
+    (1, Asked::Server, Told::Server(2)),
+    (0, Asked::Request(0, 122, 2), Told::Handle(3)),
+    (1, Asked::Receive(1), Told::Handle(4)),
+    (1, Asked::Receive(2), Told::Handle(5)),
+    (1, Asked::Response(4, 10), Told::Done),
+    (1, Asked::Response(5, 20), Told::Done),
+    // The first releases all that it has, and then the second.
+    (1, Asked::Release(4), Told::Done),
+    (1, Asked::Release(1), Told::Done),
+    (1, Asked::Release(5), Told::Done),
+    (1, Asked::Release(2), Told::Done),
+];
+
+/// The same, and then this.
+fn then(rt: &impl Abort, alloc: Global, kept: usize, rest: &[Row]) -> Result<(), Fail> {
+    let mut list = Vec::new(alloc);
+    for row in ANSWERS {
+        list.push(*row)?;
+    }
+    for row in rest {
+        list.push(*row)?;
+    }
+    plays_in(rt, alloc, keeping(kept, 0), &list)
+}
+
+#[test]
+fn with_room_for_one_the_younger_answer_is_received(rt: HostRuntime) -> Result<(), Fail> {
+    then(
+        &rt,
+        rt.alloc(),
+        1,
+        &[
+            (0, Asked::Receive(3), Told::Handle(6)),
+            (0, Asked::Read(6), Told::Words(1, 20)),
+            (0, Asked::Receive(3), Told::Nothing),
+        ],
+    )
+}
+
+#[test]
+fn with_room_for_two_both_answers_are_received(rt: HostRuntime) -> Result<(), Fail> {
+    then(
+        &rt,
+        rt.alloc(),
+        2,
+        &[
+            (0, Asked::HasResponse(3), Told::Answer(true)),
+            (0, Asked::Receive(3), Told::Handle(6)),
+            (0, Asked::Read(6), Told::Words(1, 10)),
+            (0, Asked::Receive(3), Told::Handle(7)),
+            (0, Asked::Read(7), Told::Words(1, 20)),
+            (0, Asked::Receive(3), Told::Nothing),
+        ],
+    )
+}
+
+#[test]
+fn without_room_no_answer_is_received(rt: HostRuntime) -> Result<(), Fail> {
+    then(
+        &rt,
+        rt.alloc(),
+        0,
+        &[
+            (0, Asked::HasResponse(3), Told::Answer(false)),
+            (0, Asked::Receive(3), Told::Nothing),
+        ],
+    )
+}
+
+#[test]
+fn what_was_received_stays_when_its_pair_gives_way(rt: HostRuntime) -> Result<(), Fail> {
+    plays_in(
+        &rt,
+        rt.alloc(),
+        keeping(1, 0),
+        &[
+            (0, Asked::Client(Given::Nothing), Told::Client(0)),
+            (1, Asked::Server, Told::Server(1)),
+            (1, Asked::Server, Told::Server(2)),
+            (0, Asked::Request(0, 122, 2), Told::Handle(3)),
+            (1, Asked::Receive(1), Told::Handle(4)),
+            (1, Asked::Receive(2), Told::Handle(5)),
+            (1, Asked::Response(4, 10), Told::Done),
+            (1, Asked::Response(5, 20), Told::Done),
+            (1, Asked::Release(4), Told::Done),
+            (1, Asked::Release(1), Told::Done),
+            // The pair of server 1 is emptied, and keeps its place until server 2 is gone too.
+            (0, Asked::Receive(3), Told::Handle(6)),
+            (1, Asked::Release(5), Told::Done),
+            (1, Asked::Release(2), Told::Done),
+            (0, Asked::Read(6), Told::Words(1, 10)),
+            (0, Asked::Receive(3), Told::Handle(7)),
+            (0, Asked::Read(7), Told::Words(1, 20)),
+            (0, Asked::Release(6), Told::Done),
+            (0, Asked::Release(7), Told::Done),
+        ],
+    )
+}
+
+/// A client sends a request and goes.
+const ASKS: &[Row] = &[
+    (0, Asked::Client(Given::Nothing), Told::Client(0)),
+    (1, Asked::Server, Told::Server(1)),
+    (0, Asked::Request(0, 122, 2), Told::Handle(2)),
+    (0, Asked::Release(2), Told::Done),
+    (0, Asked::Release(0), Told::Done),
+    (1, Asked::HasRequests(1), Told::Answer(true)),
+    (1, Asked::Receive(1), Told::Handle(3)),
+    (1, Asked::Read(3), Told::Words(3, 123)),
+    (1, Asked::IsConnected(3), Told::Answer(false)),
+    (1, Asked::Receive(1), Told::Nothing),
+    (1, Asked::Release(3), Told::Done),
+];
+
+#[test]
+fn a_server_receives_the_request_of_a_client_that_is_gone(rt: HostRuntime) -> Result<(), Fail> {
+    plays_in(&rt, rt.alloc(), keeping(0, 1), ASKS)
+}
+
+#[test]
+fn a_server_keeps_no_request_where_it_is_not_to_be_forgotten(rt: HostRuntime) -> Result<(), Fail> {
+    plays_in(
+        &rt,
+        rt.alloc(),
+        Settings {
+            fire_and_forget: false,
+            ..keeping(0, 1)
+        },
+        &[
+            (0, Asked::Client(Given::Nothing), Told::Client(0)),
+            (1, Asked::Server, Told::Server(1)),
+            (0, Asked::Request(0, 122, 2), Told::Handle(2)),
+            (0, Asked::Release(2), Told::Done),
+            (0, Asked::Release(0), Told::Done),
+            (1, Asked::HasRequests(1), Told::Answer(false)),
+            (1, Asked::Receive(1), Told::Nothing),
+        ],
+    )
+}
