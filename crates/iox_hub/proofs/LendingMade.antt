@@ -84,7 +84,7 @@ module _ (ports : List PortState) (m : ℕ) where
           role = ap (λ (r : PortState). r.role) q.2;
           pool = ap (λ (r : PortState). r.pool) q.2;
           longest = ap (λ (r : PortState). r.longest) q.2;
-           kept = ap (λ (r : PortState). r.expired) q.2;
+          kept = ap (λ (r : PortState). r.expired) q.2;
         },
       )
 

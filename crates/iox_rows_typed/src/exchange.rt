@@ -60,6 +60,11 @@ pub fn hub(
     request_overflow: bool,
     strategy: BackpressureStrategy,
 ) -> Result<Exchange, AllocError> {
+    hub_in(alloc, settings(request_overflow, strategy))
+}
+
+/// A hub of these settings, in which no port was made.
+pub fn hub_in(alloc: Global, settings: Settings) -> Result<Exchange, AllocError> {
     let request: MessageShape<u64, ()> = MessageShape {
         default: Some(7),
         user_header: (),
@@ -74,12 +79,7 @@ pub fn hub(
         user_part: PART,
         element_part: PART,
     };
-    Hub::new(
-        alloc,
-        settings(request_overflow, strategy),
-        request,
-        response,
-    )
+    Hub::new(alloc, settings, request, response)
 }
 
 /// A client of node 0 and a server of node 1, whose responses have at most four bytes.

@@ -12,6 +12,8 @@ mod exchange;
 #[cfg(test)]
 mod expected;
 #[cfg(test)]
+mod expired;
+#[cfg(test)]
 mod fillings;
 #[cfg(test)]
 mod growing;
