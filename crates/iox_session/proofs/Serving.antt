@@ -92,12 +92,13 @@ or_false false b e = (refl, e)
 
 still_port : (ps : List m.Port) (n : ℕ) (p : m.Port) → find (λ q. q.number == n) ps ≡ Some p → list_any (λ (q : m.Port). q.grows) ps ≡ false → p.grows ≡ false
 still_port [] n p at still = absurd (none-some p at)
-still_port (q ∷ qs) n p at still = step (q.number == n) at (or_false q.grows (list_any (λ (r : m.Port). r.grows) qs) still)
+still_port (q ∷ qs) n p at still =
+    step (q.number == n) at (or_false q.grows (list_any (λ (r : m.Port). r.grows) qs) still) (λ e rest. still_port qs n p e rest)
   where
     step : (b : Bool) → (if b then Some q else find (λ r. r.number == n) qs) ≡ Some p → (q.grows ≡ false) × (list_any (λ (r : m.Port). r.grows) qs ≡ false)
-        → p.grows ≡ false
-    step true e both = ap (λ (r : m.Port). r.grows) (sym (same_Some q p e)) ∙ both.0
-    step false e both = still_port qs n p e both.1
+        → (find (λ r. r.number == n) qs ≡ Some p → list_any (λ (r : m.Port). r.grows) qs ≡ false → p.grows ≡ false) → p.grows ≡ false
+    step true e both more = ap (λ (r : m.Port). r.grows) (sym (same_Some q p e)) ∙ both.0
+    step false e both more = more e both.1
 
 -- where the messages of no port grow, nobody lends one that must
 still_lender : (f : Fixed) (node n : ℕ) (who : Subject) (p : m.Port) → subject f node n ≡ Some who → lender_by f who ≡ Some p

@@ -149,3 +149,10 @@ returns-in_err-reply-clause-ran g c =
     (run_ends g.Q.Element.Words.words g.P.Element.Words.words g.H.Words.words c.args.self.now.description (service_of c.args.self.now)
     c.args.commands.items c.args.replies.now.items (into_iter_items c.loop-command.command-iterator) c.loop-command.replies.items
     (service_of c.loop-command.self) c.loop-command.invariant.0))
+
+pub returns-in_err-reserve-clause-ran : goal.returns-in_err-reserve-clause-ran
+returns-in_err-reserve-clause-ran g c =
+    rw c.reserve.ensures.items
+    (run_ends g.Q.Element.Words.words g.P.Element.Words.words g.H.Words.words c.args.self.now.description (service_of c.args.self.now)
+    c.args.commands.items c.args.replies.now.items (into_iter_items c.loop-command.command-iterator) c.loop-command.replies.items
+    (service_of c.loop-command.self) c.loop-command.invariant.0)
