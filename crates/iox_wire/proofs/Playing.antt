@@ -2,17 +2,19 @@
 use Rattle.std.specs.Prelude.{Err, IfErr, IfOk, MatchOption, Ok, OnErr, OnOk, Result, max, not, option_map}
 use Rattle.std.specs.Option.{option_map_or}
 use Rattle.std.proofs.Common.{◌≡◌, ℕ, zero, suc, ◌+◌, ◌≤◌, nat_le, Bool, true, false, arith, length, take, List, [], ◌∷◌, ◌++◌, Option, Some, None, refl, ap, sym, subst, ◌∙◌, append-nil, append_assoc}
-use Rattle.iox_model.specs.Commands.{Refusal, WireCall}
+use Rattle.iox_laws.proofs.WeaveLedger.Truths.{none-some}
+use Rattle.iox_model.specs.Commands.{Call, Refusal, WireCall}
 use Rattle.iox_model.specs.Joins.{not_living}
 use Rattle.iox_model.specs.Loans.{Choice}
 use Rattle.iox_model.specs.Maps.{or_else, refused_if}
 use Rattle.iox_model.specs.Schedules.{IsBeginOf, IsDeathOf, nothing}
+use Rattle.iox_model.specs.WireCalls.{said_on_wire}
 use Rattle.iox_model.specs.Weaves.{Beat, Begins, Dies, IsWeave, begin_refusal}
 use Rattle.iox_model.specs.declared.call.WireCall.TheVariants.{Port}
 use Rattle.iox_sets.specs.Refusals.{IsRefusal}
 use Rattle.iox_steps.specs.declared.access.Progress.{Progress}
-use Rattle.iox_wire_weaves.specs.Asking.{BeginIsWoven, BeginsCall, BeginsItsCall, IsBeginRefusal, MayBegin}
-use Rattle.iox_wire_weaves.specs.Begins.{is_busy}
+use Rattle.iox_wire_weaves.specs.Asking.{BeginIsWoven, BeginsCall, BeginsItsCall, IsBeginRefusal, MayBegin, asked_of}
+use Rattle.iox_wire_weaves.specs.Begins.{is_busy, refusal_at}
 use Rattle.iox_wire_weaves.specs.Calls.{call_in}
 use Rattle.iox_wire_weaves.specs.NodeCall.{NodeCall}
 use Rattle.iox_wire_weaves.specs.NodeReply.{NodeReply}
@@ -20,11 +22,15 @@ use Rattle.iox_wire_weaves.specs.Nodes.{seat_in}
 use Rattle.iox_wire_weaves.specs.Runs.{GoesOnBy, Run}
 use Rattle.iox_wire_weaves.specs.Steps.{DeathIsWoven, MakesItsAccess, MakesOneAccess, StepIsWoven, most_accesses, rest_refusal, step_refusal}
 use Rattle.iox_wire_weaves.specs.Tables.{Setting}
-use Rattle.iox_wire_weaves.specs.Wires.{Shows, WireData, WireNode, living_refusal, machine_refusal, node_at, refusal_in}
+use Rattle.iox_wire_weaves.specs.Wires.{Shows, WireData, WireNode, living_refusal, machine_refusal, node_at, refusal_in, seat_of}
 use Rattle.iox_wire_weaves.specs.declared.refusal.WireRefusal.{WireRefusal}
 use Rattle.iox_wire_weaves.specs.declared.refusal.WireRefusal.TheVariants.{AccessesSpent, AtRest, NodeIsDead, UnknownNode, WantOfMemory}
+use Rattle.iox_wire_weaves.proofs.BeginsShown.{refusals_are_shown}
+use Rattle.iox_wire_weaves.proofs.CallsSaid.{calls_are_said}
+use Rattle.iox_wire_weaves.proofs.Lookups.{first_none, seat_there}
 use Rattle.iox_wire.specs.Begun.{LacksRoom}
 use Rattle.iox_wire.specs.Kept.{Loses}
+use Rattle.iox_wire.specs.Replies.{words_call}
 use Rattle.iox_wire.specs.Schedules.{AreEntered, IsAsked, IsDeclaredDead, IsEntered, IsPlayed, IsStepped, IsWovenBy, LeadsTo, WantsMemory}
 use Rattle.iox_wire.specs.declared.entry.WireEntry.{WireEntry}
 use Rattle.iox_wire.specs.declared.entry.WireEntry.TheVariants.{Begin, Die, Step}
@@ -147,6 +153,12 @@ pub begin_full : (a : WireData) (n : ℕ) (call : NodeCall) (told want : Result 
 begin_full a n call told (Ok none) full wants memory = tt
 begin_full a n call (Ok done) (Err want) full wants memory = absurd wants
 begin_full a n call (Err refusal) (Err want) full wants memory = full memory
+
+-- an entry that is such a begin wants memory
+pub begin_wants : (a b : WireData) (n : ℕ) (call : NodeCall) (e : WireEntry) (want : Result (Unit {0}) WireRefusal) → e ≡ Begin n call
+    → OnErr want (MayBegin a n call) → OnErr want (LacksRoom a n call) → OnErr want (b ≡ a) → OnErr want (WantsMemory a e b)
+begin_wants a b n call e (Ok none) is may lacks same = tt
+begin_wants a b n call e (Err want) is may lacks same = subst (λ k. WantsMemory a k b) (sym is) (may, lacks, same)
 
 -- ---- and of a death
 
