@@ -58,6 +58,7 @@ pub enum LoanError {
     ExceedsMaxLoans,
     /// Each message of the port is in use.
     OutOfMemory,
+    /// There is no memory for a message that has to grow.
     WantOfMemory,
     /// No message of the service has so many elements.
     WrongLength,

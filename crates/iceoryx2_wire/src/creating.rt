@@ -28,8 +28,8 @@ where
 {
     /// That service, which says this of itself, with its first node, which has number 0 and that
     /// id. Its messages are of its own types, which the described ones are compared with, and hold
-    /// these defaults at first. A limit of 0 is raised to 1, and no port keeps messages of ports
-    /// that are gone.
+    /// these defaults at first. A limit of 0 is raised to 1, but for those of how many ports that
+    /// are gone a port keeps messages of.
     ///
     /// It is refused as `InvalidNodeId`, as `IncompatibleRequestTypes` or
     /// `IncompatibleResponseTypes` where its own types may not be read where the described ones are

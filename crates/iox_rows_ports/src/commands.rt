@@ -5,6 +5,7 @@ ghost use Rattle.iox_port_commands.specs.Applying.{HaveDefaults};
 
 mod exchanges;
 mod expired;
+mod expired_visits;
 mod growing;
 mod limits;
 mod names;

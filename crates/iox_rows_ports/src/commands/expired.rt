@@ -7,7 +7,7 @@ use std::process::Abort;
 use std::test::Fail;
 
 /// Two servers, and so many ports that are gone of which a client, and a server, keeps what waits.
-fn keeping(clients: usize, servers: usize) -> Settings {
+pub fn keeping(clients: usize, servers: usize) -> Settings {
     Settings {
         servers: 2,
         client_expired: clients,

@@ -1,0 +1,168 @@
+//! In which order what waits of ports that are gone is received, and what of it stays.
+use super::expired::keeping;
+use super::{Asked, Given, Row, Told, plays_in};
+use iox_control::Settings;
+use iox_model::reply::Refusal;
+use std::alloc::Global;
+use std::process::Abort;
+use std::test::Fail;
+
+#[test]
+fn the_gone_come_before_the_connected_and_the_first_that_went_before_others(
+    rt: HostRuntime,
+) -> Result<(), Fail> {
+    plays_in(
+        &rt,
+        rt.alloc(),
+        Settings {
+            servers: 3,
+            ..keeping(2, 0)
+        },
+        &[
+            (0, Asked::Client(Given::Nothing), Told::Client(0)),
+            (1, Asked::Server, Told::Server(1)),
+            (1, Asked::Server, Told::Server(2)),
+            (1, Asked::Server, Told::Server(3)),
+            (0, Asked::Request(0, 122, 2), Told::Handle(4)),
+            (1, Asked::Receive(1), Told::Handle(5)),
+            (1, Asked::Receive(2), Told::Handle(6)),
+            (1, Asked::Receive(3), Told::Handle(7)),
+            (1, Asked::Response(5, 10), Told::Done),
+            (1, Asked::Response(6, 20), Told::Done),
+            (1, Asked::Response(7, 30), Told::Done),
+            // Server 3 goes, and then server 2.
+            (1, Asked::Release(7), Told::Done),
+            (1, Asked::Release(3), Told::Done),
+            (1, Asked::Release(6), Told::Done),
+            (1, Asked::Release(2), Told::Done),
+            (0, Asked::Receive(4), Told::Handle(8)),
+            (0, Asked::Read(8), Told::Words(1, 30)),
+            (0, Asked::Receive(4), Told::Handle(9)),
+            (0, Asked::Read(9), Told::Words(1, 20)),
+            (0, Asked::Receive(4), Told::Handle(10)),
+            (0, Asked::Read(10), Told::Words(1, 10)),
+            (0, Asked::Receive(4), Told::Nothing),
+        ],
+    )
+}
+
+#[test]
+fn a_server_receives_of_the_gone_before_the_connected(rt: HostRuntime) -> Result<(), Fail> {
+    plays_in(
+        &rt,
+        rt.alloc(),
+        keeping(0, 2),
+        &[
+            (0, Asked::Client(Given::Nothing), Told::Client(0)),
+            (0, Asked::Client(Given::Nothing), Told::Client(1)),
+            (1, Asked::Server, Told::Server(2)),
+            (0, Asked::Request(0, 122, 2), Told::Handle(3)),
+            (0, Asked::Request(1, 222, 2), Told::Handle(4)),
+            (0, Asked::Release(4), Told::Done),
+            (0, Asked::Release(1), Told::Done),
+            (1, Asked::Receive(2), Told::Handle(5)),
+            (1, Asked::Read(5), Told::Words(3, 223)),
+            (1, Asked::Receive(2), Told::Handle(6)),
+            (1, Asked::Read(6), Told::Words(3, 123)),
+        ],
+    )
+}
+
+/// A client receives the only answer of a server, which then goes: nothing of it is kept.
+const TAKEN: &[Row] = &[
+    (0, Asked::Client(Given::Nothing), Told::Client(0)),
+    (1, Asked::Server, Told::Server(1)),
+    (0, Asked::Request(0, 122, 2), Told::Handle(2)),
+    (1, Asked::Receive(1), Told::Handle(3)),
+    (1, Asked::Response(3, 10), Told::Done),
+    (0, Asked::Receive(2), Told::Handle(4)),
+    (1, Asked::Release(3), Told::Done),
+    (1, Asked::Release(1), Told::Done),
+    (0, Asked::Read(4), Told::Words(1, 10)),
+    (0, Asked::Receive(2), Told::Nothing),
+    (0, Asked::Read(4), Told::Words(1, 10)),
+    (0, Asked::Release(4), Told::Done),
+];
+
+#[test]
+fn what_was_received_stays_though_its_pair_is_not_kept(rt: HostRuntime) -> Result<(), Fail> {
+    plays_in(&rt, rt.alloc(), keeping(2, 0), TAKEN)
+}
+
+#[test]
+fn what_was_received_stays_where_no_pair_is_kept(rt: HostRuntime) -> Result<(), Fail> {
+    plays_in(&rt, rt.alloc(), keeping(0, 0), TAKEN)
+}
+
+/// What waits of server 1 is an answer to a request that was given up, and what waits of server 2
+/// one to a later request. Server 2 goes, and then server 1.
+const STALE: &[Row] = &[
+    (0, Asked::Client(Given::Nothing), Told::Client(0)),
+    (1, Asked::Server, Told::Server(1)),
+    (1, Asked::Server, Told::Server(2)),
+    (0, Asked::Request(0, 122, 2), Told::Handle(3)),
+    (1, Asked::Receive(1), Told::Handle(4)),
+    (1, Asked::Receive(2), Told::Handle(5)),
+    (1, Asked::Response(4, 10), Told::Done),
+    (0, Asked::Release(3), Told::Done),
+    (0, Asked::Request(0, 222, 2), Told::Handle(6)),
+    (1, Asked::Receive(2), Told::Handle(7)),
+    (1, Asked::Response(7, 20), Told::Done),
+    (1, Asked::Release(5), Told::Done),
+    (1, Asked::Release(7), Told::Done),
+    (1, Asked::Release(2), Told::Done),
+    (1, Asked::Release(4), Told::Done),
+    (1, Asked::Release(1), Told::Done),
+];
+
+/// That, and then this.
+fn then(rt: &impl Abort, alloc: Global, kept: usize, rest: &[Row]) -> Result<(), Fail> {
+    let mut list = Vec::new(alloc);
+    for row in STALE {
+        list.push(*row)?;
+    }
+    for row in rest {
+        list.push(*row)?;
+    }
+    let settings = Settings {
+        active_requests: 2,
+        ..keeping(kept, 0)
+    };
+    plays_in(rt, alloc, settings, &list)
+}
+
+#[test]
+fn a_stale_message_keeps_a_pair_in_place_of_an_older_one(rt: HostRuntime) -> Result<(), Fail> {
+    then(&rt, rt.alloc(), 1, &[(0, Asked::Receive(6), Told::Nothing)])
+}
+
+#[test]
+fn with_room_for_both_the_older_one_is_received(rt: HostRuntime) -> Result<(), Fail> {
+    then(
+        &rt,
+        rt.alloc(),
+        2,
+        &[
+            (0, Asked::Receive(6), Told::Handle(8)),
+            (0, Asked::Read(8), Told::Words(1, 20)),
+            (0, Asked::Receive(6), Told::Nothing),
+        ],
+    )
+}
+
+#[test]
+fn room_for_what_is_kept_is_taken_as_a_port_is_made(rt: HostRuntime) -> Result<(), Fail> {
+    plays_in(
+        &rt,
+        rt.alloc(),
+        keeping(1 << 60, 0),
+        &[
+            (
+                0,
+                Asked::Client(Given::Nothing),
+                Told::Refused(Refusal::UnableToCreateDataSegment),
+            ),
+            (1, Asked::Server, Told::Server(0)),
+        ],
+    )
+}
