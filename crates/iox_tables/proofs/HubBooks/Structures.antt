@@ -110,10 +110,10 @@ module _ (t u : HubTables) (alike : AreAlike t.ports u.ports) (settings : u.sett
     gone = λ n has. none_alike n (old.gone n (sym (ap (has_number n) (expired_senders p q e)) ∙ has));
     wide = λ n z at.
         let y =
-            some_map bare_pipe (pipe_from q.expired.pipes n) (bare_pipe z)
-            (sym (first_map (λ (x : PipeState). x.sender) (λ x. x.sender) bare_pipe (λ x. refl) q.expired.pipes n)
-            ∙ ap (λ (x : PortState). pipe_from x.expired.pipes n) e
-            ∙ first_map (λ (x : PipeState). x.sender) (λ x. x.sender) bare_pipe (λ x. refl) p.expired.pipes n ∙ ap (option_map bare_pipe) at) in
+        some_map bare_pipe (pipe_from q.expired.pipes n) (bare_pipe z)
+        (sym (first_map (λ (x : PipeState). x.sender) (λ x. x.sender) bare_pipe (λ x. refl) q.expired.pipes n)
+        ∙ ap (λ (x : PortState). pipe_from x.expired.pipes n) e
+        ∙ first_map (λ (x : PipeState). x.sender) (λ x. x.sender) bare_pipe (λ x. refl) p.expired.pipes n ∙ ap (option_map bare_pipe) at) in
         sym (length_map bare_lane z.lanes) ∙ ap (λ (x : PipeState). length x.lanes) (sym y.2) ∙ length_map bare_lane y.0.lanes ∙ old.wide n y.0 y.1 ∙ ap width_of e;
   }
 
@@ -208,7 +208,6 @@ owners_stay t u order alike same before w l k at has =
     step : (m : LaneState) → lane_on t.ports w ≡ Some m → (has_number k (places_on m) ≡ true) ⊎ (owner_of t.pools m.pool ≡ w.sender) → owner_of t.pools m.pool ≡ w.sender
     step m on (inl there) = order.owners w m k on there
     step m on (inr new) = new
-
 
 module _ (t u : HubTables) (order : AreInOrder t) (alike : AreAlike t.ports u.ports) (same : bare_pools t.pools ≡ bare_pools u.pools) (settings : u.settings ≡ t.settings) where
   pub pools_stay : HavePools u

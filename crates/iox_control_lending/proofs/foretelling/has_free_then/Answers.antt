@@ -24,9 +24,9 @@ returns-then-left_then-eq0-clause-some c is p there =
     (left_is c.args.control.now.tables c.requires.order.order c.args.port.now c.requires.said c.loop-slot.slot c.left_then.result c.in-Some.of
     (c.in-Some.ensures ∙ ap (λ ps. slice_get (slots_of ps c.args.port.now.pool) c.loop-slot.slot) c.pools-pools.ensures)
     (c.left_then.ensures
-      ∙ ap
-        (λ (h : ℕ). h - returned_on c.args.control.now.tables (ways_by c.args.port.now.role c.args.control.now.tables c.args.port.now.number) c.args.port.now.pool c.loop-slot.slot)
-        c.holders.ensures))
+    ∙ ap
+    (λ (h : ℕ). h - returned_on c.args.control.now.tables (ways_by c.args.port.now.role c.args.control.now.tables c.args.port.now.number) c.args.port.now.pool c.loop-slot.slot)
+    c.holders.ensures))
     c.if-left_then-eq0.true
 
 pub returns-then-left_then-eq0-clause-none : goal.returns-then-left_then-eq0-clause-none
@@ -38,9 +38,9 @@ loop-slot-preserved c = record {
       (left_is c.args.control.now.tables c.requires.order.order c.args.port.now c.requires.said c.loop-slot.slot c.left_then.result c.in-Some.of
       (c.in-Some.ensures ∙ ap (λ ps. slice_get (slots_of ps c.args.port.now.pool) c.loop-slot.slot) c.pools-pools.ensures)
       (c.left_then.ensures
-        ∙ ap
-          (λ (h : ℕ). h - returned_on c.args.control.now.tables (ways_by c.args.port.now.role c.args.control.now.tables c.args.port.now.number) c.args.port.now.pool c.loop-slot.slot)
-          c.holders.ensures))
+      ∙ ap
+      (λ (h : ℕ). h - returned_on c.args.control.now.tables (ways_by c.args.port.now.role c.args.control.now.tables c.args.port.now.number) c.args.port.now.pool c.loop-slot.slot)
+      c.holders.ensures))
       c.if-left_then-eq0.false;
   size = c.loop-slot.invariant.size;
 }
