@@ -1,4 +1,4 @@
-ghost use Rattle.std.specs.Prelude.{◌≡◌, ◌≤◌};
+ghost use Rattle.std.specs.Prelude.{◌≤◌};
 
 use crate::expected::equal;
 use iox_control::{Control, Settings};
@@ -16,8 +16,6 @@ const NODE: UniqueSystemId = UniqueSystemId {
 };
 
 fn settings() -> Settings
-    ensures clients { result.client_expired ≡ 0 }
-    ensures servers { result.server_expired ≡ 0 }
     ensures requests { 1 ≤ result.active_requests }
     ensures responses { 1 ≤ result.response_buffer }
 {
