@@ -1,21 +1,24 @@
 -- A plan, and its terms, of a client on one node and a server on the other, whose elements have no words.
-use Rattle.std.specs.Prelude.{◌≡◌, ℕ, Bool, List, [], ◌∷◌}
+use Rattle.std.specs.Prelude.{◌≡◌, ℕ, Bool, true, false, if◌then◌else◌, List, [], ◌∷◌}
 use Rattle.iox_wire_lenders.specs.declared.terms.MessageTerms.{MessageTerms}
 use Rattle.iox_wire_lenders.specs.declared.terms.WireTerms.{WireTerms}
 use Rattle.iox_model.specs.declared.kind.Role.TheVariants.{Client, Server}
 use Rattle.iox_types.specs.declared.message_type_details.MessageTypeDetails.{MessageTypeDetails}
 use Rattle.iox_word_places.specs.declared.plan.PlanPort.{PlanPort}
 use Rattle.iox_word_places.specs.declared.plan.WirePlan.{WirePlan}
-use Rattle.std.specs.Prelude.{false, true}
 use Rattle.iox_rows_whole_wire.specs.Ones.{ArePortsOfOnes, limits_of_ones}
 
--- a client, whose messages have at most three elements
-abbrev pub unit_client : PlanPort
-unit_client = record { number = 0; node = 0; role = Client; pool = 4; longest = 3; slot_words = 9 }
+-- how many elements a message has at most: three, or one
+abbrev pub longest_of_units : (many : Bool) → ℕ
+longest_of_units many = if many then 3 else 1
 
--- and such a server
-abbrev pub unit_server : PlanPort
-unit_server = record { number = 1; node = 1; role = Server; pool = 9; longest = 3; slot_words = 8 }
+-- a client
+abbrev pub unit_client : (many : Bool) → PlanPort
+unit_client many = record { number = 0; node = 0; role = Client; pool = 4; longest = longest_of_units many; slot_words = 9 }
+
+-- a server
+abbrev pub unit_server : (many : Bool) → PlanPort
+unit_server many = record { number = 1; node = 1; role = Server; pool = 9; longest = longest_of_units many; slot_words = 8 }
 
 -- Messages have a header of so many bytes, no user header, and elements of no word.
 pub record HasNoWord (details : MessageTypeDetails) (header : ℕ) : Type 0 where
@@ -27,8 +30,8 @@ pub record HasNoWord (details : MessageTypeDetails) (header : ℕ) : Type 0 wher
   pub payload_alignment : details.payload.alignment ≡ 8
 
 -- It is the plan of these ports, where each limit is 1 and nothing overflows.
-pub record IsPlanOfUnits (plan : WirePlan) : Type 0 where
-  pub ports : plan.ports.items ≡ unit_client ∷ unit_server ∷ []
+pub record IsPlanOfUnits (many : Bool) (plan : WirePlan) : Type 0 where
+  pub ports : plan.ports.items ≡ unit_client many ∷ unit_server many ∷ []
   pub limits : plan.limits ≡ limits_of_ones false false
   pub request : HasNoWord plan.request 56
   pub response : HasNoWord plan.response 48

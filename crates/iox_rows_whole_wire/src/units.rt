@@ -2,7 +2,7 @@
 //! of them, up to three, or one.
 ghost use Rattle.std.specs.Prelude.{◌≡◌, IfOk};
 ghost use Rattle.iox_rows_whole_wire.specs.Units.{AreTermsOfUnits, HasNoWord, IsMessageOfUnits};
-ghost use Rattle.iox_rows_whole_wire.specs.Units.{IsPlanOfUnits};
+ghost use Rattle.iox_rows_whole_wire.specs.Units.{IsPlanOfUnits, unit_client, unit_server};
 
 use super::play::{Act, Ask, Told, plays};
 use super::settings::{NO_OVERFLOW, limits, port};
@@ -14,23 +14,33 @@ use iox_word_places::{PlanPort, WirePlan};
 use std::alloc::Global;
 use std::test::Fail;
 
-const CLIENT: PlanPort = PlanPort {
-    number: 0,
-    node: 0,
-    role: Role::Client,
-    pool: 4,
-    longest: 3,
-    slot_words: 9,
-};
+/// A client, whose messages have up to three elements, or one.
+fn client(many: bool) -> PlanPort
+    ensures { result ≡ unit_client many }
+{
+    PlanPort {
+        number: 0,
+        node: 0,
+        role: Role::Client,
+        pool: 4,
+        longest: if many { 3 } else { 1 },
+        slot_words: 9,
+    }
+}
 
-const SERVER: PlanPort = PlanPort {
-    number: 1,
-    node: 1,
-    role: Role::Server,
-    pool: 9,
-    longest: 3,
-    slot_words: 8,
-};
+/// Such a server.
+fn server(many: bool) -> PlanPort
+    ensures { result ≡ unit_server many }
+{
+    PlanPort {
+        number: 1,
+        node: 1,
+        role: Role::Server,
+        pool: 9,
+        longest: if many { 3 } else { 1 },
+        slot_words: 8,
+    }
+}
 
 /// Requests of a header of 7 words and no other word.
 fn request() -> Result<MessageTypeDetails, Fail>
@@ -49,10 +59,10 @@ fn response() -> Result<MessageTypeDetails, Fail>
 }
 
 /// Each limit is 1, and nothing overflows.
-fn plan(alloc: Global) -> Result<WirePlan, Fail>
-    ensures { IfOk result IsPlanOfUnits }
+fn plan(alloc: Global, many: bool) -> Result<WirePlan, Fail>
+    ensures { IfOk result (IsPlanOfUnits many) }
 {
-    let ports = vec![in alloc; CLIENT, SERVER]?;
+    let ports = vec![in alloc; client(many), server(many)]?;
     Ok(WirePlan {
         ports,
         limits: limits(NO_OVERFLOW),
@@ -90,7 +100,7 @@ fn terms(alloc: Global, many: bool) -> Result<WireTerms, Fail>
 
 /// A wire of that plan, whose nodes live.
 fn open(alloc: Global, many: bool) -> Result<Wire, Fail> {
-    let plan = plan(alloc)?;
+    let plan = plan(alloc, many)?;
     let terms = terms(alloc, many)?;
     Ok(Wire::new(alloc, plan, terms, &[0, 1], 8)?)
 }
