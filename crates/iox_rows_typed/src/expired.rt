@@ -79,7 +79,11 @@ fn both_go(
     let second_sent = goes(hub, second, twenty);
     let told = match asked {
         Some(pending) => {
-            let told = (next(hub, &pending), next(hub, &pending), next(hub, &pending));
+            let told = (
+                next(hub, &pending),
+                next(hub, &pending),
+                next(hub, &pending),
+            );
             pending.release(hub);
             Some(told)
         }
