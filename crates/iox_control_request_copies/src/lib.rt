@@ -14,4 +14,4 @@ pub use iox_control_copies::{
     Answered, Asked, Lent, LoanRefusal, Place, Responded, Written, copy_response, fails_when_full,
     fill, lend_request, lend_response, send_response, write,
 };
-pub use iox_control_requests::{ByStrategy, Requested, send_request};
+pub use iox_control_requests::{ByStrategy, Requested, WhenFull, send_request};
