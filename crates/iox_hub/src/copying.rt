@@ -26,6 +26,7 @@ use crate::copies::{copy_request_in, copy_response_in};
 use crate::growing::let_go;
 use crate::hub::Hub;
 use crate::lending::asked_of;
+use iox_backpressure::Backpressure;
 use iox_control_request_copies::{
     Answered, ByStrategy, Copied, LoanRefusal, Place, fails_when_full,
 };
@@ -44,7 +45,7 @@ fn place_of(answered: Answered) -> Option<Place>
     }
 }
 
-impl<Q: Payload, QH: Words, P: Payload, PH: Words> Hub<Q, QH, P, PH> {
+impl<Q: Payload, QH: Words, P: Payload, PH: Words, H: Backpressure> Hub<Q, QH, P, PH, H> {
     /// Sends a request of that client with copies of these elements to all servers, where its
     /// message has room for them: its own, or that which is given.
     fn copy_request_in_room(

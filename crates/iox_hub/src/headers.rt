@@ -6,6 +6,7 @@ ghost use Rattle.iox_hub.specs.Headers.{IsHeaderShown, IsIdShown, has_message, h
 ghost use Rattle.iox_hub.specs.Reads.{HasOf};
 
 use crate::hub::Hub;
+use iox_backpressure::Backpressure;
 use iox_slots::Pools;
 use iox_store::Payload;
 use iox_types::identifiers::UniqueSystemId;
@@ -57,7 +58,7 @@ fn header_at(pools: &Pools, place: usize, slot: u64) -> MessageHeader
     }
 }
 
-impl<Q: Payload, QH: Words, P: Payload, PH: Words> Hub<Q, QH, P, PH> {
+impl<Q: Payload, QH: Words, P: Payload, PH: Words, H: Backpressure> Hub<Q, QH, P, PH, H> {
     /// The header of the message that the handle has. The handle is looked for at the hint first.
     pub fn message_header(&self, node: u64, number: u64, hint: usize) -> MessageHeader
         requires has { HasOf has_message self.now node number }

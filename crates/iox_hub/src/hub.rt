@@ -9,6 +9,7 @@ ghost use Rattle.iox_hub.specs.Starts.{new_hub};
 use crate::settings::started;
 use crate::shape::{MessageShape, known};
 use crate::words::PoolWords;
+use iox_backpressure::Backpressure;
 use iox_control::{Control, Settings};
 use iox_store::Payload;
 use iox_words::Words;
@@ -21,7 +22,7 @@ use std::marker::Model;
 /// A service and its hub can reach the state that a hub shows, so each law of the machine holds of
 /// it.
 #[derive(Drop)]
-pub struct Hub<Q: Payload, QH: Words, P: Payload, PH: Words> {
+pub struct Hub<Q: Payload, QH: Words, P: Payload, PH: Words, H: Backpressure> {
     pub(crate) control: Control,
     // Beside each pool of the tables.
     pub(crate) words: Vec<Option<PoolWords<Q::Element, QH, P::Element, PH>>>,
@@ -29,7 +30,7 @@ pub struct Hub<Q: Payload, QH: Words, P: Payload, PH: Words> {
     pub(crate) response: MessageShape<P::Element, PH>,
 }
 
-impl<Q: Payload, QH: Words, P: Payload, PH: Words> Model for Hub<Q, QH, P, PH> {
+impl<Q: Payload, QH: Words, P: Payload, PH: Words, H: Backpressure> Model for Hub<Q, QH, P, PH, H> {
     ghost use Rattle.iox_hub.specs.Hubs.{HubState, IsHub};
     ghost use Rattle.iox_hub.specs.Shapes.{shape_of};
     ghost use Rattle.iox_hub.specs.Words.{all_carried};
@@ -51,7 +52,7 @@ impl<Q: Payload, QH: Words, P: Payload, PH: Words> Model for Hub<Q, QH, P, PH> {
     }) };
 }
 
-impl<Q: Payload, QH: Words, P: Payload, PH: Words> Hub<Q, QH, P, PH> {
+impl<Q: Payload, QH: Words, P: Payload, PH: Words, H: Backpressure> Hub<Q, QH, P, PH, H> {
     /// A hub in which no port was made yet. A limit of 0 is raised to 1, and no port keeps messages
     /// of ports that are gone. It fails only for want of memory.
     pub fn new(

@@ -18,6 +18,7 @@ use crate::hub::Hub;
 use crate::options::Options;
 use crate::pools::{Form, asked_of, worst_pool};
 use crate::words::PoolWords;
+use iox_backpressure::Backpressure;
 use iox_control_making::{Asked, NotMade, make_port};
 use iox_model::kind::Role;
 use iox_slots::Pools;
@@ -68,7 +69,7 @@ fn put<QE: Words, QH: Words, PE: Words, PH: Words>(
     words[place] = Some(new);
 }
 
-impl<Q: Payload, QH: Words, P: Payload, PH: Words> Hub<Q, QH, P, PH> {
+impl<Q: Payload, QH: Words, P: Payload, PH: Words, H: Backpressure> Hub<Q, QH, P, PH, H> {
     /// What the size of a port of that role depends on.
     fn form(&self, role: Role) -> Form
         ensures { IsFormOf result (shape_in self.now role) }

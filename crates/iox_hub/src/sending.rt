@@ -16,11 +16,12 @@ ghost use Rattle.iox_hub.specs.Keeping.{KeepsOthers};
 ghost use Rattle.iox_hub.specs.Sending.{HasNothing, HasSent, with_words_left};
 
 use crate::hub::Hub;
+use iox_backpressure::Backpressure;
 use iox_control_request_copies::{ByStrategy, Requested, Responded, fails_when_full};
 use iox_store::Payload;
 use iox_words::Words;
 
-impl<Q: Payload, QH: Words, P: Payload, PH: Words> Hub<Q, QH, P, PH> {
+impl<Q: Payload, QH: Words, P: Payload, PH: Words, H: Backpressure> Hub<Q, QH, P, PH, H> {
     /// Sends a loaned response to its client, and ends its handle, which is looked for at the hint
     /// first; the server goes with it, if nothing else of that is left.
     pub fn send_response(&mut self, node: u64, number: u64, hint: usize) -> Responded
