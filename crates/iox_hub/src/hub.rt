@@ -9,7 +9,7 @@ ghost use Rattle.iox_hub.specs.Starts.{new_hub};
 use crate::settings::started;
 use crate::shape::{MessageShape, known};
 use crate::words::PoolWords;
-use iox_backpressure::Backpressure;
+use iox_backpressure::{Backpressure, Handlers};
 use iox_control::{Control, Settings};
 use iox_store::Payload;
 use iox_words::Words;
@@ -17,17 +17,18 @@ use std::alloc::{AllocError, Global};
 use std::marker::Model;
 
 /// All ports of a service: requests of `Q` with user headers `QH`, responses of `P` with user
-/// headers `PH`.
+/// headers `PH`. Ports may have handlers of `H`; where they have none, it is the unit.
 ///
 /// A service and its hub can reach the state that a hub shows, so each law of the machine holds of
 /// it.
 #[derive(Drop)]
-pub struct Hub<Q: Payload, QH: Words, P: Payload, PH: Words, H: Backpressure> {
+pub struct Hub<Q: Payload, QH: Words, P: Payload, PH: Words, H: Backpressure = ()> {
     pub(crate) control: Control,
     // Beside each pool of the tables.
     pub(crate) words: Vec<Option<PoolWords<Q::Element, QH, P::Element, PH>>>,
     pub(crate) request: MessageShape<Q::Element, QH>,
     pub(crate) response: MessageShape<P::Element, PH>,
+    pub(crate) handlers: Handlers<H>,
 }
 
 impl<Q: Payload, QH: Words, P: Payload, PH: Words, H: Backpressure> Model for Hub<Q, QH, P, PH, H> {
@@ -42,6 +43,7 @@ impl<Q: Payload, QH: Words, P: Payload, PH: Words, H: Backpressure> Model for Hu
       words = all_carried h.words.items;
       request = shape_of Q.MANY Q.Element.WORDS Q.Element.words QH.words h.request;
       response = shape_of P.MANY P.Element.WORDS P.Element.words PH.words h.response;
+      handlers = h.handlers.list;
     } };
 
     ghost invariant = { λ h. IsHub (record {
@@ -49,6 +51,7 @@ impl<Q: Payload, QH: Words, P: Payload, PH: Words, H: Backpressure> Model for Hu
       words = all_carried h.words.items;
       request = shape_of Q.MANY Q.Element.WORDS Q.Element.words QH.words h.request;
       response = shape_of P.MANY P.Element.WORDS P.Element.words PH.words h.response;
+      handlers = h.handlers.list;
     }) };
 }
 
@@ -73,6 +76,7 @@ impl<Q: Payload, QH: Words, P: Payload, PH: Words, H: Backpressure> Hub<Q, QH, P
             words: Vec::new(alloc),
             request: known(request),
             response: known(response),
+            handlers: Handlers::new(alloc),
         })
     }
 
