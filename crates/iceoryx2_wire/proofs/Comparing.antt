@@ -1,6 +1,6 @@
 -- Creators and openers are asked what the description says.
 use Rattle.std.specs.Prelude.{◌≡◌, ℕ, List, Option, Result, Ok, Err, OnErr, refl}
-use Rattle.std.proofs.Common.{subst, sym}
+use Rattle.std.proofs.Common.{subst, sym, ◌∙◌}
 use Rattle.iox_types.specs.declared.identifiers.system_id.UniqueSystemId.{UniqueSystemId}
 use Rattle.iox_attributes.specs.Verifiers.{Requirements}
 use Rattle.iox_attributes.specs.declared.verification_error.AttributeVerificationError.{AttributeVerificationError}
@@ -8,7 +8,7 @@ use Rattle.iox_model.specs.declared.command.Command as the_command
 use Rattle.iox_model.specs.declared.command.Command.TheVariants as commands
 use Rattle.iox_model.specs.declared.command.PortCommand as the_port_command
 use Rattle.iox_model.specs.declared.reply.Refusal as the_refusal
-use Rattle.iox_model.specs.Commands.{Refusal}
+use Rattle.iox_model.specs.Commands.{Command, Refusal, Reply}
 use Rattle.iox_model.specs.Settings.{Limits}
 use Rattle.iox_model.specs.States.{State}
 use Rattle.iox_service_laws.specs.MessageShape.{MessageShape}
@@ -18,14 +18,15 @@ use Rattle.iox_openers.specs.declared.message_types.MessageTypes.{MessageTypes}
 use Rattle.iox_openers.specs.declared.service_description.ServiceDescription.{ServiceDescription}
 use Rattle.iox_service_laws.specs.Asking.{command_for}
 use Rattle.iox_service_laws.specs.Elements.{Elements}
-use Rattle.iox_service_laws.specs.Given.{command_given}
-use Rattle.iox_service_laws.specs.Memory.{WantsRightly}
+use Rattle.iox_service_laws.specs.Given.{command_given, reply_given}
+use Rattle.iox_service_laws.specs.Memory.{WantsRightly, WantsToGrow}
+use Rattle.iox_service_laws.specs.Memory as nodes_memory
 use Rattle.iox_service_laws.specs.Served.{IsCreated, IsJoin, IsPortAnswered}
 use Rattle.iox_service_laws.specs.Shown.{ServiceTables}
 use Rattle.iox_service_laws.specs.Shown as nodes
 use Rattle.iox_service_laws.proofs.Wanting.{given_wants, port_given_wants}
 use Rattle.iceoryx2_wire.specs.Services.{DescribedService, IsMade, IsOpened}
-use Rattle.iceoryx2_wire.specs.Serving.{IsAnswered, IsGivenAs, OpenCommand, OpenReply}
+use Rattle.iceoryx2_wire.specs.Serving.{IsAnswered, IsGivenAs, OpenCommand, OpenReply, WantsToGrowFor}
 use Rattle.iceoryx2_wire.specs.declared.identity.ServiceIdentity.{ServiceIdentity}
 
 -- that service with this description and these nodes
@@ -79,3 +80,33 @@ pub compared_wants :
 compared_wants q p w d (commands.Port command) compared reply is wants =
     port_given_wants q p w command reply (subst (λ c. WantsRightly c reply) is (given_wants q p w cause_of compared reply wants))
 compared_wants q p w d command compared reply is wants = tt
+
+-- however the command is given to the machine, it is so
+given_grows :
+    {Q P H : Type 0} (q : Q → List ℕ) (p : P → List ℕ) (w : H → List ℕ) (d : ServiceDescription) (s : State) (command : OpenCommand Q P H)
+    (c c' : Command) (r : Reply) → IsGivenAs q p w d command c → IsGivenAs q p w d command c' → WantsToGrow s c r → WantsToGrow s c' r
+given_grows q p w d s (commands.Port command) c c' r is is' grows = subst (λ k. WantsToGrow s k r) (is ∙ sym is') grows
+given_grows q p w d s (commands.Join id opener) c c' r is is' grows = subst (λ k. WantsToGrow s k r) (sym is'.2) tt
+given_grows q p w d s (commands.Leave node) c c' r is is' grows = subst (λ k. WantsToGrow s k r) (sym is') tt
+given_grows q p w d s (commands.DeclareDead node) c c' r is is' grows = subst (λ k. WantsToGrow s k r) (sym is') tt
+given_grows q p w d s (commands.Cleanup node) c c' r is is' grows = subst (λ k. WantsToGrow s k r) (sym is') tt
+given_grows q p w d s commands.ListNodes c c' r is is' grows = subst (λ k. WantsToGrow s k r) (sym is') tt
+given_grows q p w d s commands.ListClients c c' r is is' grows = subst (λ k. WantsToGrow s k r) (sym is') tt
+given_grows q p w d s commands.ListServers c c' r is is' grows = subst (λ k. WantsToGrow s k r) (sym is') tt
+
+pub compared_grows :
+    {Q P H Z : Type 0} (q : Q → List ℕ) (p : P → List ℕ) (w : H → List ℕ) (d : ServiceDescription) (s : State) (command : OpenCommand Q P H)
+    (compared : the_command.Command (Elements Q P) H (Option (the_refusal.Refusal AttributeVerificationError))) (reply : OpenReply Z)
+    → IsGivenAs q p w d command (command_given q p w cause_of compared) → nodes_memory.WantsToGrowFor q p w s compared reply
+    → WantsToGrowFor q p w d s command reply
+compared_grows q p w d s command compared reply is wants =
+    λ c given.
+    given_grows q p w d s command (command_given q p w cause_of compared) c (reply_given cause_of reply) is given (wants cause_of)
+
+pub port_of_opener_grows :
+    {Q P H Z : Type 0} (q : Q → List ℕ) (p : P → List ℕ) (w : H → List ℕ) (d : ServiceDescription) (s : State)
+    (command : OpenCommand Q P H) (at_port : the_port_command.PortCommand (Elements Q P) H) (reply : OpenReply Z) → command ≡ commands.Port at_port
+    → nodes_memory.WantsToGrowFor {C = AttributeVerificationError} q p w s (commands.Port at_port) reply → WantsToGrowFor q p w d s command reply
+port_of_opener_grows q p w d s command at_port reply is wants =
+    subst (λ k. WantsToGrowFor q p w d s k reply) (sym is)
+    (λ c given. subst (λ k. WantsToGrow s k (reply_given cause_of reply)) (sym given) (wants cause_of))

@@ -9,11 +9,11 @@ use Rattle.iox_model.specs.States.{State}
 use Rattle.iox_openers.specs.Causes.{cause_of}
 use Rattle.iox_openers.specs.declared.service_description.ServiceDescription.{ServiceDescription}
 use Rattle.iox_service_laws.specs.Given.{is_listing, reply_given}
-use Rattle.iox_service_laws.specs.Memory.{WantsRightly}
+use Rattle.iox_service_laws.specs.Memory.{IsRunWithWants, WantsRightly}
 use Rattle.iox_service_laws.specs.Served.{Correspond, IsListingAt}
 use Rattle.iox_service_laws.proofs.Reaching.{run_more}
-use Rattle.iox_service_laws.proofs.Running.{correspond_more, lists_next}
-use Rattle.iceoryx2_wire.specs.Serving.{IsAnswered, IsGivenAs, IsRunOf, OpenCommand, OpenReply}
+use Rattle.iox_service_laws.proofs.Running.{correspond_more, lists_next, wants_more}
+use Rattle.iceoryx2_wire.specs.Serving.{IsAnswered, IsGivenAs, IsRunOf, OpenCommand, OpenReply, WantsToGrowFor}
 
 append_nothing : {A : Type 0} (xs : List A) → xs ++ [] ≡ xs
 append_nothing [] = refl
@@ -36,6 +36,7 @@ module _ {Q P H Z : Type 0} (q : Q → List ℕ) (p : P → List ℕ) (w : H →
     pub given : Correspond (IsGivenAs q p w d) done played
     pub run : IsRun s played (map (reply_given cause_of) more) s'
     pub want : Correspond WantsRightly done more
+    pub grows : IsRunWithWants s played (map (reply_given cause_of) more) s'
 
   pub run_starts : HasRun commands old s
   run_starts = record {
@@ -48,12 +49,13 @@ module _ {Q P H Z : Type 0} (q : Q → List ℕ) (p : P → List ℕ) (w : H →
     given = tt;
     run = refl;
     want = tt;
+    grows = refl;
   }
 
   pub run_goes_on : (command : OpenCommand Q P H) (rest : List (OpenCommand Q P H)) (new : List (OpenReply Z)) (s' s'' : State)
       (reply : OpenReply Z) → HasRun (command ∷ rest) new s' → IsAnswered q p w d s' command reply s'' → WantsRightly command reply
-      → HasRun rest (new ++ reply ∷ []) s''
-  run_goes_on command rest new s' s'' reply so answered wants = record {
+      → WantsToGrowFor q p w d s' command reply → HasRun rest (new ++ reply ∷ []) s''
+  run_goes_on command rest new s' s'' reply so answered wants grows = record {
     more = so.more ++ reply ∷ [];
     told = ap (λ xs. xs ++ reply ∷ []) so.told ∙ append_twice old so.more (reply ∷ []);
     done = so.done ++ command ∷ [];
@@ -64,6 +66,9 @@ module _ {Q P H Z : Type 0} (q : Q → List ℕ) (p : P → List ℕ) (w : H →
     run = subst (λ (rs : List Reply). IsRun s (so.played ++ answered.0 ∷ []) rs s'') (sym (map-append (reply_given cause_of) so.more (reply ∷ [])))
         (run_more s s' s'' so.played (map (reply_given cause_of) so.more) answered.0 (reply_given cause_of reply) so.run answered.2);
     want = correspond_more WantsRightly so.done so.more command reply so.want wants;
+    grows = subst (λ (rs : List Reply). IsRunWithWants s (so.played ++ answered.0 ∷ []) rs s'') (sym (map-append (reply_given cause_of) so.more (reply ∷ [])))
+        (wants_more s s' s'' so.played (map (reply_given cause_of) so.more) answered.0 (reply_given cause_of reply) so.grows answered.2
+        (grows answered.0 answered.1));
   }
 
   pub run_ends : (rest : List (OpenCommand Q P H)) (new : List (OpenReply Z)) (s' : State)
@@ -75,6 +80,7 @@ module _ {Q P H Z : Type 0} (q : Q → List ℕ) (p : P → List ℕ) (w : H →
     given = subst (λ cs. Correspond (IsGivenAs q p w d) cs so.played) (sym taken) so.given;
     run = so.run;
     want = subst (λ cs. Correspond WantsRightly cs so.more) (sym taken) so.want;
+    grows = so.grows;
   }
     where
       taken : take (length so.more) commands ≡ so.done

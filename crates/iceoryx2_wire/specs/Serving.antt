@@ -17,7 +17,7 @@ use Rattle.iox_openers.specs.declared.service_description.ServiceDescription.{Se
 use Rattle.iox_service_laws.specs.Asking.{command_for}
 use Rattle.iox_service_laws.specs.Elements.{Elements}
 use Rattle.iox_service_laws.specs.Given.{reply_given}
-use Rattle.iox_service_laws.specs.Memory.{IsDoneWithMemory, MayLackMemory, WantsRightly}
+use Rattle.iox_service_laws.specs.Memory.{IsDoneWithMemory, IsRunWithWants, MayLackMemory, WantsRightly, WantsToGrow}
 use Rattle.iox_service_laws.specs.Served.{Correspond}
 
 -- a command with which an opener is lent
@@ -67,6 +67,13 @@ abbrev pub MayFindNoMemory :
 MayFindNoMemory q p words d s command =
     (c : Command) × IsGivenAs q p words d command c × MayLackMemory s c
 
+-- If the reply tells want of memory, and the command lends a message, that must grow.
+abbrev pub WantsToGrowFor :
+    {Q P H Z : Type 0} → (Q → List ℕ) → (P → List ℕ) → (H → List ℕ) → ServiceDescription → State
+    → OpenCommand Q P H → OpenReply Z → Type 0
+WantsToGrowFor q p words d s command reply =
+    (c : Command) → IsGivenAs q p words d command c → WantsToGrow s c (reply_given cause_of reply)
+
 -- The first of these commands are answered by the replies that are new, one after another, from a
 -- state to another: a run of the machine. The rest is not begun.
 pub record IsRunOf {Q P H Z : Type 0} (q : Q → List ℕ) (p : P → List ℕ) (words : H → List ℕ)
@@ -81,3 +88,4 @@ pub record IsRunOf {Q P H Z : Type 0} (q : Q → List ℕ) (p : P → List ℕ) 
     pub given : Correspond (IsGivenAs q p words d) (take (length more) commands) played
     pub run : IsRun s played (map (reply_given cause_of) more) s'
     pub want : Correspond WantsRightly (take (length more) commands) more
+    pub grows : IsRunWithWants s played (map (reply_given cause_of) more) s'

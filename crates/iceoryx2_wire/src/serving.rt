@@ -7,7 +7,7 @@ ghost use Rattle.iox_service_laws.specs.Memory.{WantsRightly};
 ghost use Rattle.iox_service_laws.specs.Served.{IsListingAt};
 ghost use Rattle.iceoryx2_wire.specs.Services.{service_of};
 ghost use Rattle.iceoryx2_wire.specs.Serving.{IsAnswered, IsAnsweredWithMemory, IsGivenAs};
-ghost use Rattle.iceoryx2_wire.specs.Serving.{IsRunOf, MayFindNoMemory};
+ghost use Rattle.iceoryx2_wire.specs.Serving.{IsRunOf, MayFindNoMemory, WantsToGrowFor};
 
 use crate::opener::Opener;
 use crate::service::Service;
@@ -48,7 +48,7 @@ fn compared<'a, Q, P, H>(
 impl<Q: Payload, QH: Words, P: Payload, PH: Words> Service<Q, QH, P, PH> {
     /// Answers a command, where there is memory for it. Its replies are those of the machine with
     /// memory. It fails only where there is none for a join, for a port, for what is read, for a
-    /// message that grows or for a listing, and changes nothing then.
+    /// message that must grow or for a listing, and changes nothing then.
     ///
     /// For a port that is too large or has a handler, a service never has memory. Nor has it for a
     /// join once 2^64 - 1 nodes joined.
@@ -72,8 +72,8 @@ impl<Q: Payload, QH: Words, P: Payload, PH: Words> Service<Q, QH, P, PH> {
 
     /// Answers a command. A node that opens the service is compared with what the service says of
     /// itself, as by `open`. It fails only for want of memory for a listing, and changes nothing
-    /// then. Want of memory for a join, for a port, for a read and for a message that grows is a
-    /// reply, as the machine has it; no other command is told so.
+    /// then. Want of memory for a join, for a port, for a read and for a message that must grow
+    /// is a reply, as the machine has it; no other command is told so.
     pub fn serve<'a, H: Words>(
         &mut self,
         alloc: Global,
@@ -82,6 +82,8 @@ impl<Q: Payload, QH: Words, P: Payload, PH: Words> Service<Q, QH, P, PH> {
         ensures answered { IfOk result (λ reply. IsAnswered Q.Element.words P.Element.words H.words
             self.old.description (service_of self.old) command.entry reply (service_of self.new)) }
         ensures want { IfOk result (λ reply. WantsRightly command.entry reply) }
+        ensures grows { IfOk result (λ reply. WantsToGrowFor Q.Element.words P.Element.words
+            H.words self.old.description (service_of self.old) command.entry reply) }
         ensures says { self.new.description ≡ self.old.description }
         ensures identity { self.new.identity ≡ self.old.identity }
         ensures unchanged { OnErr result (self.new ≡ self.old) }
@@ -102,6 +104,8 @@ impl<Q: Payload, QH: Words, P: Payload, PH: Words> Service<Q, QH, P, PH> {
         ensures answered { IfOk result (λ reply. IsAnswered Q.Element.words P.Element.words H.words
             self.old.description (service_of self.old) command.entry reply (service_of self.new)) }
         ensures want { IfOk result (λ reply. WantsRightly command.entry reply) }
+        ensures grows { IfOk result (λ reply. WantsToGrowFor Q.Element.words P.Element.words
+            H.words self.old.description (service_of self.old) command.entry reply) }
         ensures says { self.new.description ≡ self.old.description }
         ensures identity { self.new.identity ≡ self.old.identity }
         ensures unchanged { OnErr result (self.new ≡ self.old) }

@@ -15,3 +15,7 @@ pub use Rattle.iox_control_lending.proofs.LendLemmas
 pub use Rattle.iox_control_lending.proofs.PortLemmas
 pub use Rattle.iox_control_lending.proofs.SlotLemmas
 pub use Rattle.iox_control_lending.proofs.MadeLemmas
+-- lemmas of loans, for the crates above
+pub use Rattle.iox_control_lending.proofs.Foretold
+pub use Rattle.iox_control_lending.proofs.Wanting
+pub use Rattle.iox_control_lending.proofs.WantingCopies

@@ -11,8 +11,8 @@ use Rattle.iox_tables.specs.HubLoans.Lenders.{IsActive, IsClient, Lender, lender
 use Rattle.iox_tables.proofs.HubLending.Owning.{slot_count}
 use Rattle.iox_hub_ports.specs.declared.info.PortInfo.{PortInfo}
 use Rattle.iox_hub_ports.specs.Ports.{info_in, info_of}
-use Rattle.iox_control_lending.specs.declared.asked.Asked.{Asked}
-use Rattle.iox_control_lending.specs.Lends.{IsAskedOf, MayBeMade}
+use Rattle.iox_control_request_copies.specs.Asked.{Asked}
+use Rattle.iox_control_request_copies.specs.Lends.{IsAskedOf, MayBeMade}
 use Rattle.iox_hub.specs.Fits.{are_requests_in, count_in}
 use Rattle.iox_hub.specs.Growing.{HasRoomFor, WantsRoom}
 use Rattle.iox_hub.specs.Hubs.{HasValue, HubState, IsHub, given_by}

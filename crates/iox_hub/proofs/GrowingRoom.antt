@@ -18,10 +18,10 @@ use Rattle.iox_tables.specs.HubStates.Wirings.{handle_in}
 use Rattle.iox_tables.specs.HubLoans.Counts.{requests_on_loan, responses_on_loan, responses_to}
 use Rattle.iox_tables.specs.HubLoans.Lenders.{IsActive, IsClient, Lender, calls_refusal, count_refusal_by, lender_of_request, lender_of_response, loan_refusal, shape_in, size_refusal}
 use Rattle.iox_control.specs.Controls.{ControlState}
-use Rattle.iox_control_lending.specs.declared.asked.Asked.{Asked}
-use Rattle.iox_control_lending.specs.declared.asked.Loaned.{Loaned}
-use Rattle.iox_control_lending.specs.Lends.{IsAskedOf, IsLoaned, IsTold, MayBeMade}
-use Rattle.iox_control_lending.proofs.Foretold.{made_may_be}
+use Rattle.iox_control_request_copies.specs.Asked.{Asked}
+use Rattle.iox_control_request_copies.specs.Loaned.{Loaned}
+use Rattle.iox_control_request_copies.specs.Lends.{IsAskedOf, IsLoaned, IsTold, MayBeMade}
+use Rattle.iox_control_request_copies.proofs.Foretold.{made_may_be}
 use Rattle.iox_hub.specs.declared.words.PoolWords.{PoolWords}
 use Rattle.iox_hub.specs.Fits.{carried_in, longest_in}
 use Rattle.iox_hub.specs.Growing.{HasRoomFor, WouldLend}

@@ -13,9 +13,9 @@ use Rattle.iox_tables.specs.HubStates.Tables.{HandleState, PortState, port_in}
 use Rattle.iox_tables.specs.HubStates.Wirings.{handle_in}
 use Rattle.iox_tables.specs.HubLoans.Lenders.{IsActive, IsClient, Lender, is_pool_to_be_dry, lender_of_request, lender_of_response, loan_refusal, shape_in}
 use Rattle.iox_tables.specs.HubLoans.Loans.{loan_call}
-use Rattle.iox_control_lending.specs.Lends.{IsAskedOf}
-use Rattle.iox_control_lending.proofs.Wanting.{active_wants, client_wants, not_dry, passes_so}
-use Rattle.iox_control_lending.proofs.WantingCopies.{active_copy_wants, client_copy_wants}
+use Rattle.iox_control_request_copies.specs.Lends.{IsAskedOf}
+use Rattle.iox_control_request_copies.proofs.Wanting.{active_wants, client_wants, not_dry, passes_so}
+use Rattle.iox_control_request_copies.proofs.WantingCopies.{active_copy_wants, client_copy_wants}
 use Rattle.iox_hub.specs.Growing.{WantsRoom}
 use Rattle.iox_hub.specs.Hubs.{HasValue, HubState, IsHub, given_by, state_of_hub}
 use Rattle.iox_hub.specs.Lending.{payload_of}

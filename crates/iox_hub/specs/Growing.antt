@@ -4,8 +4,8 @@ use Rattle.iox_store.specs.Stored.{room_with}
 use Rattle.iox_model.specs.Settings.{Shape}
 use Rattle.iox_tables.specs.HubStates.Tables.{PortState}
 use Rattle.iox_tables.specs.HubLoans.Lenders.{Lender}
-use Rattle.iox_control_lending.specs.Lends.{IsAskedOf, MayBeMade}
-use Rattle.iox_control_lending.specs.declared.asked.Asked.{Asked}
+use Rattle.iox_control_request_copies.specs.Lends.{IsAskedOf, MayBeMade}
+use Rattle.iox_control_request_copies.specs.Asked.{Asked}
 use Rattle.iox_hub.specs.Fits.{longest_in}
 use Rattle.iox_hub.specs.Hubs.{HubState}
 

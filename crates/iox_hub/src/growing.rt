@@ -13,7 +13,7 @@ use crate::hub::Hub;
 use crate::lending::asked_of;
 use crate::words::PoolWords;
 use iox_backpressure::Backpressure;
-use iox_control_lending::{request_may_be_made, response_may_be_made};
+use iox_control_request_copies::{request_may_be_made, response_may_be_made};
 use iox_store::{Payload, Spare};
 use iox_words::Words;
 use std::alloc::AllocError;

@@ -27,7 +27,7 @@ use Rattle.iox_port_commands.specs.Making.{StaysAs}
 use Rattle.iox_members.specs.Nodes.{RegisteredMembers, node_in, room_in}
 use Rattle.iox_members.specs.Steps.{IsJoined}
 use Rattle.iox_openers.specs.Causes.{with_cause}
-use Rattle.iox_port_commands.specs.Applying.{GrowsIfLent, HaveDefaults, IsApplied, LacksMemoryFor}
+use Rattle.iox_port_commands.specs.Applying.{GrowsIfLentFor, HaveDefaults, IsApplied, LacksMemoryFor}
 use Rattle.iox_port_commands.specs.Asking.{is_making, options_for, payload_for, takes_memory}
 use Rattle.iox_port_commands.specs.declared.elements.Elements.{Elements}
 use Rattle.iox_nodes.specs.Given.{asker, is_listing, reply_of, with_id}
@@ -109,7 +109,7 @@ lacks_owned :
     {Q P H C : Type 0} (q : Q → List ℕ) (p : P → List ℕ) (w : H → List ℕ) (x : Members) (h h' : HubState) (own : UniqueSystemId)
     (command : the_port_command.PortCommand (Elements Q P) H)
     → node_in x (asker command) ≡ Some (new_node (asker command) own) → LacksMemoryFor q p w h (with_id own command) h'
-    → (is_making (with_id own command) || takes_memory (with_id own command)) ≡ true → GrowsIfLent h (with_id own command) → state_of x h' ≡ state_of x h
+    → (is_making (with_id own command) || takes_memory (with_id own command)) ≡ true → GrowsIfLentFor q p w h (with_id own command) → state_of x h' ≡ state_of x h
     → MayFindNoMemory {C = C} q p w (state_of x h) (commands.Port command)
 lacks_owned q p w x h h' own (ports.Client node id o) is lacks takes grows same =
     λ cause. subst (λ t. IsCommand (state_of x h) (commands.Port (ports.Client node id (options_for w o))) (Refused UnableToCreateDataSegment) t) same
@@ -121,24 +121,28 @@ lacks_owned q p w x h h' own (ports.Read node n) is lacks takes grows same =
     λ cause. subst (λ t. IsCommand (state_of x h) (commands.Port (ports.Read node n)) (Refused WantOfMemory) t) same
     (known (state_of x h) (state_of x h') node own (Use (calls.Read n)) (Refused WantOfMemory) is (lacks (given_for x)))
 lacks_owned q p w x h h' own (ports.Loan node n k) is lacks takes grows same =
-    λ cause.
-    (subst (λ t. IsCommand (state_of x h) (commands.Port (ports.Loan node n k)) (Refused WantOfMemory) t) same
-    (known (state_of x h) (state_of x h') node own (Use (calls.Loan n k)) (Refused WantOfMemory) is (lacks (given_for x))), grows (given_for x))
+    λ cause. (
+      subst (λ t. IsCommand (state_of x h) (commands.Port (ports.Loan node n k)) (Refused WantOfMemory) t) same
+          (known (state_of x h) (state_of x h') node own (Use (calls.Loan n k)) (Refused WantOfMemory) is (lacks (given_for x))),
+      grows (given_for x),
+    )
 lacks_owned q p w x h h' own (ports.SendCopy node n e) is lacks takes grows same =
-    λ cause.
-    (subst (λ t. IsCommand (state_of x h) (commands.Port (ports.SendCopy node n (payload_for q p e))) (Refused WantOfMemory) t) same
-    (known (state_of x h) (state_of x h') node own (Use (calls.SendCopy n (payload_for q p e))) (Refused WantOfMemory) is (lacks (given_for x))), grows (given_for x))
+    λ cause. (
+      subst (λ t. IsCommand (state_of x h) (commands.Port (ports.SendCopy node n (payload_for q p e))) (Refused WantOfMemory) t) same
+          (known (state_of x h) (state_of x h') node own (Use (calls.SendCopy n (payload_for q p e))) (Refused WantOfMemory) is (lacks (given_for x))),
+      grows (given_for x),
+    )
 lacks_owned q p w x h h' own command is lacks takes grows same = absurd (true≢false (sym takes))
 
 pub port_lacks :
     {Q P H C : Type 0} (q : Q → List ℕ) (p : P → List ℕ) (w : H → List ℕ) (x : Members) (h h' : HubState) (own : UniqueSystemId) (node : ℕ)
     (command given : the_port_command.PortCommand (Elements Q P) H)
     → node ≡ asker command → node_in x node ≡ Some (new_node node own) → given ≡ with_id own command → LacksMemoryFor q p w h given h'
-    → (is_making given || takes_memory given) ≡ true → GrowsIfLent h given → StaysAs h h' → MayFindNoMemory {C = C} q p w (state_of x h) (commands.Port command)
+    → (is_making given || takes_memory given) ≡ true → GrowsIfLentFor q p w h given → StaysAs h h' → MayFindNoMemory {C = C} q p w (state_of x h) (commands.Port command)
 port_lacks q p w x h h' own node command given asks is with lacks takes grows stays =
     lacks_owned q p w x h h' own command (subst (λ n. node_in x n ≡ Some (new_node n own)) asks is)
     (subst (λ g. LacksMemoryFor q p w h g h') with lacks) (subst (λ g. (is_making g || takes_memory g) ≡ true) with takes)
-    (subst (λ g. GrowsIfLent h g) with grows)
+    (subst (λ g. GrowsIfLentFor q p w h g) with grows)
     (stays_shown x h h' stays)
 
 -- ---- the refusal for want of memory

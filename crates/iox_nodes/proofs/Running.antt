@@ -11,10 +11,11 @@ use Rattle.iox_model.specs.declared.reply.Refusal as the_refusal
 use Rattle.iox_model.specs.declared.reply.Reply as the_reply
 use Rattle.iox_model.specs.Commands.{Cause, Command, Reply}
 use Rattle.iox_model.specs.Runs.{IsRun}
+use Rattle.iox_model.specs.Services.{IsCommand}
 use Rattle.iox_model.specs.States.{State}
 use Rattle.iox_port_commands.specs.declared.elements.Elements.{Elements}
 use Rattle.iox_nodes.specs.Given.{command_given, is_listing, reply_given}
-use Rattle.iox_nodes.specs.Memory.{WantsRightly}
+use Rattle.iox_nodes.specs.Memory.{IsRunWithWants, WantsRightly, WantsToGrow, WantsToGrowFor}
 use Rattle.iox_nodes.specs.Served.{Correspond, IsAnswered, IsListingAt, IsRunOf}
 use Rattle.iox_nodes.proofs.Reaching.{run_more}
 
@@ -41,6 +42,14 @@ correspond_more is (a ∷ xs) (b ∷ ys) x y so more = (so.0, correspond_more is
 correspond_more is [] (b ∷ ys) x y so more = absurd so
 correspond_more is (a ∷ xs) [] x y so more = absurd so
 
+-- one command more
+pub wants_more : (s t u : State) (cs : List Command) (rs : List Reply) (c : Command) (r : Reply) → IsRunWithWants s cs rs t → IsCommand t c r u
+    → WantsToGrow t c r → IsRunWithWants s (cs ++ c ∷ []) (rs ++ r ∷ []) u
+wants_more s t u [] [] c r run done wants = (u, subst (λ v. IsCommand v c r u) run done, subst (λ v. WantsToGrow v c r) run wants, refl)
+wants_more s t u [] (q ∷ rs) c r run done wants = absurd run
+wants_more s t u (d ∷ cs) [] c r run done wants = absurd run
+wants_more s t u (d ∷ cs) (q ∷ rs) c r run done wants = (run.0, run.1, run.2, wants_more run.0 t u cs rs c r run.3 done wants)
+
 at_seam : {A : Type 0} (xs : List A) (x : A) (ys : List A) → slice_get (xs ++ x ∷ ys) (length xs) ≡ Some x
 at_seam [] x ys = refl
 at_seam (z ∷ xs) x ys = at_seam xs x ys
@@ -63,14 +72,16 @@ module _ {Q P H C Z : Type 0} (q : Q → List ℕ) (p : P → List ℕ) (w : H �
     pub many : length done ≡ length more
     pub run : (cause : C → Cause) → IsRun s (map (command_given q p w cause) done) (map (reply_given cause) more) s'
     pub want : Correspond WantsRightly done more
+    pub grows : (cause : C → Cause) → IsRunWithWants s (map (command_given q p w cause) done) (map (reply_given cause) more) s'
 
   pub run_starts : HasRun commands old s
-  run_starts = record { more = []; told = sym (append_nothing old); done = []; split = refl; many = refl; run = λ cause. refl; want = tt }
+  run_starts = record { more = []; told = sym (append_nothing old); done = []; split = refl; many = refl; run = λ cause. refl; want = tt; grows = λ cause. refl }
 
   pub run_goes_on : (command : the_command.Command (Elements Q P) H (Option (the_refusal.Refusal C)))
       (rest : List (the_command.Command (Elements Q P) H (Option (the_refusal.Refusal C)))) (new : List (the_reply.Reply (Vec ℕ Z) C)) (s' s'' : State)
-      (reply : the_reply.Reply (Vec ℕ Z) C) → HasRun (command ∷ rest) new s' → IsAnswered q p w s' command reply s'' → WantsRightly command reply → HasRun rest (new ++ reply ∷ []) s''
-  run_goes_on command rest new s' s'' reply so answered wants = record {
+      (reply : the_reply.Reply (Vec ℕ Z) C) → HasRun (command ∷ rest) new s' → IsAnswered q p w s' command reply s'' → WantsRightly command reply
+      → WantsToGrowFor q p w s' command reply → HasRun rest (new ++ reply ∷ []) s''
+  run_goes_on command rest new s' s'' reply so answered wants grows = record {
     more = so.more ++ reply ∷ [];
     told = ap (λ xs. xs ++ reply ∷ []) so.told ∙ append_twice old so.more (reply ∷ []);
     done = so.done ++ command ∷ [];
@@ -83,6 +94,13 @@ module _ {Q P H C Z : Type 0} (q : Q → List ℕ) (p : P → List ℕ) (w : H �
         (run_more s s' s'' (map (command_given q p w cause) so.done) (map (reply_given cause) so.more) (command_given q p w cause command) (reply_given cause reply)
         (so.run cause) (answered cause)));
     want = correspond_more WantsRightly so.done so.more command reply so.want wants;
+    grows = λ cause.
+        subst (λ (cs : List Command). IsRunWithWants s cs (map (reply_given cause) (so.more ++ reply ∷ [])) s'')
+        (sym (map-append (command_given q p w cause) so.done (command ∷ [])))
+        (subst (λ (rs : List Reply). IsRunWithWants s (map (command_given q p w cause) so.done ++ command_given q p w cause command ∷ []) rs s'')
+        (sym (map-append (reply_given cause) so.more (reply ∷ [])))
+        (wants_more s s' s'' (map (command_given q p w cause) so.done) (map (reply_given cause) so.more) (command_given q p w cause command) (reply_given cause reply)
+        (so.grows cause) (answered cause) (grows cause)));
   }
 
   pub run_ends : (rest : List (the_command.Command (Elements Q P) H (Option (the_refusal.Refusal C)))) (new : List (the_reply.Reply (Vec ℕ Z) C)) (s' : State)
@@ -92,6 +110,8 @@ module _ {Q P H C Z : Type 0} (q : Q → List ℕ) (p : P → List ℕ) (w : H �
     told = so.told;
     run = λ cause. subst (λ cs. IsRun s (map (command_given q p w cause) cs) (map (reply_given cause) so.more) s') (sym taken) (so.run cause);
     want = subst (λ cs. Correspond WantsRightly cs so.more) (sym taken) so.want;
+    grows = λ cause.
+        subst (λ cs. IsRunWithWants s (map (command_given q p w cause) cs) (map (reply_given cause) so.more) s') (sym taken) (so.grows cause);
   }
     where
       taken : take (length so.more) commands ≡ so.done

@@ -14,7 +14,7 @@ use Rattle.iox_model.specs.declared.reply.Refusal as the_refusal
 use Rattle.iox_model.specs.declared.reply.Refusal.TheVariants as refusals
 use Rattle.iox_model.specs.declared.reply.Reply as the_reply
 use Rattle.iox_model.specs.declared.reply.Reply.TheVariants as replies
-use Rattle.iox_model.specs.Commands.{Cause, asking}
+use Rattle.iox_model.specs.Commands.{Cause, Command, Reply, asking}
 use Rattle.iox_model.specs.Joins.{not_living}
 use Rattle.iox_model.specs.Settings.{Limits}
 use Rattle.iox_model.specs.States.{Members, State}
@@ -22,12 +22,13 @@ use Rattle.iox_openers.specs.Causes.{with_cause}
 use Rattle.iox_members.specs.Steps.{IsRefusedUnlessLiving}
 use Rattle.iox_port_commands.specs.Asking.{command_for, is_making, takes_memory}
 use Rattle.iox_port_commands.specs.Hubs.{HubState}
-use Rattle.iox_port_commands.specs.Memory.{HadMemory, IsTooLarge}
+use Rattle.iox_port_commands.specs.Applying.{GrowsIfLentFor}
+use Rattle.iox_port_commands.specs.Memory.{GrowsIfLent, HadMemory, IsTooLarge}
 use Rattle.iox_port_commands.specs.Telling.{wants_memory, wants_segment}
 use Rattle.iox_port_commands.specs.declared.elements.Elements.{Elements}
 use Rattle.iox_nodes.specs.Given.{command_given, reply_given, reply_of, with_id}
-use Rattle.iox_nodes.specs.Memory.{IsAnsweredWithMemory, MayFindNoMemory, PortWantsRightly, WantsRightly, refusal_for_want, want_of}
-use Rattle.iox_nodes.specs.Shown.{state_of}
+use Rattle.iox_nodes.specs.Memory.{IsAnsweredWithMemory, MayFindNoMemory, MayLackMemory, PortWantsRightly, WantsRightly, WantsToGrow, WantsToGrowFor, refusal_for_want, want_of}
+use Rattle.iox_nodes.specs.Shown.{given_for, state_of}
 use Rattle.iox_nodes.proofs.Having.{living_had}
 use Rattle.iox_nodes.proofs.Leading.{any_cause}
 
@@ -181,3 +182,86 @@ given_wants q p w cause (commands.Port command) reply wants = record {
   segment = λ e. making_for q p w command ∙ wants.segment e;
 }
 given_wants q p w cause command reply wants = tt
+
+-- ---- what is lent must grow
+
+given_tells : {C Z : Type 0} (cause : C → Cause) (reply : the_reply.Reply (Vec ℕ Z) C) → tells_memory (reply_given cause reply) ≡ tells_memory reply
+given_tells cause (replies.Refused refusals.WantOfMemory) = refl
+given_tells cause (replies.Refused r) = refl
+given_tells cause reply = refl
+
+quiet_in : (s : State) (c : Command) (r : Reply) → tells_memory r ≡ false → WantsToGrow s c r
+quiet_in s (commands.Port c) r quiet = λ e. no_memory_told _ r quiet e
+quiet_in s c r quiet = tt
+
+-- a reply that does not tell it says nothing of growing
+quiet_grows : {Q P H C Z : Type 0} (q : Q → List ℕ) (p : P → List ℕ) (w : H → List ℕ) (s : State)
+    (command : the_command.Command (Elements Q P) H (Option (the_refusal.Refusal C))) (reply : the_reply.Reply (Vec ℕ Z) C)
+    → tells_memory reply ≡ false → WantsToGrowFor q p w s command reply
+quiet_grows q p w s command reply quiet =
+    λ cause. quiet_in s (command_given q p w cause command) (reply_given cause reply) (given_tells cause reply ∙ quiet)
+
+had_quiet : (l : Limits) (c : Command) (r : Reply) → HadMemory l c r → tells_memory r ≡ false
+had_quiet l c (replies.Refused refusals.WantOfMemory) had = absurd had
+had_quiet l c (replies.Refused r) had = refl
+had_quiet l c r had = refl
+
+-- who may not ask is told no want of memory
+pub living_grows : {Q P H C : Type 0} (X Z : Type 0) (q : Q → List ℕ) (p : P → List ℕ) (w : H → List ℕ) (x : Members) (h : HubState) (node : ℕ)
+    (command : the_port_command.PortCommand (Elements Q P) H) (r : the_refusal.Refusal C) → IsRefusedUnlessLiving {C = C} {X = X} x node (Err r)
+    → WantsToGrowFor {C = C} {Z = Z} q p w (state_of x h) (commands.Port command) (replies.Refused r)
+living_grows {C = C} X Z q p w x h node command r is =
+    let s : State = state_of x h in
+    let told : the_reply.Reply (Vec ℕ Z) C = replies.Refused r in
+    let had : HadMemory s.fixed.limits (commands.Port (ports.Read 0 0)) (reply_given any_cause told) =
+    living_had s.fixed.limits (commands.Port (ports.Read 0 0)) s node (with_cause any_cause r) (is any_cause s) in
+    quiet_grows q p w s (commands.Port command) told
+    (sym (given_tells any_cause told) ∙ had_quiet s.fixed.limits (commands.Port (ports.Read 0 0)) (reply_given any_cause told) had)
+
+lent_by : {Q P H : Type 0} (q : Q → List ℕ) (p : P → List ℕ) (w : H → List ℕ) (s : State) (own : UniqueSystemId)
+    (command : the_port_command.PortCommand (Elements Q P) H) → GrowsIfLent s (command_for q p w (with_id own command)) → GrowsIfLent s (command_for q p w command)
+lent_by q p w s own (ports.Client node id o) grows = tt
+lent_by q p w s own (ports.Server node id o) grows = tt
+lent_by q p w s own command grows = grows
+
+-- a hub tells it of a loan only where the message must grow, and so does its service
+pub port_grows : {Q P H C Z : Type 0} (q : Q → List ℕ) (p : P → List ℕ) (w : H → List ℕ) (x : Members) (h : HubState) (own : UniqueSystemId)
+    (command given : the_port_command.PortCommand (Elements Q P) H) (answer : the_port_reply.PortReply (Vec ℕ Z) C) (reply : the_reply.Reply (Vec ℕ Z) C)
+    → given ≡ with_id own command → (wants_memory answer ≡ true → GrowsIfLentFor q p w h given) → reply ≡ reply_of answer
+    → WantsToGrowFor {C = C} q p w (state_of x h) (commands.Port command) reply
+port_grows q p w x h own command given answer reply with grows told =
+    λ cause e.
+    lent_by q p w (state_of x h) own command
+    (subst (λ g. GrowsIfLentFor q p w h g) with
+    (grows (sym (memory_told answer) ∙ sym (ap tells_memory told) ∙ sym (given_tells cause reply) ∙ ap tells_memory e)) (given_for x))
+
+-- where memory was there, nothing is said of growing
+pub had_grows : {Q P H C Z : Type 0} (q : Q → List ℕ) (p : P → List ℕ) (w : H → List ℕ) (s s' : State)
+    (command : the_command.Command (Elements Q P) H (Option (the_refusal.Refusal C))) (reply : the_reply.Reply (Vec ℕ Z) C)
+    → IsAnsweredWithMemory q p w s command reply s' → WantsToGrowFor q p w s command reply
+had_grows q p w s s' command reply answered =
+    quiet_grows q p w s command reply
+    (sym (given_tells any_cause reply)
+    ∙ had_quiet s.fixed.limits (command_given q p w any_cause command) (reply_given any_cause reply) (answered any_cause).memory)
+
+port_lacks_grows : {Q P H : Type 0} (q : Q → List ℕ) (p : P → List ℕ) (w : H → List ℕ) (s : State) (command : the_port_command.PortCommand (Elements Q P) H)
+    → MayLackMemory s (commands.Port (command_for q p w command)) → GrowsIfLent s (command_for q p w command)
+port_lacks_grows q p w s (ports.Loan node n k) lacks = lacks.1
+port_lacks_grows q p w s (ports.SendCopy node n e) lacks = lacks.1
+port_lacks_grows q p w s (ports.Client node id o) lacks = tt
+port_lacks_grows q p w s (ports.Server node id o) lacks = tt
+port_lacks_grows q p w s (ports.Read node n) lacks = tt
+port_lacks_grows q p w s command lacks = absurd lacks
+
+-- where memory is missing for a loan, its message must grow
+pub lacks_grows : {Q P H C : Type 0} (Z : Type 0) (q : Q → List ℕ) (p : P → List ℕ) (w : H → List ℕ) (s : State)
+    (command : the_command.Command (Elements Q P) H (Option (the_refusal.Refusal C))) (r : the_refusal.Refusal C)
+    → MayFindNoMemory q p w s command → WantsToGrowFor {Z = Z} q p w s command (replies.Refused r)
+lacks_grows Z q p w s (commands.Port command) r lacks = λ cause e. port_lacks_grows q p w s command (lacks cause)
+lacks_grows Z q p w s command r lacks = λ cause. tt
+
+pub of_port_grows : {Q P H C Z : Type 0} (q : Q → List ℕ) (p : P → List ℕ) (w : H → List ℕ) (s : State)
+    (command : the_command.Command (Elements Q P) H (Option (the_refusal.Refusal C))) (at_port : the_port_command.PortCommand (Elements Q P) H)
+    (reply : the_reply.Reply (Vec ℕ Z) C) → command ≡ commands.Port at_port → WantsToGrowFor {C = C} q p w s (commands.Port at_port) reply
+    → WantsToGrowFor q p w s command reply
+of_port_grows q p w s command at_port reply is wants = subst (λ k. WantsToGrowFor q p w s k reply) (sym is) wants

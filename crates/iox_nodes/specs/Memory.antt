@@ -1,5 +1,6 @@
 -- Memory for the commands of a service: that it was there, and which of them may find none.
-use Rattle.std.specs.Prelude.{◌≡◌, ℕ, ⊤, Bool, true, false, if◌then◌else◌, List, Option, Some, None, Result, Err}
+use Rattle.std.specs.Prelude.{◌≡◌, ℕ, ⊤, Bool, true, false, if◌then◌else◌, List, [], ◌∷◌, Option, Some, None, Result, Err}
+use Rattle.std.specs.Option.{IsSomeAnd}
 use Rattle.std.specs.declared.vec.Vec.{Vec}
 use Rattle.iox_model.specs.declared.command.Command as the_command
 use Rattle.iox_model.specs.declared.command.Command.TheVariants.{Join, Port, ListNodes, ListClients, ListServers}
@@ -13,7 +14,7 @@ use Rattle.iox_model.specs.Commands.{Cause, Command, Reply}
 use Rattle.iox_model.specs.Services.{IsCommand}
 use Rattle.iox_model.specs.States.{State}
 use Rattle.iox_port_commands.specs.Asking.{is_making, takes_memory}
-use Rattle.iox_port_commands.specs.Memory.{HadMemory, HasGrowing}
+use Rattle.iox_port_commands.specs.Memory.{GrowsIfLent, HadMemory, MustGrow}
 use Rattle.iox_port_commands.specs.declared.elements.Elements.{Elements}
 use Rattle.iox_nodes.specs.Given.{command_given, reply_given}
 
@@ -45,7 +46,7 @@ is_wanting answer = false
 
 -- Memory may be missing for the command: it is a listing, or a join, the making of a port, a read,
 -- a loan or a copy that the machine may refuse for that. For loans and copies it is missing only
--- where the messages of some port grow. No other command takes memory.
+-- where the message must grow. No other command takes memory.
 abbrev pub MayLackMemory : State → Command → Type 0
 MayLackMemory s (Join id asked) = IsCommand s (Join id asked) (Refused WantOfMemory) s
 MayLackMemory s (Port (Client node id o)) =
@@ -54,9 +55,10 @@ MayLackMemory s (Port (Server node id o)) =
     IsCommand s (Port (Server node id o)) (Refused UnableToCreateDataSegment) s
 MayLackMemory s (Port (Read node n)) = IsCommand s (Port (Read node n)) (Refused WantOfMemory) s
 MayLackMemory s (Port (Loan node n k)) =
-    IsCommand s (Port (Loan node n k)) (Refused WantOfMemory) s × HasGrowing s
+    IsCommand s (Port (Loan node n k)) (Refused WantOfMemory) s × MustGrow s node n k
 MayLackMemory s (Port (SendCopy node n payload)) =
-    IsCommand s (Port (SendCopy node n payload)) (Refused WantOfMemory) s × HasGrowing s
+    IsCommand s (Port (SendCopy node n payload)) (Refused WantOfMemory) s
+    × IsSomeAnd payload.elements (MustGrow s node n)
 MayLackMemory s ListNodes = ⊤
 MayLackMemory s ListClients = ⊤
 MayLackMemory s ListServers = ⊤
@@ -85,6 +87,28 @@ abbrev pub WantsRightly :
     {E H V L C : Type 0} → the_command.Command E H V → the_reply.Reply L C → Type 0
 WantsRightly (Port command) reply = PortWantsRightly command reply
 WantsRightly command reply = ⊤
+
+-- If the machine's reply tells want of memory, and the command lends a message, that must grow.
+abbrev pub WantsToGrow : State → Command → Reply → Type 0
+WantsToGrow s (Port command) reply = reply ≡ Refused WantOfMemory → GrowsIfLent s command
+WantsToGrow s command reply = ⊤
+
+-- It is so of a command of a service, whatever the causes of attributes are.
+abbrev pub WantsToGrowFor :
+    {Q P H C Z : Type 0} → (Q → List ℕ) → (P → List ℕ) → (H → List ℕ) → State
+    → the_command.Command (Elements Q P) H (Option (the_refusal.Refusal C))
+    → the_reply.Reply (Vec ℕ Z) C → Type 0
+WantsToGrowFor {C = C} q p words s command reply =
+    (cause : C → Cause)
+    → WantsToGrow s (command_given q p words cause command) (reply_given cause reply)
+
+-- These commands have these replies in a run of the machine, and it is so of each of them.
+abbrev pub IsRunWithWants : State → List Command → List Reply → State → Type 0
+IsRunWithWants s [] [] s' = s' ≡ s
+IsRunWithWants s (c ∷ cs) (r ∷ rs) s' =
+    (mid : State) × IsCommand s c r mid × WantsToGrow s c r × IsRunWithWants mid cs rs s'
+IsRunWithWants s [] (r ∷ rs) s' = ⊥
+IsRunWithWants s (c ∷ cs) [] s' = ⊥
 
 -- ---- only for proofs of this crate
 

@@ -22,7 +22,7 @@ use Rattle.iox_members.specs.Steps.{answer_in}
 use Rattle.iox_port_commands.specs.Asking.{command_for}
 use Rattle.iox_port_commands.specs.declared.elements.Elements.{Elements}
 use Rattle.iox_nodes.specs.Given.{command_given, is_listing, reply_given}
-use Rattle.iox_nodes.specs.Memory.{WantsRightly}
+use Rattle.iox_nodes.specs.Memory.{IsRunWithWants, WantsRightly}
 use Rattle.iox_nodes.specs.Shown.{ServiceTables, service_of}
 
 -- ---- a service is made
@@ -100,6 +100,10 @@ pub record IsRunOf {Q P H C Z : Type 0} (q : Q → List ℕ) (p : P → List ℕ
         → IsRun s (map (command_given q p words cause) (take (length more) commands))
         (map (reply_given cause) more) s'
     pub want : Correspond WantsRightly (take (length more) commands) more
+    pub grows :
+        (cause : C → Cause)
+        → IsRunWithWants s (map (command_given q p words cause) (take (length more) commands))
+        (map (reply_given cause) more) s'
 
 -- there is a command in that place, and it asks for a list of numbers
 abbrev pub IsListingAt : {E H V : Type 0} → List (the_command.Command E H V) → ℕ → Type 0

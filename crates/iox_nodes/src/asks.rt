@@ -3,7 +3,7 @@ ghost use Rattle.std.specs.Prelude.{◌≡◌, IfOk, OnErr};
 ghost use Rattle.iox_model.specs.declared.command.Command.TheVariants.{Port};
 ghost use Rattle.iox_model.specs.Handles.{has};
 ghost use Rattle.iox_nodes.specs.Memory.{IsAnsweredWithMemory, MayFindNoMemory, PortWantsRightly};
-ghost use Rattle.iox_nodes.specs.Memory.{want_of};
+ghost use Rattle.iox_nodes.specs.Memory.{WantsToGrowFor, want_of};
 ghost use Rattle.iox_nodes.specs.Served.{IsPortAnswered};
 ghost use Rattle.iox_nodes.specs.Shown.{service_of};
 ghost use Rattle.iox_port_commands.specs.Asking.{is_making};
@@ -42,8 +42,8 @@ pub(crate) fn want_of<C>(making: bool) -> Refusal<C>
 impl<Q: Payload, QH: Words, P: Payload, PH: Words> Service<Q, QH, P, PH> {
     /// A node makes a port, or calls a port or a handle by its number. A port gets the id with
     /// which its node joined. It is refused as `UnknownNode` or `NodeIsDead` before all that the
-    /// hub tests. Where there is no memory for a port, for what is read or for a message that grows,
-    /// that is a reply, too; no other command is told so.
+    /// hub tests. Where there is no memory for a port, for what is read or for a message that must
+    /// grow, that is a reply, too; no other command is told so.
     ///
     /// It stands in its callers, since a call would copy the command and the reply once more.
     #[inline(always)]
@@ -55,6 +55,8 @@ impl<Q: Payload, QH: Words, P: Payload, PH: Words> Service<Q, QH, P, PH> {
         ensures answered { IsPortAnswered Q.Element.words P.Element.words H.words
             (service_of self.old) command result (service_of self.new) }
         ensures want { PortWantsRightly command result }
+        ensures grows { WantsToGrowFor {C = C} Q.Element.words P.Element.words H.words
+            (service_of self.old) (Port command) result }
     {
         match self.members.living::<C>(asker(&command)) {
             Err(refusal) => Reply::Refused(refusal),

@@ -4,7 +4,7 @@ ghost use Rattle.std.specs.Prelude.{vec_capacity, vec_len};
 ghost use Rattle.iox_model.specs.declared.reply.Reply.TheVariants as replies;
 ghost use Rattle.iox_nodes.specs.Given.{is_listing, reply_to};
 ghost use Rattle.iox_nodes.specs.Memory.{IsAnsweredWithMemory, MayFindNoMemory, WantsRightly};
-ghost use Rattle.iox_nodes.specs.Memory.{refusal_for_want};
+ghost use Rattle.iox_nodes.specs.Memory.{WantsToGrowFor, refusal_for_want};
 ghost use Rattle.iox_nodes.specs.Served.{IsAnswered, IsListingAt, IsRunOf};
 ghost use Rattle.iox_nodes.specs.Shown.{service_of};
 
@@ -51,7 +51,7 @@ fn refusal_for_want<P, H, V, C>(command: &Command<P, H, V>) -> Option<Refusal<C>
 impl<Q: Payload, QH: Words, P: Payload, PH: Words> Service<Q, QH, P, PH> {
     /// Answers a command, where there is memory for it. Its replies are those of the machine with
     /// memory. It fails only where there is none for a join, for a port, for what is read, for a
-    /// message that grows or for a listing, and changes nothing then.
+    /// message that must grow or for a listing, and changes nothing then.
     ///
     /// For a port that is too large or has a handler, a service never has memory. Nor has it for a
     /// join once 2^64 - 1 nodes joined, or where what is asked says `WantOfMemory` itself.
@@ -79,8 +79,8 @@ impl<Q: Payload, QH: Words, P: Payload, PH: Words> Service<Q, QH, P, PH> {
     }
 
     /// Answers a command. It fails only for want of memory for a listing, and changes nothing then.
-    /// Want of memory for a join, for a port, for a read and for a message that grows is a reply, as
-    /// the machine has it; no other command is told so.
+    /// Want of memory for a join, for a port, for a read and for a message that must grow is a reply,
+    /// as the machine has it; no other command is told so.
     pub fn serve<H: Words, C: Copy>(
         &mut self,
         alloc: Global,
@@ -89,6 +89,8 @@ impl<Q: Payload, QH: Words, P: Payload, PH: Words> Service<Q, QH, P, PH> {
         ensures answered { IfOk result (λ reply. IsAnswered Q.Element.words P.Element.words H.words
             (service_of self.old) command reply (service_of self.new)) }
         ensures want { IfOk result (λ reply. WantsRightly command reply) }
+        ensures grows { IfOk result (λ reply. WantsToGrowFor Q.Element.words P.Element.words
+            H.words (service_of self.old) command reply) }
         ensures unchanged { OnErr result (self.new ≡ self.old) }
         ensures listing { OnErr result (is_listing command ≡ true) }
     {
@@ -107,6 +109,8 @@ impl<Q: Payload, QH: Words, P: Payload, PH: Words> Service<Q, QH, P, PH> {
         ensures answered { IfOk result (λ reply. IsAnswered Q.Element.words P.Element.words H.words
             (service_of self.old) command reply (service_of self.new)) }
         ensures want { IfOk result (λ reply. WantsRightly command reply) }
+        ensures grows { IfOk result (λ reply. WantsToGrowFor Q.Element.words P.Element.words
+            H.words (service_of self.old) command reply) }
         ensures unchanged { OnErr result (self.new ≡ self.old) }
         ensures listing { OnErr result (is_listing command ≡ true) }
     {

@@ -1,9 +1,8 @@
 -- What a command of a hub comes to.
-use Rattle.std.specs.Prelude.{◌≡◌, ℕ, List, IsSome, ⊤}
+use Rattle.std.specs.Prelude.{◌≡◌, ℕ, List, IsSome}
 use Rattle.std.specs.declared.vec.Vec.{Vec}
 use Rattle.iox_model.specs.declared.command.Command.TheVariants.{Port}
 use Rattle.iox_model.specs.declared.command.PortCommand as the_command
-use Rattle.iox_model.specs.declared.command.PortCommand.TheVariants.{Loan, SendCopy}
 use Rattle.iox_model.specs.declared.reply.PortReply as the_reply
 use Rattle.iox_model.specs.Commands.{Call, HubCommand, Use, asking}
 use Rattle.iox_model.specs.Makings.{IsHubCommand}
@@ -12,7 +11,7 @@ use Rattle.iox_hub.specs.Hubs.{HubState, state_of_hub}
 use Rattle.iox_port_commands.specs.declared.elements.Elements.{Elements}
 use Rattle.iox_port_commands.specs.Asking.{command_for}
 use Rattle.iox_port_commands.specs.Telling.{IsToldAnd}
-use Rattle.iox_port_commands.specs.Memory.{HadMemory, HasGrowing, want_of}
+use Rattle.iox_port_commands.specs.Memory.{GrowsIfLent, HadMemory, MustGrow, want_of}
 
 -- What the node asks of the hub is answered so, and leaves that hub: it is one command of the
 -- machine, whatever there is besides.
@@ -50,15 +49,17 @@ abbrev pub LacksMemoryFor :
 LacksMemoryFor q p words old command new =
     let (node, asked) = asking (command_for q p words command) in LacksMemory old node asked new
 
--- the messages of some port of the hub grow, whatever there is besides
-abbrev pub HasGrowingPort : HubState → Type 0
-HasGrowingPort h = (x : Given) → HasGrowing (state_of_hub x h)
+-- A message of so many elements, lent by what the number names for the node, must grow, whatever
+-- there is besides.
+abbrev pub MustGrowIn : HubState → ℕ → ℕ → ℕ → Type 0
+MustGrowIn h node n k = (x : Given) → MustGrow (state_of_hub x h) node n k
 
--- It is so where the command lends a message.
-abbrev pub GrowsIfLent : {E H : Type 0} → HubState → the_command.PortCommand E H → Type 0
-GrowsIfLent h (Loan node n k) = HasGrowingPort h
-GrowsIfLent h (SendCopy node n e) = HasGrowingPort h
-GrowsIfLent h command = ⊤
+-- If a command of the code lends a message, that must grow, whatever there is besides.
+abbrev pub GrowsIfLentFor :
+    {Q P H : Type 0} → (Q → List ℕ) → (P → List ℕ) → (H → List ℕ) → HubState
+    → the_command.PortCommand (Elements Q P) H → Type 0
+GrowsIfLentFor q p words h command =
+    (x : Given) → GrowsIfLent (state_of_hub x h) (command_for q p words command)
 
 -- Memory was there for a command of the code that is answered so.
 abbrev pub HadMemoryFor :

@@ -5,7 +5,7 @@ ghost use Rattle.iox_model.specs.declared.reply.PortReply.TheVariants.{Refused};
 ghost use Rattle.iox_model.specs.declared.reply.Refusal.TheVariants as refusals;
 ghost use Rattle.iox_hub.specs.Making.{StaysAs};
 ghost use Rattle.iox_hub.specs.Keeping.{HaveSameShapes};
-ghost use Rattle.iox_port_commands.specs.Applying.{GrowsIfLent, HadMemoryFor, HaveDefaults};
+ghost use Rattle.iox_port_commands.specs.Applying.{GrowsIfLentFor, HadMemoryFor, HaveDefaults};
 ghost use Rattle.iox_port_commands.specs.Applying.{IsApplied, LacksMemoryFor};
 ghost use Rattle.iox_port_commands.specs.Asking.{is_making, takes_memory};
 ghost use Rattle.iox_port_commands.specs.Telling.{tells_want, wants_memory, wants_segment};
@@ -41,7 +41,8 @@ fn dispatch<Q: Payload, QH: Words, P: Payload, PH: Words, H: Words, C>(
     ensures wanting { OnErr result
         (LacksMemoryFor Q.Element.words P.Element.words H.words hub.old command hub.new) }
     ensures takes { OnErr result ((is_making command || takes_memory command) ≡ true) }
-    ensures grows { OnErr result (GrowsIfLent hub.old command) }
+    ensures grows { OnErr result (GrowsIfLentFor Q.Element.words P.Element.words H.words hub.old
+        command) }
     ensures unchanged { OnErr result (StaysAs hub.old hub.new) }
 {
     // One place for the replies of all calls: each place is cleared before it is filled.
@@ -99,7 +100,8 @@ pub fn try_apply<Q: Payload, QH: Words, P: Payload, PH: Words, H: Words, C>(
     ensures wanting { OnErr result
         (LacksMemoryFor Q.Element.words P.Element.words H.words hub.old command hub.new) }
     ensures takes { OnErr result ((is_making command || takes_memory command) ≡ true) }
-    ensures grows { OnErr result (GrowsIfLent hub.old command) }
+    ensures grows { OnErr result (GrowsIfLentFor Q.Element.words P.Element.words H.words hub.old
+        command) }
     ensures unchanged { OnErr result (StaysAs hub.old hub.new) }
     ensures shapes { HaveSameShapes hub.old hub.new }
     ensures defaults { HaveDefaults hub.new }
@@ -129,8 +131,8 @@ fn lacking<C>(making: bool) -> PortReply<Vec<u64>, C>
 }
 
 /// The same as [`try_apply`], where want of memory is a reply as well: `UnableToCreateDataSegment`
-/// for a port, `WantOfMemory` for a read, and for a loan or a copy where the messages of some port
-/// grow. No other command is refused so.
+/// for a port, `WantOfMemory` for a read, and for a loan or a copy whose message must grow. No other
+/// command is refused so.
 pub fn apply<Q: Payload, QH: Words, P: Payload, PH: Words, H: Words, C>(
     hub: &mut Hub<Q, QH, P, PH>,
     alloc: Global,
@@ -140,7 +142,8 @@ pub fn apply<Q: Payload, QH: Words, P: Payload, PH: Words, H: Words, C>(
     ensures whole { IsApplied Q.Element.words P.Element.words H.words hub.old command result
         hub.new }
     ensures memory { wants_memory result ≡ true → takes_memory command ≡ true }
-    ensures grows { wants_memory result ≡ true → GrowsIfLent hub.old command }
+    ensures grows { wants_memory result ≡ true → GrowsIfLentFor Q.Element.words P.Element.words H.words hub.old
+        command }
     ensures segment { wants_segment result ≡ true → is_making command ≡ true }
     ensures unchanged { tells_want result ≡ true → StaysAs hub.old hub.new }
     ensures shapes { HaveSameShapes hub.old hub.new }

@@ -1,11 +1,15 @@
 //! Copies by number: loan, write and send in one.
 ghost use Rattle.std.specs.Prelude.{◌≡◌, IfOk, OnErr, false, flat_map, length};
 ghost use Rattle.iox_model.specs.declared.call.Call.TheVariants.{SendCopy};
+ghost use Rattle.iox_model.specs.declared.command.PortCommand.TheVariants as port_commands;
 ghost use Rattle.iox_model.specs.declared.kind.Role.TheVariants as roles;
 ghost use Rattle.iox_model.specs.Commands.{Use};
+ghost use Rattle.iox_tables.specs.HubStates.States.{Given};
+ghost use Rattle.iox_hub.specs.Hubs.{state_of_hub};
 ghost use Rattle.iox_hub.specs.Lending.{payload_of};
-ghost use Rattle.iox_port_commands.specs.Applying.{HasGrowingPort, IsCalled, LacksMemory};
+ghost use Rattle.iox_port_commands.specs.Applying.{IsCalled, LacksMemory, MustGrowIn};
 ghost use Rattle.iox_port_commands.specs.Asking.{payload_for};
+ghost use Rattle.iox_port_commands.specs.Memory.{GrowsIfLent};
 ghost use Rattle.iox_port_commands.specs.Telling.{tells_want};
 
 use crate::answers::{answered, copied};
@@ -33,7 +37,7 @@ pub fn copy_request<Q: Payload, QH: Words, P: Payload, PH: Words, C>(
     ensures wanting { OnErr result (LacksMemory hub.old node
         (Use (SendCopy number (payload_of roles.Client (length values.now)
         (flat_map Q.Element.words values.now)))) hub.new) }
-    ensures grows { OnErr result (HasGrowingPort hub.old) }
+    ensures grows { OnErr result (MustGrowIn hub.old node number (length values.now)) }
     ensures unchanged { OnErr result (hub.new ≡ hub.old) }
 {
     hub.is_in_order();
@@ -66,7 +70,7 @@ pub fn copy_response<Q: Payload, QH: Words, P: Payload, PH: Words, C>(
     ensures wanting { OnErr result (LacksMemory hub.old node
         (Use (SendCopy number (payload_of roles.Server (length values.now)
         (flat_map P.Element.words values.now)))) hub.new) }
-    ensures grows { OnErr result (HasGrowingPort hub.old) }
+    ensures grows { OnErr result (MustGrowIn hub.old node number (length values.now)) }
     ensures unchanged { OnErr result (hub.new ≡ hub.old) }
 {
     hub.is_in_order();
@@ -97,7 +101,9 @@ pub(crate) fn send_copy<Q: Payload, QH: Words, P: Payload, PH: Words, C>(
     ensures memory { IfOk result (λ reply. tells_want reply ≡ false) }
     ensures wanting { OnErr result (LacksMemory hub.old node
         (Use (SendCopy number (payload_for Q.Element.words P.Element.words payload.now))) hub.new) }
-    ensures grows { OnErr result (HasGrowingPort hub.old) }
+    ensures grows { OnErr result ((x : Given) → GrowsIfLent (state_of_hub x hub.old)
+        (port_commands.SendCopy node number
+        (payload_for Q.Element.words P.Element.words payload.now))) }
     ensures unchanged { OnErr result (hub.new ≡ hub.old) }
 {
     match payload {

@@ -2,7 +2,7 @@
 ghost use Rattle.std.specs.Prelude.{◌≡◌, IfOk, OnErr, false};
 ghost use Rattle.iox_model.specs.declared.call.Call.TheVariants.{Loan};
 ghost use Rattle.iox_model.specs.Commands.{Use};
-ghost use Rattle.iox_port_commands.specs.Applying.{HasGrowingPort, HaveDefaults, IsCalled, LacksMemory};
+ghost use Rattle.iox_port_commands.specs.Applying.{HaveDefaults, IsCalled, LacksMemory, MustGrowIn};
 ghost use Rattle.iox_port_commands.specs.Telling.{tells_want};
 
 use crate::answers::lent;
@@ -28,7 +28,7 @@ pub(crate) fn loan<Q: Payload, QH: Words, P: Payload, PH: Words, C>(
     ensures memory { IfOk result (λ reply. tells_want reply ≡ false) }
     ensures wanting { OnErr result
         (LacksMemory hub.old node (Use (Loan number elements)) hub.new) }
-    ensures grows { OnErr result (HasGrowingPort hub.old) }
+    ensures grows { OnErr result (MustGrowIn hub.old node number elements) }
     ensures unchanged { OnErr result (hub.new ≡ hub.old) }
 {
     hub.is_in_order();

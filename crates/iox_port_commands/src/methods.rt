@@ -3,7 +3,7 @@ ghost use Rattle.std.specs.Prelude.{◌≡◌, ◌||◌, IfOk, OnErr, true};
 ghost use Rattle.iox_hub.specs.Hubs.{HubState};
 ghost use Rattle.iox_hub.specs.Making.{StaysAs};
 ghost use Rattle.iox_hub.specs.Keeping.{HaveSameShapes};
-ghost use Rattle.iox_port_commands.specs.Applying.{GrowsIfLent, HadMemoryFor, HaveDefaults};
+ghost use Rattle.iox_port_commands.specs.Applying.{GrowsIfLentFor, HadMemoryFor, HaveDefaults};
 ghost use Rattle.iox_port_commands.specs.Applying.{IsApplied, LacksMemoryFor};
 ghost use Rattle.iox_port_commands.specs.Asking.{is_making, takes_memory};
 ghost use Rattle.iox_port_commands.specs.Telling.{tells_want, wants_memory, wants_segment};
@@ -37,7 +37,8 @@ pub trait ApplyCommand {
         ensures whole { IsApplied Self.Request.words Self.Response.words H.words (shown self.old)
             command result (shown self.new) }
         ensures memory { wants_memory result ≡ true → takes_memory command ≡ true }
-        ensures grows { wants_memory result ≡ true → GrowsIfLent (shown self.old) command }
+        ensures grows { wants_memory result ≡ true → GrowsIfLentFor Self.Request.words
+            Self.Response.words H.words (shown self.old) command }
         ensures segment { wants_segment result ≡ true → is_making command ≡ true }
         ensures unchanged { tells_want result ≡ true → StaysAs (shown self.old) (shown self.new) }
         ensures shapes { HaveSameShapes (shown self.old) (shown self.new) }
@@ -57,7 +58,8 @@ pub trait ApplyCommand {
         ensures wanting { OnErr result (LacksMemoryFor Self.Request.words Self.Response.words
             H.words (shown self.old) command (shown self.new)) }
         ensures takes { OnErr result ((is_making command || takes_memory command) ≡ true) }
-        ensures grows { OnErr result (GrowsIfLent (shown self.old) command) }
+        ensures grows { OnErr result (GrowsIfLentFor Self.Request.words
+            Self.Response.words H.words (shown self.old) command) }
         ensures unchanged { OnErr result (StaysAs (shown self.old) (shown self.new)) }
         ensures shapes { HaveSameShapes (shown self.old) (shown self.new) }
         ensures defaults { HaveDefaults (shown self.new) };
@@ -80,7 +82,8 @@ impl<Q: Payload, QH: Words, P: Payload, PH: Words> ApplyCommand for Hub<Q, QH, P
         ensures whole { IsApplied Q.Element.words P.Element.words H.words self.old command result
             self.new }
         ensures memory { wants_memory result ≡ true → takes_memory command ≡ true }
-        ensures grows { wants_memory result ≡ true → GrowsIfLent self.old command }
+        ensures grows { wants_memory result ≡ true → GrowsIfLentFor Q.Element.words
+            P.Element.words H.words self.old command }
         ensures segment { wants_segment result ≡ true → is_making command ≡ true }
         ensures unchanged { tells_want result ≡ true → StaysAs self.old self.new }
         ensures shapes { HaveSameShapes self.old self.new }
@@ -103,7 +106,8 @@ impl<Q: Payload, QH: Words, P: Payload, PH: Words> ApplyCommand for Hub<Q, QH, P
         ensures wanting { OnErr result (LacksMemoryFor Q.Element.words P.Element.words H.words
             self.old command self.new) }
         ensures takes { OnErr result ((is_making command || takes_memory command) ≡ true) }
-        ensures grows { OnErr result (GrowsIfLent self.old command) }
+        ensures grows { OnErr result (GrowsIfLentFor Q.Element.words
+            P.Element.words H.words self.old command) }
         ensures unchanged { OnErr result (StaysAs self.old self.new) }
         ensures shapes { HaveSameShapes self.old self.new }
         ensures defaults { HaveDefaults self.new }

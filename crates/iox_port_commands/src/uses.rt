@@ -5,7 +5,7 @@ ghost use Rattle.iox_model.specs.declared.kind.Role.TheVariants as roles;
 ghost use Rattle.iox_hub.specs.Hubs.{IsReached};
 ghost use Rattle.iox_hub.specs.Lending.{payload_of};
 ghost use Rattle.iox_hub.specs.Keeping.{HaveSameShapes};
-ghost use Rattle.iox_port_commands.specs.Applying.{HasGrowingPort, HaveDefaults, IsCalled};
+ghost use Rattle.iox_port_commands.specs.Applying.{HaveDefaults, IsCalled, MustGrowIn};
 ghost use Rattle.iox_port_commands.specs.Telling.{wants_memory};
 
 use crate::{Elements, apply};
@@ -37,7 +37,7 @@ fn plain() -> PortOptions<u64> {
 }
 
 /// A client is asked to send a copy of these elements: that is one whole call of the machine. It is
-/// refused for want of memory only where the messages of some port grow.
+/// refused for want of memory only where the message must grow.
 pub fn sends_a_copy<E: Words>(
     hub: &mut Hub<Many<E>, (), One<u64>, ()>,
     alloc: Global,
@@ -49,7 +49,8 @@ pub fn sends_a_copy<E: Words>(
     ensures whole { IsCalled hub.old node
         (SendCopy client (payload_of roles.Client (length values.items)
         (flat_map E.words values.items))) result hub.new }
-    ensures memory { wants_memory result ≡ true → HasGrowingPort hub.old }
+    ensures memory { wants_memory result ≡ true → MustGrowIn hub.old node client
+        (length values.items) }
 {
     let command: Command<E> = PortCommand::SendCopy {
         node,

@@ -5,6 +5,7 @@ mod cleanups;
 mod comparing;
 mod creating;
 mod dying;
+mod growing;
 mod joining;
 mod registered;
 mod running;
@@ -40,6 +41,8 @@ enum Ask {
     Client(u64),
     Server(u64),
     Loan(u64, u64),
+    /// The same, of 33 elements.
+    LongLoan(u64, u64),
     /// A loan is filled with this number.
     Write(u64, u64, u64),
     Send(u64, u64),

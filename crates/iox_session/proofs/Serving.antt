@@ -1,6 +1,7 @@
 -- What a service is asked by a line, and what it answers.
-use Rattle.std.specs.Prelude.{◌≡◌, ℕ, Bool, true, false, unwrap_or, Option, Some, None, MatchOption, Result, Ok, Err, IfOk, OnErr, IsTrue}
+use Rattle.std.specs.Prelude.{◌≡◌, ℕ, Bool, true, false, ◌||◌, if◌then◌else◌, ◌==◌, List, [], ◌∷◌, find, unwrap_or, Option, Some, None, MatchOption, Result, Ok, Err, IfOk, OnErr, IsTrue, refl}
 use Rattle.std.specs.List.{list_any}
+use Rattle.std.specs.Option.{IsSomeAnd}
 use Rattle.std.specs.declared.convert.Infallible.{Infallible}
 use Rattle.std.specs.declared.vec.Vec.{Vec}
 use Rattle.std.proofs.Common.{ap, subst, sym, true≢false, ◌∙◌}
@@ -18,15 +19,18 @@ use Rattle.iox_model.specs.declared.reply.Refusal.TheVariants.{UnableToCreateDat
 use Rattle.iox_model.specs.declared.reply.Reply as the_reply
 use Rattle.iox_model.specs.declared.reply.Reply.TheVariants.{Refused}
 use Rattle.iox_model.specs.Commands.{Command, Create, Reply, Use}
+use Rattle.iox_model.specs.Handles.{Subject, ThePort, TheHandle, handle_at, port_or_handle, subject}
 use Rattle.iox_model.specs.Makings.{allocation_of, is_large}
+use Rattle.iox_model.specs.Peers.{port_at}
 use Rattle.iox_model.specs.Services.{IsCommand}
 use Rattle.iox_model.specs.Settings.{Limits, is_static}
-use Rattle.iox_model.specs.States.{Port as ThePort, State}
+use Rattle.iox_model.specs.States.{Fixed, Handle, State}
+use Rattle.iox_model.specs.States as m
 use Rattle.iox_nodes.specs.Given as nodes
 use Rattle.iox_nodes.specs.Given.{command_given}
 use Rattle.iox_nodes.specs.Memory.{IsAnsweredWithMemory, IsDoneWithMemory, MayFindNoMemory, MayLackMemory}
 use Rattle.iox_nodes.specs.Shown.{ServiceTables, service_of}
-use Rattle.iox_nodes.specs.PortMemory.{HasGrowing}
+use Rattle.iox_nodes.specs.PortMemory.{MustGrow, lender_by}
 use Rattle.iox_nodes.proofs.Reaching.{limits_stay}
 use Rattle.iox_nodes.proofs.Still.{joins_keep, port_commands_keep}
 use Rattle.iox_nodes.specs.Elements.{Elements}
@@ -53,7 +57,7 @@ limited_then s c reply t limited done = subst IsLimited (sym (limits_stay s c re
 
 -- and so do the messages of ports as long as they are
 still_then : (s t : State) (command : ServiceCommand) (c : Command) (reply : Reply) → Some c ≡ command_asked s command → IsAsked command → IsOfScript s
-    → IsCommand s c reply t → list_any (λ (p : ThePort). p.grows) t.fixed.ports ≡ false
+    → IsCommand s c reply t → list_any (λ (p : m.Port). p.grows) t.fixed.ports ≡ false
 still_then s t (Join id asked) c reply asks said of done =
     joins_keep s id None reply t of.still (subst (λ k. IsCommand s k reply t) (same_Some c (Join id None) asks) done)
 still_then s t (Port (ports.Client node id o)) c reply asks said of done =
@@ -82,6 +86,45 @@ served_so s command c reply answer s' asks told done =
 
 -- ---- where memory is missing
 
+or_false : (a b : Bool) → (a || b) ≡ false → (a ≡ false) × (b ≡ false)
+or_false true b e = absurd (true≢false e)
+or_false false b e = (refl, e)
+
+still_port : (ps : List m.Port) (n : ℕ) (p : m.Port) → find (λ q. q.number == n) ps ≡ Some p → list_any (λ (q : m.Port). q.grows) ps ≡ false → p.grows ≡ false
+still_port [] n p at still = absurd (none-some p at)
+still_port (q ∷ qs) n p at still = step (q.number == n) at (or_false q.grows (list_any (λ (r : m.Port). r.grows) qs) still)
+  where
+    step : (b : Bool) → (if b then Some q else find (λ r. r.number == n) qs) ≡ Some p → (q.grows ≡ false) × (list_any (λ (r : m.Port). r.grows) qs ≡ false)
+        → p.grows ≡ false
+    step true e both = ap (λ (r : m.Port). r.grows) (sym (same_Some q p e)) ∙ both.0
+    step false e both = still_port qs n p e both.1
+
+-- where the messages of no port grow, nobody lends one that must
+still_lender : (f : Fixed) (node n : ℕ) (who : Subject) (p : m.Port) → subject f node n ≡ Some who → lender_by f who ≡ Some p
+    → list_any (λ (q : m.Port). q.grows) f.ports ≡ false → p.grows ≡ false
+still_lender f node n who p named lends still = step (port_at f n) refl (handle_at f node n) named
+  where
+    by_port : (r : m.Port) → port_at f n ≡ Some r → ThePort r ≡ who → p.grows ≡ false
+    by_port r at is =
+        still_port f.ports n p (at ∙ subst (λ (x : Subject). lender_by f x ≡ Some p) (sym is) lends) still
+
+    held : (r : m.Port) → port_at f n ≡ Some r → (b : Bool) → (if b then Some (ThePort r) else None) ≡ Some who → p.grows ≡ false
+    held r at true e = by_port r at (same_Some (ThePort r) who e)
+    held r at false e = absurd (none-some who e)
+
+    step : (o : Option m.Port) → port_at f n ≡ o → (q : Option Handle) → port_or_handle o q ≡ Some who → p.grows ≡ false
+    step (Some r) at q e = held r at r.held e
+    step None at (Some h) e =
+        still_port f.ports h.port p (subst (λ (x : Subject). lender_by f x ≡ Some p) (sym (same_Some (TheHandle h) who e)) lends) still
+    step None at None e = absurd (none-some who e)
+
+never_grows : (s : State) (node n k : ℕ) → IsOfScript s → MustGrow s node n k → ⊥
+never_grows s node n k of must = true≢false (sym must.grows ∙ still_lender s.fixed node n must.who must.port must.named must.lends of.still)
+
+no_count_grows : (s : State) (node n : ℕ) (o : Option ℕ) → IsOfScript s → IsSomeAnd o (MustGrow s node n) → ⊥
+no_count_grows s node n (Some k) of must = never_grows s node n k of must
+no_count_grows s node n None of must = must
+
 lacks : (s : State) (c d : Command) → Some c ≡ Some d → MayLackMemory s c → MayLackMemory s d
 lacks s c d asks may = subst (λ k. MayLackMemory s k) (same_Some c d asks) may
 
@@ -92,9 +135,10 @@ wants_so s (Port (ports.Client node id o)) c asks of may = tt
 wants_so s (Port (ports.Server node id o)) c asks of may = tt
 wants_so s (Port (ports.Read node n)) c asks of may = tt
 wants_so s (Port (ports.SendCopy node n words)) c asks of may =
-    let grows : IsCommand s (Port (ports.SendCopy node n (payload_given s node n words))) (Refused WantOfMemory) s × HasGrowing s
+    let grows : IsCommand s (Port (ports.SendCopy node n (payload_given s node n words))) (Refused WantOfMemory) s
+    × IsSomeAnd (payload_given s node n words).elements (MustGrow s node n)
     = lacks s c (Port (ports.SendCopy node n (payload_given s node n words))) asks may in
-    absurd (true≢false (sym grows.1 ∙ of.still))
+    absurd (no_count_grows s node n (payload_given s node n words).elements of grows.1)
 wants_so s (Port (ports.Receive node n)) c asks of may = absurd (lacks s c _ asks may)
 wants_so s command c asks of may = absurd (none-some c (sym asks))
 

@@ -63,6 +63,11 @@ fn at_port(ask: Ask) -> Option<AtPort> {
             number,
             elements: 1,
         },
+        Ask::LongLoan(node, number) => PortCommand::Loan {
+            node,
+            number,
+            elements: 33,
+        },
         Ask::Send(node, number) => PortCommand::Send { node, number },
         Ask::Receive(node, number) => PortCommand::Receive { node, number },
         Ask::Read(node, number) => PortCommand::Read { node, number },

@@ -1,5 +1,7 @@
 //! Messages that grow past the greatest length, which is 2.
+use super::numbers::{FIRST, plays_with};
 use super::{Asked, Given, Told, plays};
+use iox_control::Settings;
 use iox_model::reply::Refusal;
 use iox_types::AllocationStrategy;
 use std::test::Fail;
@@ -86,6 +88,56 @@ fn a_pool_that_is_dry_is_told_before_want_of_memory(rt: HostRuntime) -> Result<(
                 Asked::Loan(0, 1 << 58),
                 Told::Refused(Refusal::WantOfMemory),
             ),
+        ],
+    )
+}
+
+#[test]
+fn the_setting_lets_messages_grow_unless_the_option_says_no(rt: HostRuntime) -> Result<(), Fail> {
+    let settings = Settings {
+        client_allocation: AllocationStrategy::BestFit,
+        ..FIRST
+    };
+    plays_with(
+        &rt,
+        rt.alloc(),
+        settings,
+        &[
+            (0, Asked::Client(Given::Nothing), Told::Client(0)),
+            (0, Asked::Loan(0, 33), Told::Handle(1)),
+            (
+                0,
+                Asked::Client(Given::Allocation(AllocationStrategy::Static)),
+                Told::Client(2),
+            ),
+            (
+                0,
+                Asked::Loan(2, 33),
+                Told::Refused(Refusal::ExceedsMaxLoanSize),
+            ),
+        ],
+    )
+}
+
+#[test]
+fn a_response_past_the_greatest_length_is_read_whole(rt: HostRuntime) -> Result<(), Fail> {
+    let settings = Settings {
+        server_allocation: AllocationStrategy::PowerOfTwo,
+        ..FIRST
+    };
+    plays_with(
+        &rt,
+        rt.alloc(),
+        settings,
+        &[
+            (0, Asked::Client(Given::Nothing), Told::Client(0)),
+            (1, Asked::Server, Told::Server(1)),
+            (0, Asked::Request(0, 7, 1), Told::Handle(2)),
+            (1, Asked::Receive(1), Told::Handle(3)),
+            (1, Asked::Loan(3, 33), Told::Handle(4)),
+            (1, Asked::Send(4), Told::Done),
+            (0, Asked::Receive(2), Told::Handle(5)),
+            (0, Asked::Read(5), Told::Words(33, 0)),
         ],
     )
 }

@@ -39,6 +39,19 @@ fn a_loan_from_a_pool_of_one_is_the_only_one(rt: HostRuntime) -> Result<(), Fail
 }
 
 #[test]
+fn the_second_loan_from_a_pool_of_one_finds_none(rt: HostRuntime) -> Result<(), Fail> {
+    plays(
+        &rt,
+        rt.alloc(),
+        &[
+            (0, Asked::Client(Given::Pool(1)), Told::Client(0)),
+            (0, Asked::Loan(0, 1), Told::Handle(1)),
+            (0, Asked::Loan(0, 1), Told::Refused(Refusal::OutOfMemory)),
+        ],
+    )
+}
+
+#[test]
 fn a_second_active_request_of_one_is_refused(rt: HostRuntime) -> Result<(), Fail> {
     plays(
         &rt,

@@ -201,6 +201,29 @@ fn a_client_with_too_many_messages_is_not_made(rt: HostRuntime) -> Result<(), Fa
 }
 
 #[test]
+fn a_client_with_a_small_pool_in_place_of_too_many_messages_is_made(
+    rt: HostRuntime,
+) -> Result<(), Fail> {
+    let settings = Settings {
+        loaned_requests: 16_777_215,
+        ..FIRST
+    };
+    plays_with(
+        &rt,
+        rt.alloc(),
+        settings,
+        &[
+            (0, Asked::Client(Given::Pool(1)), Told::Client(0)),
+            (
+                0,
+                Asked::Client(Given::Pool(16_777_215)),
+                Told::Refused(Refusal::UnableToCreateDataSegment),
+            ),
+        ],
+    )
+}
+
+#[test]
 fn a_client_lends_to_no_other_node(rt: HostRuntime) -> Result<(), Fail> {
     plays_with(
         &rt,

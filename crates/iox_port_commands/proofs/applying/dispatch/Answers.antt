@@ -1,5 +1,6 @@
 use Rattle.std.specs.Prelude.{◌≡◌}
 use Rattle.iox_hub.specs.Making.{StaysAs}
+use Rattle.iox_tables.specs.HubStates.States.{Given}
 use Rattle.iox_port_commands.proofs.Calling.{on_err, same_stays}
 use Rattle.iox_port_commands.proofs.applying.dispatch.Goals as goal
 
@@ -33,10 +34,10 @@ pub returns-in-SendCopy-clause-grows : goal.returns-in-SendCopy-clause-grows
 returns-in-SendCopy-clause-grows g c = rw c.in-SendCopy.is c.send_copy.ensures.grows
 
 pub returns-in-Client-clause-grows : goal.returns-in-Client-clause-grows
-returns-in-Client-clause-grows g c = rw c.in-Client.is (on_err c.make.result _ (Unit {0}) (λ e. tt) c.make.ensures.unchanged)
+returns-in-Client-clause-grows g c = rw c.in-Client.is (on_err c.make.result _ ((x : Given) → Unit {0}) (λ e x. tt) c.make.ensures.unchanged)
 
 pub returns-in-Server-clause-grows : goal.returns-in-Server-clause-grows
-returns-in-Server-clause-grows g c = rw c.in-Server.is (on_err c.make-in-Server.result _ (Unit {0}) (λ e. tt) c.make-in-Server.ensures.unchanged)
+returns-in-Server-clause-grows g c = rw c.in-Server.is (on_err c.make-in-Server.result _ ((x : Given) → Unit {0}) (λ e x. tt) c.make-in-Server.ensures.unchanged)
 
 pub returns-in-Read-clause-grows : goal.returns-in-Read-clause-grows
-returns-in-Read-clause-grows g c = rw c.in-Read.is (on_err c.read.result _ (Unit {0}) (λ e. tt) c.read.ensures.wanting)
+returns-in-Read-clause-grows g c = rw c.in-Read.is (on_err c.read.result _ ((x : Given) → Unit {0}) (λ e x. tt) c.read.ensures.wanting)

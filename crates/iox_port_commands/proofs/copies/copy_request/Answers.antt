@@ -11,7 +11,7 @@ use Rattle.iox_hub.specs.LoanRefusal.TheVariants.{WantOfMemory}
 use Rattle.iox_hub.specs.Lending.{payload_of}
 use Rattle.iox_model.specs.declared.kind.Kind.{Kind}
 use Rattle.iox_hub.specs.Hubs.{HasValue}
-use Rattle.iox_port_commands.specs.Applying.{HasGrowingPort}
+use Rattle.iox_port_commands.specs.Applying.{MustGrowIn}
 use Rattle.iox_port_commands.proofs.Growing.{client_grows}
 use Rattle.iox_port_commands.proofs.Calling.{called_if, lacking_if, on_err, request_stays}
 use Rattle.iox_port_commands.proofs.copies.copy_request.Goals as goal
@@ -36,7 +36,7 @@ returns-in-Ok-Client-clause-unchanged g c =
 
 pub returns-in-Ok-Client-clause-grows : goal.returns-in-Ok-Client-clause-grows
 returns-in-Ok-Client-clause-grows g c =
-    on_err c.copied.result (c.copy_request.result ≡ Refused WantOfMemory) (HasGrowingPort c.args.hub.now)
+    on_err c.copied.result (c.copy_request.result ≡ Refused WantOfMemory) (MustGrowIn c.args.hub.now c.args.node c.args.number (length c.args.values.now))
     (λ e. client_grows c.args.hub.now c.is_in_order.ensures c.args.node c.args.number (length c.args.values.now)
     (subst (λ (kind : Kind). HasValue c.args.hub.now c.args.node c.args.number kind) c.in-Ok-Client.field-0-is c.in-Ok-Client.ensures.has)
     (c.copy_request.ensures.memory e)) c.copied.ensures.wanting

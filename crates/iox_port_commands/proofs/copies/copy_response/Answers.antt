@@ -11,7 +11,7 @@ use Rattle.iox_hub.specs.LoanRefusal.TheVariants.{WantOfMemory}
 use Rattle.iox_hub.specs.Lending.{payload_of}
 use Rattle.iox_model.specs.declared.kind.Kind.{Kind}
 use Rattle.iox_hub.specs.Hubs.{HasValue}
-use Rattle.iox_port_commands.specs.Applying.{HasGrowingPort}
+use Rattle.iox_port_commands.specs.Applying.{MustGrowIn}
 use Rattle.iox_port_commands.proofs.Growing.{active_grows}
 use Rattle.iox_port_commands.proofs.Calling.{called_if, lacking_if, on_err, response_stays}
 use Rattle.iox_port_commands.proofs.copies.copy_response.Goals as goal
@@ -36,7 +36,7 @@ returns-in-Ok-ActiveRequest-clause-unchanged g c =
 
 pub returns-in-Ok-ActiveRequest-clause-grows : goal.returns-in-Ok-ActiveRequest-clause-grows
 returns-in-Ok-ActiveRequest-clause-grows g c =
-    on_err c.answered.result (c.copy_response.result ≡ Refused WantOfMemory) (HasGrowingPort c.args.hub.now)
+    on_err c.answered.result (c.copy_response.result ≡ Refused WantOfMemory) (MustGrowIn c.args.hub.now c.args.node c.args.number (length c.args.values.now))
     (λ e. active_grows c.args.hub.now c.is_in_order.ensures c.args.node c.args.number (length c.args.values.now)
     (subst (λ (kind : Kind). HasValue c.args.hub.now c.args.node c.args.number kind) c.in-Ok-ActiveRequest.field-0-is c.in-Ok-ActiveRequest.ensures.has)
     (c.copy_response.ensures.memory e)) c.answered.ensures.wanting

@@ -9,7 +9,7 @@ use Rattle.iox_hub.specs.Lent.TheVariants.{Refused}
 use Rattle.iox_hub.specs.LoanRefusal.TheVariants.{WantOfMemory}
 use Rattle.iox_model.specs.declared.kind.Kind.{Kind}
 use Rattle.iox_hub.specs.Hubs.{HasValue}
-use Rattle.iox_port_commands.specs.Applying.{HasGrowingPort}
+use Rattle.iox_port_commands.specs.Applying.{MustGrowIn}
 use Rattle.iox_port_commands.proofs.Growing.{active_grows, client_grows}
 use Rattle.iox_port_commands.proofs.Calling.{called_if, lacking_if, loan_stays, on_err}
 use Rattle.iox_port_commands.proofs.lending.loan.Goals as goal
@@ -48,14 +48,14 @@ returns-in-Ok-ActiveRequest-clause-unchanged g c =
 
 pub returns-in-Ok-Client-clause-grows : goal.returns-in-Ok-Client-clause-grows
 returns-in-Ok-Client-clause-grows g c =
-    on_err c.lent.result (c.lend_request.result ≡ Refused WantOfMemory) (HasGrowingPort c.args.hub.now)
+    on_err c.lent.result (c.lend_request.result ≡ Refused WantOfMemory) (MustGrowIn c.args.hub.now c.args.node c.args.number c.args.elements)
     (λ e. client_grows c.args.hub.now c.is_in_order.ensures c.args.node c.args.number c.args.elements
     (subst (λ (kind : Kind). HasValue c.args.hub.now c.args.node c.args.number kind) c.in-Ok-Client.field-0-is c.in-Ok-Client.ensures.has)
     (c.lend_request.ensures.memory e)) c.lent.ensures.wanting
 
 pub returns-in-Ok-ActiveRequest-clause-grows : goal.returns-in-Ok-ActiveRequest-clause-grows
 returns-in-Ok-ActiveRequest-clause-grows g c =
-    on_err c.lent-in-Ok-ActiveRequest.result (c.lend_response.result ≡ Refused WantOfMemory) (HasGrowingPort c.args.hub.now)
+    on_err c.lent-in-Ok-ActiveRequest.result (c.lend_response.result ≡ Refused WantOfMemory) (MustGrowIn c.args.hub.now c.args.node c.args.number c.args.elements)
     (λ e. active_grows c.args.hub.now c.is_in_order.ensures c.args.node c.args.number c.args.elements
     (subst (λ (kind : Kind). HasValue c.args.hub.now c.args.node c.args.number kind) c.in-Ok-ActiveRequest.field-0-is c.in-Ok-ActiveRequest.ensures.has)
     (c.lend_response.ensures.memory e)) c.lent-in-Ok-ActiveRequest.ensures.wanting

@@ -3,7 +3,7 @@ use Rattle.std.specs.Vec.{vec_capacity, vec_len}
 use Rattle.std.specs.Vec.Iter.{into_iter_items}
 use Rattle.iox_service_laws.specs.Served.{IsListingAt}
 use Rattle.iox_service_laws.proofs.Running.{nothing_left, on_err}
-use Rattle.iceoryx2_wire.specs.Serving.{IsAnswered}
+use Rattle.iceoryx2_wire.specs.Serving.{IsAnswered, WantsToGrowFor}
 use Rattle.iceoryx2_wire.specs.Services.{service_of}
 use Rattle.iceoryx2_wire.proofs.Running.{HasRun, run_ends, run_goes_on, run_is_short, run_is_whole, run_lists, run_starts}
 use Rattle.iceoryx2_wire.proofs.service.Service.run.Goals as goal
@@ -67,7 +67,11 @@ loop-command-preserved g c =
           (subst
           (λ d. IsAnswered g.Q.Element.Words.words g.P.Element.Words.words g.H.Words.words d (service_of at.self) c.in-Some.command
           c.in_ok-reply.reply (service_of c.serve.new.self))
-          at.invariant.2 c.in_ok-reply.ensures.answered) c.in_ok-reply.ensures.want)),
+          at.invariant.2 c.in_ok-reply.ensures.answered) c.in_ok-reply.ensures.want
+          (subst
+          (λ d. WantsToGrowFor g.Q.Element.Words.words g.P.Element.Words.words g.H.Words.words d (service_of at.self) c.in-Some.command
+          c.in_ok-reply.reply)
+          at.invariant.2 c.in_ok-reply.ensures.grows))),
       let was = at.invariant.1 in
           let gone = c.in-Some.ensures.steps.1 in
           let short = ap length steps in

@@ -1,6 +1,6 @@
 use Rattle.iox_service_laws.proofs.Wanting.{of_port}
 use Rattle.iceoryx2_wire.specs.Services.{service_of}
-use Rattle.iceoryx2_wire.proofs.Comparing.{port_answered}
+use Rattle.iceoryx2_wire.proofs.Comparing.{port_answered, port_of_opener_grows}
 use Rattle.iceoryx2_wire.proofs.service.Service.serve.Goals as goal
 
 pub returns-in-Port-clause-answered : goal.returns-in-Port-clause-answered
@@ -10,3 +10,8 @@ returns-in-Port-clause-answered g c =
 
 pub returns-in-Port-clause-want : goal.returns-in-Port-clause-want
 returns-in-Port-clause-want g c = of_port c.args.command c.in-Port.command c.port.result c.in-Port.is c.port.ensures.want
+
+pub returns-in-Port-clause-grows : goal.returns-in-Port-clause-grows
+returns-in-Port-clause-grows g c =
+    port_of_opener_grows g.Q.Element.Words.words g.P.Element.Words.words g.H.Words.words c.args.self.now.description (service_of c.args.self.now)
+    c.args.command c.in-Port.command c.port.result c.in-Port.is c.port.ensures.grows

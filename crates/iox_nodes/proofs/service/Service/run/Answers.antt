@@ -43,7 +43,7 @@ loop-command-preserved g c =
           (λ cs. HasRun g.Q.Element.Words.words g.P.Element.Words.words g.H.Words.words (service_of c.args.self.now) c.args.commands.items
           c.args.replies.now.items cs at.replies.items (service_of at.self))
           steps at.invariant.0)
-          c.in_ok-reply.ensures.answered c.in_ok-reply.ensures.want)),
+          c.in_ok-reply.ensures.answered c.in_ok-reply.ensures.want c.in_ok-reply.ensures.grows)),
       let was = at.invariant.1 in
           let gone = c.in-Some.ensures.steps.1 in
           let short = ap length steps in
