@@ -20,6 +20,7 @@ use crate::receives::receive;
 use crate::releases::release;
 use crate::sends::send;
 use crate::writing::write;
+use iox_hub::Backpressure;
 use iox_hub::Hub;
 use iox_model::command::PortCommand;
 use iox_model::kind::Role;
@@ -29,8 +30,8 @@ use iox_words::Words;
 use std::alloc::{AllocError, Global};
 
 /// Each command by its own call.
-fn dispatch<Q: Payload, QH: Words, P: Payload, PH: Words, H: Words, C>(
-    hub: &mut Hub<Q, QH, P, PH>,
+fn dispatch<Q: Payload, QH: Words, P: Payload, PH: Words, H: Backpressure, C>(
+    hub: &mut Hub<Q, QH, P, PH, H>,
     alloc: Global,
     command: PortCommand<Elements<Q::Element, P::Element>, H>,
 ) -> Result<PortReply<Vec<u64>, C>, AllocError>
@@ -87,8 +88,8 @@ fn dispatch<Q: Payload, QH: Words, P: Payload, PH: Words, H: Words, C>(
 /// It fails only where there is no memory for a port, for what is read, or for a message that has to
 /// grow, and changes nothing then. Its replies are those of the machine with memory. For a port that
 /// is too large or has a handler, a hub never has memory.
-pub fn try_apply<Q: Payload, QH: Words, P: Payload, PH: Words, H: Words, C>(
-    hub: &mut Hub<Q, QH, P, PH>,
+pub fn try_apply<Q: Payload, QH: Words, P: Payload, PH: Words, H: Backpressure, C>(
+    hub: &mut Hub<Q, QH, P, PH, H>,
     alloc: Global,
     command: PortCommand<Elements<Q::Element, P::Element>, H>,
 ) -> Result<PortReply<Vec<u64>, C>, AllocError>
@@ -133,8 +134,8 @@ fn lacking<C>(making: bool) -> PortReply<Vec<u64>, C>
 /// The same as [`try_apply`], where want of memory is a reply as well: `UnableToCreateDataSegment`
 /// for a port, `WantOfMemory` for a read, and for a loan or a copy whose message must grow. No other
 /// command is refused so.
-pub fn apply<Q: Payload, QH: Words, P: Payload, PH: Words, H: Words, C>(
-    hub: &mut Hub<Q, QH, P, PH>,
+pub fn apply<Q: Payload, QH: Words, P: Payload, PH: Words, H: Backpressure, C>(
+    hub: &mut Hub<Q, QH, P, PH, H>,
     alloc: Global,
     command: PortCommand<Elements<Q::Element, P::Element>, H>,
 ) -> PortReply<Vec<u64>, C>

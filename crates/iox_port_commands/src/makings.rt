@@ -7,6 +7,7 @@ ghost use Rattle.iox_port_commands.specs.Asking.{options_for};
 ghost use Rattle.iox_port_commands.specs.Telling.{tells_want};
 
 use crate::answers::{made, not_made};
+use iox_hub::Backpressure;
 use iox_hub::{Hub, Options};
 use iox_model::command::PortOptions;
 use iox_model::kind::Role;
@@ -18,8 +19,8 @@ use std::alloc::{AllocError, Global};
 
 /// Makes a port of that role, with no handler. It fails where there is no memory for the port: none
 /// was found, or the port is too large. All stays then.
-pub fn make_port<Q: Payload, QH: Words, P: Payload, PH: Words, C>(
-    hub: &mut Hub<Q, QH, P, PH>,
+pub fn make_port<Q: Payload, QH: Words, P: Payload, PH: Words, H: Backpressure, C>(
+    hub: &mut Hub<Q, QH, P, PH, H>,
     alloc: Global,
     node: u64,
     role: Role,
@@ -40,8 +41,8 @@ pub fn make_port<Q: Payload, QH: Words, P: Payload, PH: Words, C>(
 }
 
 /// Makes a port of that role. A hub has no handlers: there is no memory for a port that has one.
-pub(crate) fn make<Q: Payload, QH: Words, P: Payload, PH: Words, H: Words, C>(
-    hub: &mut Hub<Q, QH, P, PH>,
+pub(crate) fn make<Q: Payload, QH: Words, P: Payload, PH: Words, H: Backpressure, C>(
+    hub: &mut Hub<Q, QH, P, PH, H>,
     alloc: Global,
     node: u64,
     role: Role,

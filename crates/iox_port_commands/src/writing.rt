@@ -10,6 +10,7 @@ ghost use Rattle.iox_port_commands.specs.Telling.{tells_want};
 use crate::answers::written;
 use crate::begins::{NOWHERE, begin};
 use crate::elements::Elements;
+use iox_hub::Backpressure;
 use iox_hub::{Asked, Hub};
 use iox_model::kind::{Kind, Role};
 use iox_model::reply::PortReply;
@@ -17,8 +18,8 @@ use iox_store::Payload;
 use iox_words::Words;
 
 /// Fills a loaned request.
-fn write_request<Q: Payload, QH: Words, P: Payload, PH: Words, C>(
-    hub: &mut Hub<Q, QH, P, PH>,
+fn write_request<Q: Payload, QH: Words, P: Payload, PH: Words, H: Backpressure, C>(
+    hub: &mut Hub<Q, QH, P, PH, H>,
     node: u64,
     number: u64,
     values: &[Q::Element],
@@ -42,8 +43,8 @@ fn write_request<Q: Payload, QH: Words, P: Payload, PH: Words, C>(
 }
 
 /// Fills a loaned response.
-fn write_response<Q: Payload, QH: Words, P: Payload, PH: Words, C>(
-    hub: &mut Hub<Q, QH, P, PH>,
+fn write_response<Q: Payload, QH: Words, P: Payload, PH: Words, H: Backpressure, C>(
+    hub: &mut Hub<Q, QH, P, PH, H>,
     node: u64,
     number: u64,
     values: &[P::Element],
@@ -67,8 +68,8 @@ fn write_response<Q: Payload, QH: Words, P: Payload, PH: Words, C>(
 }
 
 /// Fills a loan with copies of these elements, whatever was filled.
-pub(crate) fn write<Q: Payload, QH: Words, P: Payload, PH: Words, C>(
-    hub: &mut Hub<Q, QH, P, PH>,
+pub(crate) fn write<Q: Payload, QH: Words, P: Payload, PH: Words, H: Backpressure, C>(
+    hub: &mut Hub<Q, QH, P, PH, H>,
     node: u64,
     number: u64,
     payload: &Elements<Q::Element, P::Element>,
