@@ -17,6 +17,7 @@ ghost use Rattle.iceoryx2_ports.specs.declared.errors.ClientCreateError.TheVaria
 
 use crate::client::Client;
 use crate::errors::ClientCreateError;
+use iox_hub_laws::Backpressure;
 use iox_hub_laws::{Hub, NotMade, Options};
 use iox_model::kind::Role;
 use iox_store::Payload;
@@ -109,10 +110,10 @@ impl<Q: Payload, QH: Words, P: Payload, PH: Words> PortFactoryClient<Q, QH, P, P
     }
 
     /// Makes the client. Where it is refused, all stays.
-    pub fn create(
+    pub fn create<H: Backpressure>(
         self,
         alloc: Global,
-        hub: &mut Hub<Q, QH, P, PH>,
+        hub: &mut Hub<Q, QH, P, PH, H>,
     ) -> Result<Client<Q, QH, P, PH>, ClientCreateError>
         ensures whole { (x : Given) → IsHubCommand (state_of_hub x hub.old) self.node
             (Create roles.Client self.node_id (options_of self.options)) (reply_of_client result)

@@ -17,6 +17,7 @@ ghost use Rattle.iceoryx2_ports.specs.declared.errors.ServerCreateError.TheVaria
 
 use crate::errors::ServerCreateError;
 use crate::server::Server;
+use iox_hub_laws::Backpressure;
 use iox_hub_laws::{Hub, NotMade, Options};
 use iox_model::kind::Role;
 use iox_store::Payload;
@@ -121,10 +122,10 @@ impl<Q: Payload, QH: Words, P: Payload, PH: Words> PortFactoryServer<Q, QH, P, P
     }
 
     /// Makes the server. Where it is refused, all stays.
-    pub fn create(
+    pub fn create<H: Backpressure>(
         self,
         alloc: Global,
-        hub: &mut Hub<Q, QH, P, PH>,
+        hub: &mut Hub<Q, QH, P, PH, H>,
     ) -> Result<Server<Q, QH, P, PH>, ServerCreateError>
         ensures whole { (x : Given) → IsHubCommand (state_of_hub x hub.old) self.node
             (Create roles.Server self.node_id (options_of self.options)) (reply_of_server result)

@@ -18,6 +18,7 @@ ghost use Rattle.iceoryx2_ports.specs.Idling.{BringsOne};
 ghost use Rattle.iceoryx2_ports.specs.Keeping.{KeepsAsking};
 ghost use Rattle.iceoryx2_ports.specs.Reaching.{CopiesRequest, ReachesServers};
 
+use iox_hub_laws::Backpressure;
 use super::Client;
 use crate::copies::error_of_test;
 use crate::errors::{LoanError, RequestSendError, SendError};
@@ -28,9 +29,9 @@ use iox_words::Words;
 
 impl<E: Words, QH: Words, P: Payload, PH: Words> Client<One<E>, QH, P, PH> {
     /// Sends a request with that value to all servers. What servers gave back is got back first.
-    pub fn send_copy(
+    pub fn send_copy<H: Backpressure>(
         &self,
-        hub: &mut Hub<One<E>, QH, P, PH>,
+        hub: &mut Hub<One<E>, QH, P, PH, H>,
         value: E,
     ) -> Result<PendingResponse<One<E>, QH, P, PH>, RequestSendError>
         requires has { HasValue hub.old self.now.node self.now.number kinds.Client }

@@ -13,6 +13,7 @@ ghost use Rattle.iceoryx2_ports.specs.Overrides.{IsMadeWithItsPool, MadeWith};
 ghost use Rattle.iceoryx2_ports.specs.Reaching.{KeepsRoom};
 ghost use Rattle.iceoryx2_ports.specs.declared.errors.ClientCreateError.TheVariants.{FailedToDeployThreadsafetyPolicy};
 
+use iox_hub_laws::Backpressure;
 use super::PortFactoryClient;
 use crate::client::Client;
 use crate::errors::ClientCreateError;
@@ -70,10 +71,10 @@ impl<Q: Payload, QH: Words, P: Payload, PH: Words, F: Fn(usize) -> usize + Drop>
     F,
 > {
     /// Makes the client. Where it is refused, all stays.
-    pub fn create(
+    pub fn create<H: Backpressure>(
         self,
         alloc: Global,
-        hub: &mut Hub<Q, QH, P, PH>,
+        hub: &mut Hub<Q, QH, P, PH, H>,
     ) -> Result<Client<Q, QH, P, PH>, ClientCreateError>
         requires { F.IsAlwaysCallable self.closure }
         ensures whole { IsMadeWithItsPool hub.old self.node roles.Client self.id
