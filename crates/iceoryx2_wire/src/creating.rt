@@ -21,7 +21,7 @@ use iox_types::identifiers::UniqueSystemId;
 use iox_words::ZeroCopySend;
 use std::alloc::Global;
 
-impl<Q: Payload, QH: ZeroCopySend, P: Payload, PH: ZeroCopySend> Service<Q, QH, P, PH>
+impl<Q: Payload, QH: ZeroCopySend, P: Payload, PH: ZeroCopySend> Service<Q, QH, P, PH, H>
 where
     Q::Element: ZeroCopySend,
     P::Element: ZeroCopySend,
@@ -50,9 +50,9 @@ where
             let response = detail (variant_of P.MANY) P.Element.name P.Element.SIZE
             P.Element.ALIGNMENT in
             IsMade (limits_for (settings_of settings)
-            (shape_of Q.MANY Q.Element.WORDS Q.Element.words QH.words
+            (shape_of Q.MANY Q.Element.WORDS Q.Element.words Q(shown_by H.action)
             (request_shape of_requests request requests))
-            (shape_of P.MANY P.Element.WORDS P.Element.words PH.words
+            (shape_of P.MANY P.Element.WORDS P.Element.words P(shown_by H.action)
             (response_shape of_responses response responses)))
             (message_types of_requests request of_responses response)
             identity description id result }

@@ -83,7 +83,7 @@ where
     None
 }
 
-impl<Q: Payload, QH: ZeroCopySend, P: Payload, PH: ZeroCopySend> Service<Q, QH, P, PH>
+impl<Q: Payload, QH: ZeroCopySend, P: Payload, PH: ZeroCopySend> Service<Q, QH, P, PH, H>
 where
     Q::Element: ZeroCopySend,
     P::Element: ZeroCopySend,

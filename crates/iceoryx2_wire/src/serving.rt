@@ -11,6 +11,7 @@ ghost use Rattle.iceoryx2_wire.specs.Serving.{IsRunOf, MayFindNoMemory, WantsToG
 
 use crate::opener::Opener;
 use crate::service::Service;
+use iox_service_laws::Backpressure;
 use iox_attributes::AttributeVerificationError;
 use iox_model::command::Command;
 use iox_model::reply::{Refusal, Reply};
@@ -45,22 +46,22 @@ fn compared<'a, Q, P, H>(
     }
 }
 
-impl<Q: Payload, QH: Words, P: Payload, PH: Words> Service<Q, QH, P, PH> {
+impl<Q: Payload, QH: Words, P: Payload, PH: Words, H: Backpressure> Service<Q, QH, P, PH, H> {
     /// Answers a command, where there is memory for it. Its replies are those of the machine with
     /// memory. It fails only where there is none for a join, for a port, for what is read, for a
     /// message that must grow or for a listing, and changes nothing then.
     ///
     /// For a port that is too large or has a handler, a service never has memory. Nor has it for a
     /// join once 2^64 - 1 nodes joined.
-    pub fn try_serve<'a, H: Words>(
+    pub fn try_serve<'a>(
         &mut self,
         alloc: Global,
         command: Command<Elements<Q::Element, P::Element>, H, &'a Opener>,
     ) -> Result<Reply<Vec<u64>, AttributeVerificationError<'a>>, AllocError>
         ensures answered { IfOk result (λ reply. IsAnsweredWithMemory Q.Element.words
-            P.Element.words H.words self.old.description (service_of self.old) command.entry reply
+            P.Element.words (shown_by H.action) self.old.description (service_of self.old) command.entry reply
             (service_of self.new)) }
-        ensures wanting { OnErr result (MayFindNoMemory Q.Element.words P.Element.words H.words
+        ensures wanting { OnErr result (MayFindNoMemory Q.Element.words P.Element.words (shown_by H.action)
             self.old.description (service_of self.old) command.entry) }
         ensures says { self.new.description ≡ self.old.description }
         ensures identity { self.new.identity ≡ self.old.identity }
@@ -74,16 +75,16 @@ impl<Q: Payload, QH: Words, P: Payload, PH: Words> Service<Q, QH, P, PH> {
     /// itself, as by `open`. It fails only for want of memory for a listing, and changes nothing
     /// then. Want of memory for a join, for a port, for a read and for a message that must grow
     /// is a reply, as the machine has it; no other command is told so.
-    pub fn serve<'a, H: Words>(
+    pub fn serve<'a>(
         &mut self,
         alloc: Global,
         command: Command<Elements<Q::Element, P::Element>, H, &'a Opener>,
     ) -> Result<Reply<Vec<u64>, AttributeVerificationError<'a>>, AllocError>
-        ensures answered { IfOk result (λ reply. IsAnswered Q.Element.words P.Element.words H.words
+        ensures answered { IfOk result (λ reply. IsAnswered Q.Element.words P.Element.words (shown_by H.action)
             self.old.description (service_of self.old) command.entry reply (service_of self.new)) }
         ensures want { IfOk result (λ reply. WantsRightly command.entry reply) }
         ensures grows { IfOk result (λ reply. WantsToGrowFor Q.Element.words P.Element.words
-            H.words self.old.description (service_of self.old) command.entry reply) }
+            (shown_by H.action) self.old.description (service_of self.old) command.entry reply) }
         ensures says { self.new.description ≡ self.old.description }
         ensures identity { self.new.identity ≡ self.old.identity }
         ensures unchanged { OnErr result (self.new ≡ self.old) }
@@ -96,16 +97,16 @@ impl<Q: Payload, QH: Words, P: Payload, PH: Words> Service<Q, QH, P, PH> {
     }
 
     /// The same of any command, at a greater cost for one of a port or a handle.
-    fn serve_compared<'a, H: Words>(
+    fn serve_compared<'a>(
         &mut self,
         alloc: Global,
         command: Command<Elements<Q::Element, P::Element>, H, &'a Opener>,
     ) -> Result<Reply<Vec<u64>, AttributeVerificationError<'a>>, AllocError>
-        ensures answered { IfOk result (λ reply. IsAnswered Q.Element.words P.Element.words H.words
+        ensures answered { IfOk result (λ reply. IsAnswered Q.Element.words P.Element.words (shown_by H.action)
             self.old.description (service_of self.old) command.entry reply (service_of self.new)) }
         ensures want { IfOk result (λ reply. WantsRightly command.entry reply) }
         ensures grows { IfOk result (λ reply. WantsToGrowFor Q.Element.words P.Element.words
-            H.words self.old.description (service_of self.old) command.entry reply) }
+            (shown_by H.action) self.old.description (service_of self.old) command.entry reply) }
         ensures says { self.new.description ≡ self.old.description }
         ensures identity { self.new.identity ≡ self.old.identity }
         ensures unchanged { OnErr result (self.new ≡ self.old) }
@@ -119,13 +120,13 @@ impl<Q: Payload, QH: Words, P: Payload, PH: Words> Service<Q, QH, P, PH> {
     /// the command whose reply finds no room, and before a listing for which there is no memory;
     /// what was answered until then stays. So where there is room for one reply more, the command
     /// before which it ends is a listing.
-    pub fn run<'a, H: Words>(
+    pub fn run<'a>(
         &mut self,
         alloc: Global,
         commands: Vec<Command<Elements<Q::Element, P::Element>, H, &'a Opener>>,
         replies: &mut Vec<Reply<Vec<u64>, AttributeVerificationError<'a>>>,
     ) -> Result<(), AllocError>
-        ensures ran { IsRunOf Q.Element.words P.Element.words H.words self.old.description
+        ensures ran { IsRunOf Q.Element.words P.Element.words (shown_by H.action) self.old.description
             (service_of self.old) commands.entry.items replies.old.items replies.new.items
             (service_of self.new) }
         ensures says { self.new.description ≡ self.old.description }

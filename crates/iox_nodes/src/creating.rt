@@ -10,6 +10,7 @@ ghost use Rattle.iox_nodes.specs.Shown.{limits_for, service_of};
 ghost use Rattle.iox_nodes.specs.Served.{IsCreated};
 
 use crate::service::Service;
+use iox_port_commands::Backpressure;
 use iox_members::Members;
 use iox_model::reply::Refusal;
 use iox_port_commands::{Hub, MessageShape, Settings};
@@ -29,7 +30,7 @@ fn is_too_large(settings: &Settings) -> bool
     settings.clients > MOST || (settings.servers > MOST || settings.nodes > MOST)
 }
 
-impl<Q: Payload, QH: Words, P: Payload, PH: Words> Service<Q, QH, P, PH> {
+impl<Q: Payload, QH: Words, P: Payload, PH: Words, H: Backpressure> Service<Q, QH, P, PH, H> {
     /// The service of that number, with its first node, which has number 0 and that id. `asked` is
     /// the first of the creator's tests by types that fails, if one does. A limit of 0 is raised to
     /// 1, and no port keeps messages of ports that are gone.
@@ -50,8 +51,8 @@ impl<Q: Payload, QH: Words, P: Payload, PH: Words> Service<Q, QH, P, PH> {
         requires request_default { IsSome request.default }
         requires response_default { IsSome response.default }
         ensures { IsCreated (limits_for (settings_of settings)
-            (shape_of Q.MANY Q.Element.WORDS Q.Element.words QH.words request)
-            (shape_of P.MANY P.Element.WORDS P.Element.words PH.words response)) id asked result }
+            (shape_of Q.MANY Q.Element.WORDS Q.Element.words Q(shown_by H.action) request)
+            (shape_of P.MANY P.Element.WORDS P.Element.words P(shown_by H.action) response)) id asked result }
     {
         let Ok(own) = UniqueNodeId::new(id) else {
             return Err(Refusal::InvalidNodeId);
@@ -86,8 +87,8 @@ impl<Q: Payload, QH: Words, P: Payload, PH: Words> Service<Q, QH, P, PH> {
             → is_too_large (limits_for (settings_of settings) request response) ≡ false }
         ensures { IfOk result (λ service. service_of service
             ≡ created (limits_for (settings_of settings)
-            (shape_of Q.MANY Q.Element.WORDS Q.Element.words QH.words request)
-            (shape_of P.MANY P.Element.WORDS P.Element.words PH.words response)) follow id) }
+            (shape_of Q.MANY Q.Element.WORDS Q.Element.words Q(shown_by H.action) request)
+            (shape_of P.MANY P.Element.WORDS P.Element.words P(shown_by H.action) response)) follow id) }
     {
         let hub = Hub::new(alloc, settings, request, response)?;
         hub.is_in_order();

@@ -10,6 +10,7 @@ ghost use Rattle.iox_nodes.specs.Shown.{service_of};
 
 use crate::asks::{is_making, want_of};
 use crate::service::Service;
+use iox_port_commands::Backpressure;
 use iox_model::command::Command;
 use iox_model::reply::{Refusal, Reply};
 use iox_port_commands::Elements;
@@ -48,21 +49,21 @@ fn refusal_for_want<P, H, V, C>(command: &Command<P, H, V>) -> Option<Refusal<C>
     }
 }
 
-impl<Q: Payload, QH: Words, P: Payload, PH: Words> Service<Q, QH, P, PH> {
+impl<Q: Payload, QH: Words, P: Payload, PH: Words, H: Backpressure> Service<Q, QH, P, PH, H> {
     /// Answers a command, where there is memory for it. Its replies are those of the machine with
     /// memory. It fails only where there is none for a join, for a port, for what is read, for a
     /// message that must grow or for a listing, and changes nothing then.
     ///
     /// For a port that is too large or has a handler, a service never has memory. Nor has it for a
     /// join once 2^64 - 1 nodes joined, or where what is asked says `WantOfMemory` itself.
-    pub fn try_serve<H: Words, C: Copy>(
+    pub fn try_serve<C: Copy>(
         &mut self,
         alloc: Global,
         command: Command<Elements<Q::Element, P::Element>, H, Option<Refusal<C>>>,
     ) -> Result<Reply<Vec<u64>, C>, AllocError>
         ensures answered { IfOk result (λ reply. IsAnsweredWithMemory Q.Element.words
-            P.Element.words H.words (service_of self.old) command reply (service_of self.new)) }
-        ensures wanting { OnErr result (MayFindNoMemory Q.Element.words P.Element.words H.words
+            P.Element.words (shown_by H.action) (service_of self.old) command reply (service_of self.new)) }
+        ensures wanting { OnErr result (MayFindNoMemory Q.Element.words P.Element.words (shown_by H.action)
             (service_of self.old) command) }
         ensures unchanged { OnErr result (self.new ≡ self.old) }
     {
@@ -81,16 +82,16 @@ impl<Q: Payload, QH: Words, P: Payload, PH: Words> Service<Q, QH, P, PH> {
     /// Answers a command. It fails only for want of memory for a listing, and changes nothing then.
     /// Want of memory for a join, for a port, for a read and for a message that must grow is a reply,
     /// as the machine has it; no other command is told so.
-    pub fn serve<H: Words, C: Copy>(
+    pub fn serve<C: Copy>(
         &mut self,
         alloc: Global,
         command: Command<Elements<Q::Element, P::Element>, H, Option<Refusal<C>>>,
     ) -> Result<Reply<Vec<u64>, C>, AllocError>
-        ensures answered { IfOk result (λ reply. IsAnswered Q.Element.words P.Element.words H.words
+        ensures answered { IfOk result (λ reply. IsAnswered Q.Element.words P.Element.words (shown_by H.action)
             (service_of self.old) command reply (service_of self.new)) }
         ensures want { IfOk result (λ reply. WantsRightly command reply) }
         ensures grows { IfOk result (λ reply. WantsToGrowFor Q.Element.words P.Element.words
-            H.words (service_of self.old) command reply) }
+            (shown_by H.action) (service_of self.old) command reply) }
         ensures unchanged { OnErr result (self.new ≡ self.old) }
         ensures listing { OnErr result (is_listing command ≡ true) }
     {
@@ -101,16 +102,16 @@ impl<Q: Payload, QH: Words, P: Payload, PH: Words> Service<Q, QH, P, PH> {
     }
 
     /// The same of any command, at a greater cost for one of a port or a handle.
-    fn serve_other<H: Words, C: Copy>(
+    fn serve_other<C: Copy>(
         &mut self,
         alloc: Global,
         command: Command<Elements<Q::Element, P::Element>, H, Option<Refusal<C>>>,
     ) -> Result<Reply<Vec<u64>, C>, AllocError>
-        ensures answered { IfOk result (λ reply. IsAnswered Q.Element.words P.Element.words H.words
+        ensures answered { IfOk result (λ reply. IsAnswered Q.Element.words P.Element.words (shown_by H.action)
             (service_of self.old) command reply (service_of self.new)) }
         ensures want { IfOk result (λ reply. WantsRightly command reply) }
         ensures grows { IfOk result (λ reply. WantsToGrowFor Q.Element.words P.Element.words
-            H.words (service_of self.old) command reply) }
+            (shown_by H.action) (service_of self.old) command reply) }
         ensures unchanged { OnErr result (self.new ≡ self.old) }
         ensures listing { OnErr result (is_listing command ≡ true) }
     {
@@ -128,13 +129,13 @@ impl<Q: Payload, QH: Words, P: Payload, PH: Words> Service<Q, QH, P, PH> {
     /// the command whose reply finds no room, and before a listing for which there is no memory;
     /// what was answered until then stays. So where there is room for one reply more, the command
     /// before which it ends is a listing.
-    pub fn run<H: Words, C: Copy>(
+    pub fn run<C: Copy>(
         &mut self,
         alloc: Global,
         commands: Vec<Command<Elements<Q::Element, P::Element>, H, Option<Refusal<C>>>>,
         replies: &mut Vec<Reply<Vec<u64>, C>>,
     ) -> Result<(), AllocError>
-        ensures ran { IsRunOf Q.Element.words P.Element.words H.words (service_of self.old)
+        ensures ran { IsRunOf Q.Element.words P.Element.words (shown_by H.action) (service_of self.old)
             commands.items replies.old.items replies.new.items (service_of self.new) }
         ensures whole { OnOk result (vec_len replies.new ≡ vec_len replies.old + vec_len commands) }
         ensures short { OnErr result
