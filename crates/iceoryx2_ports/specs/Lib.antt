@@ -16,6 +16,7 @@ pub use Rattle.iox_tables.specs.HubLoans.Counts
 pub use Rattle.iox_tables.specs.HubStates.States
 pub use Rattle.iox_hub_laws.specs.Copying
 pub use Rattle.iox_hub_laws.specs.Fillings
+pub use Rattle.iox_hub_laws.specs.HandlerWords
 pub use Rattle.iox_hub_laws.specs.Headers as HubHeaders
 pub use Rattle.iox_hub_laws.specs.Hubs
 pub use Rattle.iox_hub_laws.specs.Keeping as HubKeeping

@@ -41,7 +41,7 @@ pub use errors::{
     ServerCreateError,
 };
 pub use iox_hub_laws::{
-    Hub, MessageShape, Part, PreallocatedRequestsOverride, PreallocatedResponseOverride, Settings,
+    Always, Backpressure, BackpressureAction, BackpressureInfo, Hub, MessageShape, Part, PreallocatedRequestsOverride, PreallocatedResponseOverride, Settings,
     default_settings,
 };
 pub use iox_model::command::{PortCommand, PortOptions};

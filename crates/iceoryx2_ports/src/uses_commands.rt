@@ -10,8 +10,8 @@ use crate::{ApplyCommand, Client, Elements, Hub, LoanError, One, PortCommand, Po
 use std::alloc::Global;
 use std::convert::Infallible;
 
-/// What a hub of numbers is asked by number. A handler would be a number.
-type Command = PortCommand<Elements<u64, u64>, u64>;
+/// What a hub of numbers is asked by number. Its ports have no handlers.
+type Command = PortCommand<Elements<u64, u64>, ()>;
 
 /// Whatever the number names, a command is one whole call of the machine. It is not refused for want
 /// of memory.

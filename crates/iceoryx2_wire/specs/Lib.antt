@@ -17,6 +17,7 @@ pub use Rattle.iox_model.specs.declared.reply.Reply
 pub use Rattle.iox_members.specs.Registering
 pub use Rattle.iox_members.specs.Registers
 pub use Rattle.iox_members.specs.Steps
+pub use Rattle.iox_service_laws.specs.HandlerWords
 pub use Rattle.iox_service_laws.specs.Settings
 pub use Rattle.iox_service_laws.specs.Listings
 pub use Rattle.iox_service_laws.specs.Shapes

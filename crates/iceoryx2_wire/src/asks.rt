@@ -4,6 +4,7 @@ ghost use Rattle.iox_attributes.specs.declared.verification_error.AttributeVerif
 ghost use Rattle.iox_model.specs.declared.command.Command.TheVariants.{Port};
 ghost use Rattle.iox_service_laws.specs.Memory.{PortWantsRightly, WantsToGrowFor};
 ghost use Rattle.iox_service_laws.specs.Served.{IsPortAnswered};
+ghost use Rattle.iox_service_laws.specs.HandlerWords.{shown_by};
 ghost use Rattle.iceoryx2_wire.specs.Services.{service_of};
 
 use crate::service::Service;

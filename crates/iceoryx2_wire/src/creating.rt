@@ -12,6 +12,7 @@ use crate::defaults::Defaults;
 use crate::identity::ServiceIdentity;
 use crate::own_types::creator_refusal;
 use crate::service::Service;
+use iox_service_laws::Backpressure;
 use iox_attributes::AttributeVerificationError;
 use iox_model::reply::Refusal;
 use iox_openers::ServiceDescription;
@@ -21,7 +22,7 @@ use iox_types::identifiers::UniqueSystemId;
 use iox_words::ZeroCopySend;
 use std::alloc::Global;
 
-impl<Q: Payload, QH: ZeroCopySend, P: Payload, PH: ZeroCopySend> Service<Q, QH, P, PH, H>
+impl<Q: Payload, QH: ZeroCopySend, P: Payload, PH: ZeroCopySend, H: Backpressure> Service<Q, QH, P, PH, H>
 where
     Q::Element: ZeroCopySend,
     P::Element: ZeroCopySend,
@@ -50,9 +51,9 @@ where
             let response = detail (variant_of P.MANY) P.Element.name P.Element.SIZE
             P.Element.ALIGNMENT in
             IsMade (limits_for (settings_of settings)
-            (shape_of Q.MANY Q.Element.WORDS Q.Element.words Q(shown_by H.action)
+            (shape_of Q.MANY Q.Element.WORDS Q.Element.words QH.words
             (request_shape of_requests request requests))
-            (shape_of P.MANY P.Element.WORDS P.Element.words P(shown_by H.action)
+            (shape_of P.MANY P.Element.WORDS P.Element.words PH.words
             (response_shape of_responses response responses)))
             (message_types of_requests request of_responses response)
             identity description id result }

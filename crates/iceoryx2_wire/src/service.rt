@@ -21,7 +21,7 @@ use std::marker::Model;
 /// It shows a state of the machine that copies messages (`service_of`). Which one it is, and what
 /// it says of itself, never changes.
 #[derive(Drop)]
-pub struct Service<Q: Payload, QH: Words, P: Payload, PH: Words, H: Backpressure> {
+pub struct Service<Q: Payload, QH: Words, P: Payload, PH: Words, H: Backpressure = ()> {
     pub(crate) identity: ServiceIdentity,
     pub(crate) description: ServiceDescription,
     pub(crate) nodes: iox_service_laws::Service<Q, QH, P, PH, H>,

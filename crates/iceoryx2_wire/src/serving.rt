@@ -5,6 +5,7 @@ ghost use Rattle.iox_openers.specs.Causes.{cause_of};
 ghost use Rattle.iox_service_laws.specs.Given.{command_given, is_listing};
 ghost use Rattle.iox_service_laws.specs.Memory.{WantsRightly};
 ghost use Rattle.iox_service_laws.specs.Served.{IsListingAt};
+ghost use Rattle.iox_service_laws.specs.HandlerWords.{shown_by};
 ghost use Rattle.iceoryx2_wire.specs.Services.{service_of};
 ghost use Rattle.iceoryx2_wire.specs.Serving.{IsAnswered, IsAnsweredWithMemory, IsGivenAs};
 ghost use Rattle.iceoryx2_wire.specs.Serving.{IsRunOf, MayFindNoMemory, WantsToGrowFor};

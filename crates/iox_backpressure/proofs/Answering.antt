@@ -8,7 +8,7 @@ use Rattle.iox_types.specs.declared.backpressure.BackpressureStrategy.{Backpress
 use Rattle.iox_model.specs.declared.backpressure.BackpressureAction.{BackpressureAction}
 use Rattle.iox_model.specs.declared.backpressure.BackpressureAction.TheVariants.{DiscardData, DiscardDataAndFail, FollowBackpressureStrategy}
 use Rattle.iox_model.specs.Settings.{fails_by}
-use Rattle.iox_backpressure.specs.Answers.{action_of, answer_in, number_of, shown_by, words_for, words_of}
+use Rattle.iox_backpressure.specs.Answers.{action_of, action_in, number_of, shown_by, words_for, words_of}
 use Rattle.iox_backpressure.specs.Failing.{fails_with}
 
 read_back : (a : BackpressureAction) → action_of (number_of a) ≡ a
@@ -18,8 +18,8 @@ read_back DiscardDataAndFail = refl
 
 -- among so many words
 answer_among : (n : ℕ) (action : ℕ → ℕ → BackpressureAction) (sender receiver : ℕ) → receiver < 2 ^ 64 → sender * 2 ^ 64 + receiver < n
-    → answer_in (words_for n action) sender receiver ≡ action sender receiver
-unfolding answer_in words_for
+    → action_in (words_for n action) sender receiver ≡ action sender receiver
+unfolding action_in words_for
 answer_among n action sender receiver r within =
     let high : (sender * 2 ^ 64 + receiver) / 2 ^ 64 ≡ sender = omega arith in
     let low : (sender * 2 ^ 64 + receiver) % 2 ^ 64 ≡ receiver = omega arith in
@@ -30,7 +30,7 @@ answer_among n action sender receiver r within =
 
 -- among its words, for two ports
 pub answer_is : (action : ℕ → ℕ → BackpressureAction) (sender receiver : ℕ) → sender < 2 ^ 64 → receiver < 2 ^ 64
-    → answer_in (words_of action) sender receiver ≡ action sender receiver
+    → action_in (words_of action) sender receiver ≡ action sender receiver
 unfolding words_of
 answer_is action sender receiver s r = answer_among (2 ^ 128) action sender receiver r (omega arith)
 

@@ -27,9 +27,13 @@ unfoldable pub words_of : (ℕ → ℕ → BackpressureAction) → List ℕ
 words_of action = words_for (2 ^ 128) action
 
 -- what a handler of these words answers for this sender and this receiver
-unfoldable pub answer_in : List ℕ → ℕ → ℕ → BackpressureAction
-answer_in words sender receiver = action_of (slice_index words (sender * 2 ^ 64 + receiver))
+unfoldable pub action_in : List ℕ → ℕ → ℕ → BackpressureAction
+action_in words sender receiver = action_of (slice_index words (sender * 2 ^ 64 + receiver))
 
 -- the words of a handler, where handlers answer so
 abbrev pub shown_by : {H : Type 0} → (H → ℕ → ℕ → BackpressureAction) → H → List ℕ
 shown_by action handler = words_of (action handler)
+
+-- what a handler answers that always follows the port's strategy
+abbrev pub following : {H : Type 0} → H → ℕ → ℕ → BackpressureAction
+following handler sender receiver = FollowBackpressureStrategy

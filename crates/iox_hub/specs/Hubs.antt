@@ -11,7 +11,7 @@ use Rattle.iox_tables.specs.HubLoans.Questions.{kind_in}
 use Rattle.iox_control.specs.Controls.{ControlState, IsControl}
 use Rattle.iox_control.specs.declared.received.Received.{Received}
 use Rattle.iox_control.specs.declared.received.Received.TheVariants.{Handle, Nothing, AtLimit}
-use Rattle.iox_backpressure.specs.Answers.{answer_in}
+use Rattle.iox_backpressure.specs.Answers.{action_in}
 use Rattle.iox_backpressure.specs.Failing.{fails_with}
 use Rattle.iox_backpressure.specs.Handlers.{PortWords, handler_in}
 use Rattle.iox_hub.specs.Fits.{WordsFit}
@@ -33,7 +33,7 @@ with_control h c = record h { control = c }
 -- what a hub gives beside its tables: its handlers, its shapes, and the words of its messages
 abbrev pub given_by : Given → HubState → Given
 given_by x h = record x {
-  acts = answer_in;
+  acts = action_in;
   handler = handler_in h.handlers;
   request = h.request;
   response = h.response;
@@ -50,7 +50,7 @@ state_of_hub x h = state_shown (given_by x h) h.control.tables
 abbrev pub nothing_given : HubState → Given
 nothing_given h = record {
   members = record { nodes = []; joins = 0; closed = false };
-  acts = answer_in;
+  acts = action_in;
   handler = handler_in h.handlers;
   request = h.request;
   response = h.response;

@@ -23,7 +23,7 @@ pub(crate) struct ByHandler<H> {
 impl<H: Backpressure> WhenFull for ByHandler<H> {
     ghost fails = { λ by way.
         fails_with (option_map (shown_by H.action) by.handler) by.strategy way.sender
-            way.receiver };
+        way.receiver };
 
     fn fails(&self, way: Way) -> bool {
         fails(self.handler, self.strategy, way.sender, way.receiver)

@@ -28,9 +28,7 @@ use crate::growing::let_go;
 use crate::hub::Hub;
 use crate::lending::asked_of;
 use iox_backpressure::Backpressure;
-use iox_control_request_copies::{
-    Answered, Copied, LoanRefusal, Place,
-};
+use iox_control_request_copies::{Answered, Copied, LoanRefusal, Place};
 use iox_store::{Payload, Spare};
 use iox_words::Words;
 

@@ -16,7 +16,7 @@ pub use histories::{
     messages_come_in_order, messages_were_sent,
 };
 pub use iox_hub::{
-    Answered, Copied, Hub, Lent, LoanRefusal, MessageHeader, MessageShape, NotMade, Options, Part,
+    Always, Answered, Backpressure, BackpressureAction, BackpressureInfo, Copied, Hub, Lent, LoanRefusal, MessageHeader, MessageShape, NotMade, Options, Part,
     PreallocatedRequestsOverride, PreallocatedResponseOverride, Received, Requested, Responded,
     Settings, Written, default_settings,
 };

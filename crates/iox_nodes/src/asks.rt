@@ -4,6 +4,7 @@ ghost use Rattle.iox_model.specs.declared.command.Command.TheVariants.{Port};
 ghost use Rattle.iox_model.specs.Handles.{has};
 ghost use Rattle.iox_nodes.specs.Memory.{IsAnsweredWithMemory, MayFindNoMemory, PortWantsRightly};
 ghost use Rattle.iox_nodes.specs.Memory.{WantsToGrowFor, want_of};
+ghost use Rattle.iox_port_commands.specs.HandlerWords.{shown_by};
 ghost use Rattle.iox_nodes.specs.Served.{IsPortAnswered};
 ghost use Rattle.iox_nodes.specs.Shown.{service_of};
 ghost use Rattle.iox_port_commands.specs.Asking.{is_making};

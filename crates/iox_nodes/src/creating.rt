@@ -1,7 +1,7 @@
 //! A service is made.
 ghost use Rattle.std.specs.Prelude.{◌≡◌, IfOk, IsSome, false, true};
 ghost use Rattle.iox_types.specs.Identifiers.{is_node_id};
-ghost use Rattle.iox_model.specs.Defaults.{follow};
+ghost use Rattle.iox_port_commands.specs.HandlerWords.{action_in};
 ghost use Rattle.iox_model.specs.Runs.{created, is_too_large};
 ghost use Rattle.iox_model.specs.Settings.{Shape};
 ghost use Rattle.iox_port_commands.specs.Settings.{settings_of};
@@ -51,8 +51,8 @@ impl<Q: Payload, QH: Words, P: Payload, PH: Words, H: Backpressure> Service<Q, Q
         requires request_default { IsSome request.default }
         requires response_default { IsSome response.default }
         ensures { IsCreated (limits_for (settings_of settings)
-            (shape_of Q.MANY Q.Element.WORDS Q.Element.words Q(shown_by H.action) request)
-            (shape_of P.MANY P.Element.WORDS P.Element.words P(shown_by H.action) response)) id asked result }
+            (shape_of Q.MANY Q.Element.WORDS Q.Element.words QH.words request)
+            (shape_of P.MANY P.Element.WORDS P.Element.words PH.words response)) id asked result }
     {
         let Ok(own) = UniqueNodeId::new(id) else {
             return Err(Refusal::InvalidNodeId);
@@ -87,8 +87,8 @@ impl<Q: Payload, QH: Words, P: Payload, PH: Words, H: Backpressure> Service<Q, Q
             → is_too_large (limits_for (settings_of settings) request response) ≡ false }
         ensures { IfOk result (λ service. service_of service
             ≡ created (limits_for (settings_of settings)
-            (shape_of Q.MANY Q.Element.WORDS Q.Element.words Q(shown_by H.action) request)
-            (shape_of P.MANY P.Element.WORDS P.Element.words P(shown_by H.action) response)) follow id) }
+            (shape_of Q.MANY Q.Element.WORDS Q.Element.words QH.words request)
+            (shape_of P.MANY P.Element.WORDS P.Element.words PH.words response)) action_in id) }
     {
         let hub = Hub::new(alloc, settings, request, response)?;
         hub.is_in_order();

@@ -12,12 +12,13 @@ use iox_words::Words;
 use std::marker::Model;
 
 /// A service: its nodes and all their ports, with requests of `Q` and user headers `QH`, and with
-/// responses of `P` and user headers `PH`.
+/// responses of `P` and user headers `PH`. Ports may have handlers of `H`; where they have none, it
+/// is the unit.
 ///
 /// It shows a state of the machine that copies messages (`service_of`). The machine can reach it by
 /// what the service's own nodes asked, so each law of the machine holds of it.
 #[derive(Drop)]
-pub struct Service<Q: Payload, QH: Words, P: Payload, PH: Words, H: Backpressure> {
+pub struct Service<Q: Payload, QH: Words, P: Payload, PH: Words, H: Backpressure = ()> {
     pub(crate) members: Members,
     pub(crate) hub: Hub<Q, QH, P, PH, H>,
 }

@@ -5,6 +5,7 @@ ghost use Rattle.iox_model.specs.declared.reply.Reply.TheVariants as replies;
 ghost use Rattle.iox_nodes.specs.Given.{is_listing, reply_to};
 ghost use Rattle.iox_nodes.specs.Memory.{IsAnsweredWithMemory, MayFindNoMemory, WantsRightly};
 ghost use Rattle.iox_nodes.specs.Memory.{WantsToGrowFor, refusal_for_want};
+ghost use Rattle.iox_port_commands.specs.HandlerWords.{shown_by};
 ghost use Rattle.iox_nodes.specs.Served.{IsAnswered, IsListingAt, IsRunOf};
 ghost use Rattle.iox_nodes.specs.Shown.{service_of};
 
@@ -54,7 +55,7 @@ impl<Q: Payload, QH: Words, P: Payload, PH: Words, H: Backpressure> Service<Q, Q
     /// memory. It fails only where there is none for a join, for a port, for what is read, for a
     /// message that must grow or for a listing, and changes nothing then.
     ///
-    /// For a port that is too large or has a handler, a service never has memory. Nor has it for a
+    /// For a port that is too large, a service never has memory. Nor has it for a
     /// join once 2^64 - 1 nodes joined, or where what is asked says `WantOfMemory` itself.
     pub fn try_serve<C: Copy>(
         &mut self,

@@ -22,23 +22,3 @@ pub wanting : (old new : HubState) (node : ℕ) (role : Role) (id : UniqueSystem
     → LacksMemory old node (Create role id o) new
 wanting old new node role id o reason is whole x =
     subst (λ (r : NotMade). IsHubCommand (state_of_hub x old) node (Create role id o) (Refused (refusal_of role r)) (state_of_hub x new)) is (whole x)
-
-none_so : {H : Type 0} (words : H → List ℕ) (h : Option H) → is_some h ≡ false → None ≡ option_map words h
-none_so words None e = refl
-none_so words (Some h) e = absurd (true≢false e)
-
--- these options, with that handler
-abbrev pub handled : {H : Type 0} → the_options.PortOptions H → Option (List ℕ) → Options
-handled o h = record {
-  max_slice_len = o.max_slice_len;
-  pool = o.pool;
-  strategy = o.strategy;
-  allocation = o.allocation;
-  loaned_responses = o.loaned_responses;
-  handler = h;
-}
-
--- options with no handler are those of a hub
-pub without_handler : {H : Type 0} (words : H → List ℕ) (o : the_options.PortOptions H) → is_some o.handler ≡ false
-    → handled o None ≡ options_for words o
-without_handler words o e = ap (handled o) (none_so words o.handler e)

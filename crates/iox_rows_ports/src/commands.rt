@@ -5,6 +5,7 @@ ghost use Rattle.iox_port_commands.specs.Applying.{HaveDefaults};
 
 mod exchanges;
 mod growing;
+mod handlers;
 mod limits;
 mod names;
 mod numbers;
@@ -15,7 +16,9 @@ use crate::expected::equal;
 use iox_control::Settings;
 use iox_model::command::{PortCommand, PortOptions};
 use iox_model::reply::{PortReply, Refusal};
-use iox_port_commands::{Elements, Hub, MessageShape, Part, apply};
+use iox_port_commands::{
+    Always, BackpressureAction, Elements, Hub, MessageShape, Part, apply,
+};
 use iox_store::{Many, One};
 use iox_types::identifiers::{UniqueNodeId, UniqueSystemId};
 use iox_types::{AllocationStrategy, BackpressureStrategy};
@@ -24,10 +27,10 @@ use std::convert::Infallible;
 use std::process::Abort;
 use std::test::Fail;
 
-type TheHub = Hub<Many<u64>, u32, One<u64>, ()>;
+type TheHub = Hub<Many<u64>, u32, One<u64>, (), Always>;
 
-/// A command; a handler would be a number.
-type Command = PortCommand<Elements<u64, u64>, u64>;
+/// A command; a handler has one answer.
+type Command = PortCommand<Elements<u64, u64>, Always>;
 
 /// What is told, without the lists.
 #[derive(Clone, Copy, Debug, PartialEq, Eq)]
@@ -72,7 +75,7 @@ const PART: Part = Part {
     alignment: 8,
 };
 
-const OPTIONS: PortOptions<u64> = PortOptions {
+const OPTIONS: PortOptions<Always> = PortOptions {
     max_slice_len: 2,
     pool: None,
     strategy: None,
@@ -138,7 +141,8 @@ enum Given {
     Allocation(AllocationStrategy),
     /// So many messages, which grow.
     GrowingPool(u64),
-    Handler,
+    /// What its handler answers, and its strategy.
+    Handler(BackpressureAction, BackpressureStrategy),
 }
 
 /// What a node asks.
@@ -169,7 +173,7 @@ enum Asked {
 type Row = (u64, Asked, Told);
 
 /// The options where this is given.
-fn options(given: Given) -> PortOptions<u64> {
+fn options(given: Given) -> PortOptions<Always> {
     match given {
         Given::Nothing => OPTIONS,
         Given::Longest(max_slice_len) => PortOptions {
@@ -189,8 +193,9 @@ fn options(given: Given) -> PortOptions<u64> {
             allocation: Some(AllocationStrategy::BestFit),
             ..OPTIONS
         },
-        Given::Handler => PortOptions {
-            handler: Some(1),
+        Given::Handler(action, strategy) => PortOptions {
+            handler: Some(Always { action }),
+            strategy: Some(strategy),
             ..OPTIONS
         },
     }

@@ -9,7 +9,7 @@ use Rattle.iox_types.specs.Identifiers.{is_node_id}
 use Rattle.iox_model.specs.declared.reply.Refusal.TheVariants as refusals
 use Rattle.iox_model.specs.declared.reply.Reply.TheVariants as replies
 use Rattle.iox_model.specs.Commands.{Refusal, Reply}
-use Rattle.iox_model.specs.Defaults.{follow}
+use Rattle.iox_nodes.specs.HandlerWords.{action_in}
 use Rattle.iox_model.specs.Maps.{or_else, refused_if}
 use Rattle.iox_model.specs.Runs.{MakesUnless, created, creation_refusal, is_too_large}
 use Rattle.iox_model.specs.Settings.{Limits}
@@ -30,10 +30,10 @@ use Rattle.iox_session.specs.Shown.{IsOfScript}
 -- ---- what is made
 
 first_by : (q : Option Refusal) (requests responses : Bool) (id : UniqueSystemId) (s : State)
-    → MakesUnless q (created (limits_with requests responses) follow id) (replies.Node 0) (Some s) → IsOfScript s
+    → MakesUnless q (created (limits_with requests responses) action_in id) (replies.Node 0) (Some s) → IsOfScript s
 first_by (Some r) requests responses id s made = let e : replies.Node 0 ≡ replies.Refused r = made.0 in absurd (cc)
 first_by None requests responses id s made =
-    let first : s ≡ created (limits_with requests responses) follow id = same_Some s (created (limits_with requests responses) follow id) made.1 in
+    let first : s ≡ created (limits_with requests responses) action_in id = same_Some s (created (limits_with requests responses) action_in id) made.1 in
     record {
       limits = (requests, responses, ap (λ (t : State). t.fixed.limits) first);
       still = ap (λ (t : State). list_any (λ (p : Port). p.grows) t.fixed.ports) first;
@@ -60,11 +60,11 @@ not_wanted (Err refusals.WantOfMemory) quiet e = true≢false quiet
 not_wanted (Err r) quiet e = absurd (cc)
 
 made_so : (l : Limits) (id : UniqueSystemId) (result : Result ServiceTables ServiceRefusal) → is_wanting result ≡ false
-    → nodes.IsCreated l id None result → MakesUnless (creation_refusal l id None true) (created l follow id) (answer result) (made_in result)
+    → nodes.IsCreated l id None result → MakesUnless (creation_refusal l id None true) (created l action_in id) (answer result) (made_in result)
 made_so l id result quiet made = step (made no_cause).0 (is_node_id id) (is_too_large l) (made no_cause).1
   where
-    step : (memory valid large : Bool) → MakesUnless (Refuses valid large memory) (created l follow id) (answer result) (made_in result)
-        → MakesUnless (Refuses valid large true) (created l follow id) (answer result) (made_in result)
+    step : (memory valid large : Bool) → MakesUnless (Refuses valid large memory) (created l action_in id) (answer result) (made_in result)
+        → MakesUnless (Refuses valid large true) (created l action_in id) (answer result) (made_in result)
     step true valid large m = m
     step false false large m = m
     step false true true m = m

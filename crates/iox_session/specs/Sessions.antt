@@ -11,7 +11,7 @@ use Rattle.iox_model.specs.declared.reply.Reply.TheVariants.{Done}
 use Rattle.iox_model.specs.Runs.{MakesUnless, created, creation_refusal}
 use Rattle.iox_model.specs.Settings.{Limits}
 use Rattle.iox_model.specs.States.{State}
-use Rattle.iox_model.specs.Defaults.{follow}
+use Rattle.iox_nodes.specs.HandlerWords.{action_in}
 use Rattle.iox_nodes.specs.Memory.{IsDoneWithMemory}
 use Rattle.iox_script.specs.declared.command.Key.{Key}
 use Rattle.iox_script.specs.declared.command.Key.TheVariants.{RequestOverflow, ResponseOverflow}
@@ -90,7 +90,7 @@ pub record IsMade (l : Limits) (id : UniqueSystemId) (reply : ScriptReply) (made
   pub answer : ServiceReply
   pub told : reply ≡ answers.Service answer
   pub creation :
-      MakesUnless (creation_refusal l id None true) (created l follow id) (reply_given answer) made
+      MakesUnless (creation_refusal l id None true) (created l action_in id) (reply_given answer) made
 
 -- a creation of a service: it is refused by its name, or it is the machine's creation of one with
 -- its first node
