@@ -6,7 +6,8 @@ use Rattle.std.specs.declared.convert.Infallible.{Infallible}
 use Rattle.std.specs.declared.vec.Vec.{Vec}
 use Rattle.std.proofs.Common.{ap, subst, sym, true≢false, ◌∙◌}
 use Rattle.std.proofs.lemmas.Option.{none-some, same_Some}
-use Rattle.iox_words.specs.Numbers.{no_word, one_word}
+use Rattle.iox_words.specs.Numbers.{one_word}
+use Rattle.iox_nodes.specs.HandlerWords.{following, shown_by}
 use Rattle.iox_types.specs.declared.identifiers.system_id.UniqueSystemId.{UniqueSystemId}
 use Rattle.iox_model.specs.declared.call.Call.TheVariants as calls
 use Rattle.iox_model.specs.declared.command.Command as the_command
@@ -219,13 +220,13 @@ of_script_after v v' command c (Err e) asks said done stays of = subst (λ w. Is
 -- the same, of what a service says of its answer
 pub done_so : {Z E : Type 0} (s s' : State) (c : the_command.Command (Elements ℕ ℕ) (Unit {0}) (Option (the_refusal.Refusal Infallible)))
     (r : Result (the_reply.Reply (Vec ℕ Z) Infallible) E)
-    → IfOk r (λ reply. IsAnsweredWithMemory one_word one_word no_word s c reply s')
-    → IfOk r (λ reply. IsDoneWithMemory s (command_given one_word one_word no_word no_cause c) (nodes.reply_given no_cause reply) s')
+    → IfOk r (λ reply. IsAnsweredWithMemory one_word one_word (shown_by following) s c reply s')
+    → IfOk r (λ reply. IsDoneWithMemory s (command_given one_word one_word (shown_by following) no_cause c) (nodes.reply_given no_cause reply) s')
 done_so s s' c (Ok reply) answered = answered no_cause
 done_so s s' c (Err e) answered = tt
 
 pub lacks_so : {Z E : Type 0} (s : State) (c : the_command.Command (Elements ℕ ℕ) (Unit {0}) (Option (the_refusal.Refusal Infallible)))
     (r : Result (the_reply.Reply (Vec ℕ Z) Infallible) E)
-    → OnErr r (MayFindNoMemory {C = Infallible} one_word one_word no_word s c) → OnErr r (MayLackMemory s (command_given one_word one_word no_word no_cause c))
+    → OnErr r (MayFindNoMemory {C = Infallible} one_word one_word (shown_by following) s c) → OnErr r (MayLackMemory s (command_given one_word one_word (shown_by following) no_cause c))
 lacks_so s c (Ok reply) lacks = tt
 lacks_so s c (Err e) lacks = lacks no_cause

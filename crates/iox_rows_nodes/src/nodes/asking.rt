@@ -7,12 +7,12 @@ use iox_nodes::Elements;
 use iox_types::identifiers::UniqueNodeId;
 use std::alloc::{AllocError, Global};
 
-/// A command; a handler would be a number.
-pub(super) type Command = command::Command<Elements<u64, u64>, u64, Option<Refusal<u64>>>;
+/// A command; ports have no handlers.
+pub(super) type Command = command::Command<Elements<u64, u64>, (), Option<Refusal<u64>>>;
 
-type AtPort = PortCommand<Elements<u64, u64>, u64>;
+type AtPort = PortCommand<Elements<u64, u64>, ()>;
 
-const OPTIONS: PortOptions<u64> = PortOptions {
+const OPTIONS: PortOptions<()> = PortOptions {
     max_slice_len: 1,
     pool: None,
     strategy: None,
