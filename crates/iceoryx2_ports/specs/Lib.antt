@@ -3,6 +3,7 @@ pub use Rattle.iox_model.specs.Commands
 pub use Rattle.iox_model.specs.Makings as MachineMakings
 pub use Rattle.iox_model.specs.Messages
 pub use Rattle.iox_model.specs.WholeCalls
+pub use Rattle.iox_model.specs.declared.backpressure.BackpressureAction
 pub use Rattle.iox_model.specs.declared.call.Call
 pub use Rattle.iox_model.specs.declared.kind.Kind
 pub use Rattle.iox_model.specs.declared.kind.Role

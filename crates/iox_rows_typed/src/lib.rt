@@ -16,6 +16,8 @@ mod fillings;
 #[cfg(test)]
 mod growing;
 #[cfg(test)]
+mod handlers;
+#[cfg(test)]
 mod long_requests;
 #[cfg(test)]
 mod overrides;
