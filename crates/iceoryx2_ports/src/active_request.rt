@@ -35,8 +35,7 @@ use crate::headers::request_header;
 use crate::loans::lend_response;
 use crate::releases::release_handle;
 use crate::response_mut::{ResponseMut, ResponseMutUninit};
-use iox_hub_laws::Backpressure;
-use iox_hub_laws::Hub;
+use iox_hub_laws::{Backpressure, Hub};
 use iox_model::kind::Kind;
 use iox_store::{Many, One, Payload};
 use iox_types::RequestHeader;
@@ -84,7 +83,10 @@ impl<Q: Payload, QH: Words, P: Payload, PH: Words> ActiveRequest<Q, QH, P, PH> {
     }
 
     /// The first element of the request, if it has one.
-    pub fn first<'a, H: Backpressure>(&self, hub: &'a Hub<Q, QH, P, PH, H>) -> Option<&'a Q::Element>
+    pub fn first<'a, H: Backpressure>(
+        &self,
+        hub: &'a Hub<Q, QH, P, PH, H>,
+    ) -> Option<&'a Q::Element>
         requires has { HasValue hub.now self.now.node self.now.number kinds.ActiveRequest }
         ensures words { IfSome result (λ element.
             BeginsWith (message_in hub.now self.now.node self.now.number).payload
@@ -110,7 +112,10 @@ impl<Q: Payload, QH: Words, P: Payload, PH: Words> ActiveRequest<Q, QH, P, PH> {
     }
 
     /// The header of the request. It fails where its client was made for an id that no node has.
-    pub fn header<H: Backpressure>(&self, hub: &Hub<Q, QH, P, PH, H>) -> Result<RequestHeader, UniqueNodeIdError>
+    pub fn header<H: Backpressure>(
+        &self,
+        hub: &Hub<Q, QH, P, PH, H>,
+    ) -> Result<RequestHeader, UniqueNodeIdError>
         requires has { HasValue hub.now self.now.node self.now.number kinds.ActiveRequest }
         ensures header { result ≡ request_header_of
             (header_in hub.now self.now.node self.now.number) }

@@ -30,8 +30,7 @@ use crate::errors::{ConnectionFailure, LoanError};
 use crate::loans::lend_request;
 use crate::releases::release_port;
 use crate::request_mut::{RequestMut, RequestMutUninit};
-use iox_hub_laws::Backpressure;
-use iox_hub_laws::Hub;
+use iox_hub_laws::{Backpressure, Hub};
 use iox_model::kind::Kind;
 use iox_store::{Many, One, Payload};
 use iox_types::BackpressureStrategy;
@@ -71,7 +70,10 @@ impl<Q: Payload, QH: Words, P: Payload, PH: Words> Client<Q, QH, P, PH> {
     }
 
     /// What it does at a full server.
-    pub fn backpressure_strategy<H: Backpressure>(&self, hub: &Hub<Q, QH, P, PH, H>) -> BackpressureStrategy
+    pub fn backpressure_strategy<H: Backpressure>(
+        &self,
+        hub: &Hub<Q, QH, P, PH, H>,
+    ) -> BackpressureStrategy
         requires has { HasValue hub.now self.now.node self.now.number kinds.Client }
         ensures { (x : Given) → option_map (λ p. p.strategy)
             (port_at (state_of_hub x hub.now).fixed self.now.number) ≡ Some result }
@@ -89,7 +91,10 @@ impl<Q: Payload, QH: Words, P: Payload, PH: Words> Client<Q, QH, P, PH> {
     }
 
     /// Does nothing: ports are connected as they are made.
-    pub fn update_connections<H: Backpressure>(&self, _hub: &Hub<Q, QH, P, PH, H>) -> Result<(), ConnectionFailure>
+    pub fn update_connections<H: Backpressure>(
+        &self,
+        _hub: &Hub<Q, QH, P, PH, H>,
+    ) -> Result<(), ConnectionFailure>
         requires has { HasValue _hub.now self.now.node self.now.number kinds.Client }
         ensures { IsOk result }
     {

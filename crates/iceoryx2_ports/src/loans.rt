@@ -24,8 +24,7 @@ ghost use Rattle.iceoryx2_ports.specs.declared.errors.LoanError.TheVariants.{Out
 ghost use Rattle.iceoryx2_ports.specs.declared.errors.LoanError.TheVariants.{WantOfMemory};
 
 use crate::errors::LoanError;
-use iox_hub_laws::Backpressure;
-use iox_hub_laws::{Hub, Lent, LoanRefusal};
+use iox_hub_laws::{Backpressure, Hub, Lent, LoanRefusal};
 use iox_store::Payload;
 use iox_words::Words;
 

@@ -27,8 +27,7 @@ use crate::errors::ReceiveError;
 use crate::headers::request_header;
 use crate::releases::release_handle;
 use crate::response::Response;
-use iox_hub_laws::Backpressure;
-use iox_hub_laws::{Hub, Received, receive_response};
+use iox_hub_laws::{Backpressure, Hub, Received, receive_response};
 use iox_model::kind::Kind;
 use iox_store::Payload;
 use iox_types::RequestHeader;
@@ -165,7 +164,10 @@ impl<Q: Payload, QH: Words, P: Payload, PH: Words> PendingResponse<Q, QH, P, PH>
     }
 
     /// The header of the request. It fails where its client was made for an id that no node has.
-    pub fn header<H: Backpressure>(&self, hub: &Hub<Q, QH, P, PH, H>) -> Result<RequestHeader, UniqueNodeIdError>
+    pub fn header<H: Backpressure>(
+        &self,
+        hub: &Hub<Q, QH, P, PH, H>,
+    ) -> Result<RequestHeader, UniqueNodeIdError>
         requires has { HasValue hub.now self.now.node self.now.number kinds.PendingResponse }
         ensures header { result ≡ request_header_of
             (header_in hub.now self.now.node self.now.number) }

@@ -19,8 +19,7 @@ ghost use Rattle.iceoryx2_ports.specs.declared.errors.ClientCreateError.TheVaria
 
 use crate::client::Client;
 use crate::errors::ClientCreateError;
-use iox_hub_laws::Backpressure;
-use iox_hub_laws::{Hub, NotMade, Options};
+use iox_hub_laws::{Backpressure, Hub, NotMade, Options};
 use iox_model::kind::Role;
 use iox_store::Payload;
 use iox_types::identifiers::UniqueSystemId;
@@ -45,7 +44,13 @@ pub struct PortFactoryClient<Q, QH, P, PH, H = ()> {
     of: PhantomData<(Q, QH, P, PH)>,
 }
 
-impl<Q: Payload, QH: Words, P: Payload, PH: Words, H: Backpressure> PortFactoryClient<Q, QH, P, PH, H> {
+impl<Q: Payload, QH: Words, P: Payload, PH: Words, H: Backpressure> PortFactoryClient<
+    Q,
+    QH,
+    P,
+    PH,
+    H,
+> {
     /// A client of this node, whose messages have at most one element.
     pub fn new(node: u64, node_id: UniqueSystemId) -> Self
         ensures node { result.node ≡ node }
@@ -151,7 +156,14 @@ impl<Q: Payload, QH: Words, P: Payload, PH: Words, H: Backpressure> PortFactoryC
         ensures refused { IfErr result (λ error. error ≢ FailedToDeployThreadsafetyPolicy) }
     {
         hub.is_in_order();
-        match hub.make_port(alloc, self.node, Role::Client, self.node_id, self.options, self.handler) {
+        match hub.make_port(
+            alloc,
+            self.node,
+            Role::Client,
+            self.node_id,
+            self.options,
+            self.handler,
+        ) {
             Ok(number) => {
                 hub.is_in_order();
                 Ok(Client::new(self.node, number))

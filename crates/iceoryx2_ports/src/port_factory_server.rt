@@ -19,8 +19,7 @@ ghost use Rattle.iceoryx2_ports.specs.declared.errors.ServerCreateError.TheVaria
 
 use crate::errors::ServerCreateError;
 use crate::server::Server;
-use iox_hub_laws::Backpressure;
-use iox_hub_laws::{Hub, NotMade, Options};
+use iox_hub_laws::{Backpressure, Hub, NotMade, Options};
 use iox_model::kind::Role;
 use iox_store::Payload;
 use iox_types::identifiers::UniqueSystemId;
@@ -45,7 +44,13 @@ pub struct PortFactoryServer<Q, QH, P, PH, H = ()> {
     of: PhantomData<(Q, QH, P, PH)>,
 }
 
-impl<Q: Payload, QH: Words, P: Payload, PH: Words, H: Backpressure> PortFactoryServer<Q, QH, P, PH, H> {
+impl<Q: Payload, QH: Words, P: Payload, PH: Words, H: Backpressure> PortFactoryServer<
+    Q,
+    QH,
+    P,
+    PH,
+    H,
+> {
     /// A server of this node, whose messages have at most one element.
     pub fn new(node: u64, node_id: UniqueSystemId) -> Self
         ensures node { result.node ≡ node }
@@ -161,7 +166,14 @@ impl<Q: Payload, QH: Words, P: Payload, PH: Words, H: Backpressure> PortFactoryS
         ensures refused { IfErr result (λ error. error ≢ FailedToDeployThreadsafetyPolicy) }
     {
         hub.is_in_order();
-        match hub.make_port(alloc, self.node, Role::Server, self.node_id, self.options, self.handler) {
+        match hub.make_port(
+            alloc,
+            self.node,
+            Role::Server,
+            self.node_id,
+            self.options,
+            self.handler,
+        ) {
             Ok(number) => Ok(Server::new(self.node, number)),
             Err(NotMade::PortTag) => Err(ServerCreateError::UnableToCreatePortTag),
             Err(NotMade::DataSegment) => Err(ServerCreateError::UnableToCreateDataSegment),

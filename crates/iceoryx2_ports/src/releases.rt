@@ -6,8 +6,7 @@ ghost use Rattle.iceoryx2_ports.specs.Idling.{GivesBack};
 ghost use Rattle.iceoryx2_ports.specs.Releases.{IsReleased};
 ghost use Rattle.iceoryx2_ports.specs.Rooms.{GivesRoomBack};
 
-use iox_hub_laws::Backpressure;
-use iox_hub_laws::Hub;
+use iox_hub_laws::{Backpressure, Hub};
 use iox_model::kind::Kind;
 use iox_store::Payload;
 use iox_words::Words;

@@ -33,8 +33,7 @@ use crate::errors::{RequestSendError, SendError};
 use crate::headers::request_header;
 use crate::pending_response::PendingResponse;
 use crate::releases::release_handle;
-use iox_hub_laws::Backpressure;
-use iox_hub_laws::{Hub, Requested, Written, send_request};
+use iox_hub_laws::{Backpressure, Hub, Requested, Written, send_request};
 use iox_model::kind::Kind;
 use iox_store::{One, Payload};
 use iox_types::RequestHeader;
@@ -125,7 +124,10 @@ impl<Q: Payload, QH: Words, P: Payload, PH: Words> RequestMutUninit<Q, QH, P, PH
     }
 
     /// The header of the request. It fails where its client was made for an id that no node has.
-    pub fn header<H: Backpressure>(&self, hub: &Hub<Q, QH, P, PH, H>) -> Result<RequestHeader, UniqueNodeIdError>
+    pub fn header<H: Backpressure>(
+        &self,
+        hub: &Hub<Q, QH, P, PH, H>,
+    ) -> Result<RequestHeader, UniqueNodeIdError>
         requires has { HasValue hub.now self.now.node self.now.number kinds.RequestMutUninit }
         ensures header { result ≡ request_header_of
             (header_in hub.now self.now.node self.now.number) }
@@ -243,7 +245,10 @@ impl<Q: Payload, QH: Words, P: Payload, PH: Words> RequestMut<Q, QH, P, PH> {
     }
 
     /// The header of the request. It fails where its client was made for an id that no node has.
-    pub fn header<H: Backpressure>(&self, hub: &Hub<Q, QH, P, PH, H>) -> Result<RequestHeader, UniqueNodeIdError>
+    pub fn header<H: Backpressure>(
+        &self,
+        hub: &Hub<Q, QH, P, PH, H>,
+    ) -> Result<RequestHeader, UniqueNodeIdError>
         requires has { HasValue hub.now self.now.node self.now.number kinds.RequestMut }
         ensures header { result ≡ request_header_of
             (header_in hub.now self.now.node self.now.number) }

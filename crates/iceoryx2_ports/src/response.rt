@@ -16,8 +16,7 @@ ghost use Rattle.iceoryx2_ports.specs.Rooms.{GivesRoomBack};
 
 use crate::headers::response_header;
 use crate::releases::release_handle;
-use iox_hub_laws::Backpressure;
-use iox_hub_laws::Hub;
+use iox_hub_laws::{Backpressure, Hub};
 use iox_model::kind::Kind;
 use iox_store::Payload;
 use iox_types::ResponseHeader;
@@ -63,7 +62,10 @@ impl<Q: Payload, QH: Words, P: Payload, PH: Words> Response<Q, QH, P, PH> {
     }
 
     /// The first element of the response, if it has one.
-    pub fn first<'a, H: Backpressure>(&self, hub: &'a Hub<Q, QH, P, PH, H>) -> Option<&'a P::Element>
+    pub fn first<'a, H: Backpressure>(
+        &self,
+        hub: &'a Hub<Q, QH, P, PH, H>,
+    ) -> Option<&'a P::Element>
         requires has { HasValue hub.now self.now.node self.now.number kinds.Response }
         ensures words { IfSome result (λ element.
             BeginsWith (message_in hub.now self.now.node self.now.number).payload
@@ -89,7 +91,10 @@ impl<Q: Payload, QH: Words, P: Payload, PH: Words> Response<Q, QH, P, PH> {
     }
 
     /// The header of the response. It fails where its server was made for an id that no node has.
-    pub fn header<H: Backpressure>(&self, hub: &Hub<Q, QH, P, PH, H>) -> Result<ResponseHeader, UniqueNodeIdError>
+    pub fn header<H: Backpressure>(
+        &self,
+        hub: &Hub<Q, QH, P, PH, H>,
+    ) -> Result<ResponseHeader, UniqueNodeIdError>
         requires has { HasValue hub.now self.now.node self.now.number kinds.Response }
         ensures header { result ≡ response_header_of
             (header_in hub.now self.now.node self.now.number) }

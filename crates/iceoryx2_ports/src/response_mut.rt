@@ -31,8 +31,7 @@ mod payloads;
 use crate::errors::SendError;
 use crate::headers::response_header;
 use crate::releases::release_handle;
-use iox_hub_laws::Backpressure;
-use iox_hub_laws::{Hub, Responded, Written, send_response};
+use iox_hub_laws::{Backpressure, Hub, Responded, Written, send_response};
 use iox_model::kind::Kind;
 use iox_store::{One, Payload};
 use iox_types::ResponseHeader;
@@ -123,7 +122,10 @@ impl<Q: Payload, QH: Words, P: Payload, PH: Words> ResponseMutUninit<Q, QH, P, P
     }
 
     /// The header of the response. It fails where its server was made for an id that no node has.
-    pub fn header<H: Backpressure>(&self, hub: &Hub<Q, QH, P, PH, H>) -> Result<ResponseHeader, UniqueNodeIdError>
+    pub fn header<H: Backpressure>(
+        &self,
+        hub: &Hub<Q, QH, P, PH, H>,
+    ) -> Result<ResponseHeader, UniqueNodeIdError>
         requires has { HasValue hub.now self.now.node self.now.number kinds.ResponseMutUninit }
         ensures header { result ≡ response_header_of
             (header_in hub.now self.now.node self.now.number) }
@@ -242,7 +244,10 @@ impl<Q: Payload, QH: Words, P: Payload, PH: Words> ResponseMut<Q, QH, P, PH> {
     }
 
     /// The header of the response. It fails where its server was made for an id that no node has.
-    pub fn header<H: Backpressure>(&self, hub: &Hub<Q, QH, P, PH, H>) -> Result<ResponseHeader, UniqueNodeIdError>
+    pub fn header<H: Backpressure>(
+        &self,
+        hub: &Hub<Q, QH, P, PH, H>,
+    ) -> Result<ResponseHeader, UniqueNodeIdError>
         requires has { HasValue hub.now self.now.node self.now.number kinds.ResponseMut }
         ensures header { result ≡ response_header_of
             (header_in hub.now self.now.node self.now.number) }

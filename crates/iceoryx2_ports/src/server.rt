@@ -26,8 +26,7 @@ ghost use Rattle.iceoryx2_ports.specs.declared.errors.ReceiveError.TheVariants.{
 use crate::active_request::ActiveRequest;
 use crate::errors::{ConnectionFailure, ReceiveError};
 use crate::releases::release_port;
-use iox_hub_laws::Backpressure;
-use iox_hub_laws::{Hub, Received, receive_request};
+use iox_hub_laws::{Backpressure, Hub, Received, receive_request};
 use iox_model::kind::Kind;
 use iox_store::Payload;
 use iox_types::BackpressureStrategy;
@@ -99,7 +98,10 @@ impl<Q: Payload, QH: Words, P: Payload, PH: Words> Server<Q, QH, P, PH> {
     }
 
     /// Whether a request waits. It may be one that is skipped, so that nothing is received then.
-    pub fn has_requests<H: Backpressure>(&self, hub: &Hub<Q, QH, P, PH, H>) -> Result<bool, ConnectionFailure>
+    pub fn has_requests<H: Backpressure>(
+        &self,
+        hub: &Hub<Q, QH, P, PH, H>,
+    ) -> Result<bool, ConnectionFailure>
         requires has { HasValue hub.now self.now.node self.now.number kinds.Server }
         ensures whole { IfOk result (λ waits. (x : Given)
             → IsWholeCall (state_of_hub x hub.now) self.now.node
@@ -119,7 +121,10 @@ impl<Q: Payload, QH: Words, P: Payload, PH: Words> Server<Q, QH, P, PH> {
     }
 
     /// What it does at a full client.
-    pub fn backpressure_strategy<H: Backpressure>(&self, hub: &Hub<Q, QH, P, PH, H>) -> BackpressureStrategy
+    pub fn backpressure_strategy<H: Backpressure>(
+        &self,
+        hub: &Hub<Q, QH, P, PH, H>,
+    ) -> BackpressureStrategy
         requires has { HasValue hub.now self.now.node self.now.number kinds.Server }
         ensures { (x : Given) → option_map (λ p. p.strategy)
             (port_at (state_of_hub x hub.now).fixed self.now.number) ≡ Some result }
@@ -137,7 +142,10 @@ impl<Q: Payload, QH: Words, P: Payload, PH: Words> Server<Q, QH, P, PH> {
     }
 
     /// Does nothing: ports are connected as they are made.
-    pub fn update_connections<H: Backpressure>(&self, _hub: &Hub<Q, QH, P, PH, H>) -> Result<(), ConnectionFailure>
+    pub fn update_connections<H: Backpressure>(
+        &self,
+        _hub: &Hub<Q, QH, P, PH, H>,
+    ) -> Result<(), ConnectionFailure>
         requires has { HasValue _hub.now self.now.node self.now.number kinds.Server }
         ensures { IsOk result }
     {

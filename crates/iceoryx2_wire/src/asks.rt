@@ -8,11 +8,10 @@ ghost use Rattle.iox_service_laws.specs.HandlerWords.{shown_by};
 ghost use Rattle.iceoryx2_wire.specs.Services.{service_of};
 
 use crate::service::Service;
-use iox_service_laws::Backpressure;
 use iox_attributes::AttributeVerificationError;
 use iox_model::command::PortCommand;
 use iox_model::reply::Reply;
-use iox_service_laws::Elements;
+use iox_service_laws::{Backpressure, Elements};
 use iox_store::Payload;
 use iox_words::Words;
 use std::alloc::Global;

@@ -5,10 +5,10 @@ ghost use Rattle.iox_service_laws.specs.Served.{IsDone};
 ghost use Rattle.iceoryx2_wire.specs.Services.{IsOpened, service_of};
 
 use crate::service::Service;
-use iox_service_laws::Backpressure;
 use iox_attributes::{AttributeVerificationError, AttributeVerifier};
 use iox_model::reply::Refusal;
 use iox_openers::MessageTypes;
+use iox_service_laws::Backpressure;
 use iox_store::Payload;
 use iox_types::identifiers::UniqueSystemId;
 use iox_words::Words;

@@ -8,10 +8,10 @@ ghost use Rattle.iox_openers.specs.Openers.{IsAskedOfCreator};
 ghost use Rattle.iceoryx2_wire.specs.OwnTypes.{message, message_types, variant_of};
 
 use crate::service::Service;
-use iox_service_laws::Backpressure;
 use iox_attributes::AttributeVerificationError;
 use iox_model::reply::Refusal;
 use iox_openers::MessageTypes;
+use iox_service_laws::Backpressure;
 use iox_store::Payload;
 use iox_types::{
     MessageTypeDetails, RequestHeader, ResponseHeader, TypeDetail, TypeDetailError, TypeVariant,
@@ -84,7 +84,13 @@ where
     None
 }
 
-impl<Q: Payload, QH: ZeroCopySend, P: Payload, PH: ZeroCopySend, H: Backpressure> Service<Q, QH, P, PH, H>
+impl<Q: Payload, QH: ZeroCopySend, P: Payload, PH: ZeroCopySend, H: Backpressure> Service<
+    Q,
+    QH,
+    P,
+    PH,
+    H,
+>
 where
     Q::Element: ZeroCopySend,
     P::Element: ZeroCopySend,

@@ -5,10 +5,10 @@ ghost use Rattle.iox_model.specs.Runs.{IsServed};
 ghost use Rattle.iceoryx2_wire.specs.Services.{service_of};
 
 use crate::identity::ServiceIdentity;
-use iox_service_laws::Backpressure;
 use iox_members::Nodes;
 use iox_names::ServiceName;
 use iox_openers::ServiceDescription;
+use iox_service_laws::Backpressure;
 use iox_store::Payload;
 use iox_words::Words;
 use std::fmt;
@@ -27,7 +27,8 @@ pub struct Service<Q: Payload, QH: Words, P: Payload, PH: Words, H: Backpressure
     pub(crate) nodes: iox_service_laws::Service<Q, QH, P, PH, H>,
 }
 
-impl<Q: Payload, QH: Words, P: Payload, PH: Words, H: Backpressure> Model for Service<Q, QH, P, PH, H> {
+impl<Q: Payload, QH: Words, P: Payload, PH: Words, H: Backpressure> Model
+    for Service<Q, QH, P, PH, H> {
     ghost use Rattle.iceoryx2_wire.specs.Services.{DescribedService};
 
     ghost Value = { DescribedService };
@@ -40,7 +41,8 @@ impl<Q: Payload, QH: Words, P: Payload, PH: Words, H: Backpressure> Model for Se
 }
 
 /// Its name and its number alone, since its tables are long.
-impl<Q: Payload, QH: Words, P: Payload, PH: Words, H: Backpressure> fmt::Debug for Service<Q, QH, P, PH, H> {
+impl<Q: Payload, QH: Words, P: Payload, PH: Words, H: Backpressure> fmt::Debug
+    for Service<Q, QH, P, PH, H> {
     fn fmt<W: fmt::Write>(&self, f: &mut fmt::Formatter<W>) -> fmt::Result {
         let ServiceIdentity { name, number } = &self.identity;
         write!(f, "Service {{ name: {name:?}, number: {number}, .. }}")

@@ -12,12 +12,11 @@ ghost use Rattle.iceoryx2_wire.specs.Serving.{IsRunOf, MayFindNoMemory, WantsToG
 
 use crate::opener::Opener;
 use crate::service::Service;
-use iox_service_laws::Backpressure;
 use iox_attributes::AttributeVerificationError;
 use iox_model::command::Command;
 use iox_model::reply::{Refusal, Reply};
 use iox_openers::ServiceDescription;
-use iox_service_laws::Elements;
+use iox_service_laws::{Backpressure, Elements};
 use iox_store::Payload;
 use iox_words::Words;
 use std::alloc::{AllocError, Global};

@@ -19,8 +19,7 @@ ghost use Rattle.iox_hub.specs.Keeping.{KeepsAll};
 ghost use Rattle.iox_hub.specs.Lending.{payload_of};
 ghost use Rattle.iox_hub_laws.specs.Sends.{BringsOnly, BringsResponseCopy};
 
-use iox_hub::Backpressure;
-use iox_hub::{Answered, Copied, Hub};
+use iox_hub::{Answered, Backpressure, Copied, Hub};
 use iox_store::Payload;
 use iox_words::Words;
 

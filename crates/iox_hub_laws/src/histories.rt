@@ -5,8 +5,7 @@ ghost use Rattle.iox_hub_laws.specs.Histories.{AreAsDelivered, ComeAtMostOnce, C
 ghost use Rattle.iox_hub_laws.specs.Histories.{ComeAtTheirRequest};
 ghost use Rattle.iox_hub_laws.specs.Histories.{WereSent};
 
-use iox_hub::Backpressure;
-use iox_hub::Hub;
+use iox_hub::{Backpressure, Hub};
 use iox_store::Payload;
 use iox_words::Words;
 
@@ -21,7 +20,9 @@ pub fn messages_come_at_most_once<Q: Payload, QH: Words, P: Payload, PH: Words, 
 }
 
 /// On each way, what was taken and what still waits comes in the order of delivery, whole.
-pub fn messages_come_in_order<Q: Payload, QH: Words, P: Payload, PH: Words, H: Backpressure>(hub: &Hub<Q, QH, P, PH, H>)
+pub fn messages_come_in_order<Q: Payload, QH: Words, P: Payload, PH: Words, H: Backpressure>(
+    hub: &Hub<Q, QH, P, PH, H>,
+)
     ensures reached { IsReached hub.now }
     ensures order { ComeInOrder hub.now }
 {
@@ -39,7 +40,9 @@ pub fn messages_are_as_delivered<Q: Payload, QH: Words, P: Payload, PH: Words, H
 }
 
 /// Each message that was delivered was sent, by some step of the same history.
-pub fn messages_were_sent<Q: Payload, QH: Words, P: Payload, PH: Words, H: Backpressure>(hub: &Hub<Q, QH, P, PH, H>)
+pub fn messages_were_sent<Q: Payload, QH: Words, P: Payload, PH: Words, H: Backpressure>(
+    hub: &Hub<Q, QH, P, PH, H>,
+)
     ensures reached { IsReached hub.now }
     ensures sent { WereSent hub.now }
 {
@@ -48,9 +51,13 @@ pub fn messages_were_sent<Q: Payload, QH: Words, P: Payload, PH: Words, H: Backp
 
 /// A response is received only at its own request. Without fire-and-forget, a server receives only
 /// requests that their clients did not give up.
-pub fn messages_come_at_their_request<Q: Payload, QH: Words, P: Payload, PH: Words, H: Backpressure>(
-    hub: &Hub<Q, QH, P, PH, H>,
-)
+pub fn messages_come_at_their_request<
+    Q: Payload,
+    QH: Words,
+    P: Payload,
+    PH: Words,
+    H: Backpressure,
+>(hub: &Hub<Q, QH, P, PH, H>)
     ensures reached { IsReached hub.now }
     ensures request { ComeAtTheirRequest hub.now }
 {

@@ -16,9 +16,10 @@ pub use histories::{
     messages_come_in_order, messages_were_sent,
 };
 pub use iox_hub::{
-    Always, Answered, Backpressure, BackpressureAction, BackpressureInfo, Copied, Hub, Lent, LoanRefusal, MessageHeader, MessageShape, NotMade, Options, Part,
-    PreallocatedRequestsOverride, PreallocatedResponseOverride, Received, Requested, Responded,
-    Settings, Written, default_settings,
+    Always, Answered, Backpressure, BackpressureAction, BackpressureInfo, Copied, Hub, Lent,
+    LoanRefusal, MessageHeader, MessageShape, NotMade, Options, Part, PreallocatedRequestsOverride,
+    PreallocatedResponseOverride, Received, Requested, Responded, Settings, Written,
+    default_settings,
 };
 pub use limits::{borrows_hold, buffers_hold, nothing_is_kept_of_the_gone, slots_are_of_holders};
 pub use loans::{lend_request, lend_response};

@@ -4,27 +4,32 @@ ghost use Rattle.iox_hub_laws.specs.Gone.{KeepsNoGone};
 ghost use Rattle.iox_hub_laws.specs.Limits.{BorrowsHold, BuffersHold};
 ghost use Rattle.iox_hub_laws.specs.Slots.{SlotsAreOfHolders};
 
-use iox_hub::Backpressure;
-use iox_hub::Hub;
+use iox_hub::{Backpressure, Hub};
 use iox_store::Payload;
 use iox_words::Words;
 
 /// On each way at most the buffer waits.
-pub fn buffers_hold<Q: Payload, QH: Words, P: Payload, PH: Words, H: Backpressure>(hub: &Hub<Q, QH, P, PH, H>)
+pub fn buffers_hold<Q: Payload, QH: Words, P: Payload, PH: Words, H: Backpressure>(
+    hub: &Hub<Q, QH, P, PH, H>,
+)
     ensures { BuffersHold hub.now.control.tables }
 {
     hub.is_in_order();
 }
 
 /// A receiver has at most as many messages of each way as it may borrow.
-pub fn borrows_hold<Q: Payload, QH: Words, P: Payload, PH: Words, H: Backpressure>(hub: &Hub<Q, QH, P, PH, H>)
+pub fn borrows_hold<Q: Payload, QH: Words, P: Payload, PH: Words, H: Backpressure>(
+    hub: &Hub<Q, QH, P, PH, H>,
+)
     ensures { BorrowsHold hub.now }
 {
     hub.is_in_order();
 }
 
 /// A slot of a pool is free exactly if nobody has its message.
-pub fn slots_are_of_holders<Q: Payload, QH: Words, P: Payload, PH: Words, H: Backpressure>(hub: &Hub<Q, QH, P, PH, H>)
+pub fn slots_are_of_holders<Q: Payload, QH: Words, P: Payload, PH: Words, H: Backpressure>(
+    hub: &Hub<Q, QH, P, PH, H>,
+)
     ensures { SlotsAreOfHolders hub.now.control.tables }
 {
     hub.is_in_order();

@@ -13,8 +13,7 @@ ghost use Rattle.iox_hub_laws.specs.Loans.{AnswersOfClient, AnswersOfRequest};
 ghost use Rattle.iox_hub_laws.specs.Loans.{LendsWithinLimits, RespondsWithinLimits};
 ghost use Rattle.iox_hub_laws.specs.Sends.{NothingComes};
 
-use iox_hub::Backpressure;
-use iox_hub::{Hub, Lent};
+use iox_hub::{Backpressure, Hub, Lent};
 use iox_store::Payload;
 use iox_words::Words;
 

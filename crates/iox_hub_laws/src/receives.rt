@@ -11,8 +11,7 @@ ghost use Rattle.iox_hub.specs.Keeping.{IsNew, KeepsAll};
 ghost use Rattle.iox_hub_laws.specs.Receives.{GetsOnly, TakesRequest, TakesResponse};
 ghost use Rattle.iox_hub_laws.specs.Waiting.{WaitedFor, WaitedForPending, client_in, server_of};
 
-use iox_hub::Backpressure;
-use iox_hub::{Hub, Received};
+use iox_hub::{Backpressure, Hub, Received};
 use iox_store::Payload;
 use iox_words::Words;
 

@@ -15,8 +15,7 @@ ghost use Rattle.iox_hub.specs.Reads.{message_in};
 ghost use Rattle.iox_hub.specs.Sending.{HasNothing, HasSent, with_words_left};
 ghost use Rattle.iox_hub_laws.specs.Sends.{BringsOnly, BringsRequest, BringsResponse};
 
-use iox_hub::Backpressure;
-use iox_hub::{Hub, Requested, Responded};
+use iox_hub::{Backpressure, Hub, Requested, Responded};
 use iox_store::Payload;
 use iox_words::Words;
 

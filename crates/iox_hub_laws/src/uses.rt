@@ -13,8 +13,7 @@ ghost use Rattle.iox_hub_laws.specs.Shown.{beats_of, handle_of};
 ghost use Rattle.iox_hub_laws.specs.Waiting.{CanCome, NothingWaits, server_of};
 
 use crate::{lend_request, lend_response, receive_request};
-use iox_hub::Backpressure;
-use iox_hub::{Hub, Lent, Received};
+use iox_hub::{Backpressure, Hub, Lent, Received};
 use iox_store::{Many, One, Payload};
 use iox_words::Words;
 

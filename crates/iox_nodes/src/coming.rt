@@ -7,8 +7,8 @@ ghost use Rattle.iox_nodes.specs.Served.{IsDone, IsJoin};
 ghost use Rattle.iox_nodes.specs.Shown.{service_of};
 
 use crate::service::Service;
-use iox_port_commands::Backpressure;
 use iox_model::reply::Refusal;
+use iox_port_commands::Backpressure;
 use iox_store::Payload;
 use iox_types::identifiers::UniqueSystemId;
 use iox_words::Words;

@@ -10,10 +10,9 @@ ghost use Rattle.iox_nodes.specs.Shown.{limits_for, service_of};
 ghost use Rattle.iox_nodes.specs.Served.{IsCreated};
 
 use crate::service::Service;
-use iox_port_commands::Backpressure;
 use iox_members::Members;
 use iox_model::reply::Refusal;
-use iox_port_commands::{Hub, MessageShape, Settings};
+use iox_port_commands::{Backpressure, Hub, MessageShape, Settings};
 use iox_store::Payload;
 use iox_types::identifiers::{UniqueNodeId, UniqueSystemId};
 use iox_words::Words;

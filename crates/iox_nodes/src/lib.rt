@@ -14,5 +14,7 @@ pub mod uses;
 
 pub use iox_members::Nodes;
 pub use iox_port_commands::{
-    Always, Backpressure, BackpressureAction, BackpressureInfo, Elements, MessageShape, Part, Settings, default_settings};
+    Always, Backpressure, BackpressureAction, BackpressureInfo, Elements, MessageShape, Part,
+    Settings, default_settings,
+};
 pub use service::Service;

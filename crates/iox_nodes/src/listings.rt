@@ -8,8 +8,8 @@ ghost use Rattle.iox_port_commands.specs.Listings.{ids_of_role};
 ghost use Rattle.iox_nodes.specs.Shown.{service_of};
 
 use crate::service::Service;
-use iox_port_commands::Backpressure;
 use iox_model::kind::Role;
+use iox_port_commands::Backpressure;
 use iox_store::Payload;
 use iox_types::identifiers::{UniqueClientId, UniqueNodeId, UniqueServerId};
 use iox_words::{CallbackProgression, Words};

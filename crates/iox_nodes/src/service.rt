@@ -4,9 +4,8 @@ ghost use Rattle.iox_model.specs.Runs.{IsServed};
 ghost use Rattle.iox_members.specs.Registering.{AreRegistered};
 ghost use Rattle.iox_nodes.specs.Shown.{service_of};
 
-use iox_port_commands::Backpressure;
 use iox_members::{Members, Nodes};
-use iox_port_commands::Hub;
+use iox_port_commands::{Backpressure, Hub};
 use iox_store::Payload;
 use iox_words::Words;
 use std::marker::Model;
@@ -23,7 +22,8 @@ pub struct Service<Q: Payload, QH: Words, P: Payload, PH: Words, H: Backpressure
     pub(crate) hub: Hub<Q, QH, P, PH, H>,
 }
 
-impl<Q: Payload, QH: Words, P: Payload, PH: Words, H: Backpressure> Model for Service<Q, QH, P, PH, H> {
+impl<Q: Payload, QH: Words, P: Payload, PH: Words, H: Backpressure> Model
+    for Service<Q, QH, P, PH, H> {
     ghost use Rattle.iox_nodes.specs.Shown.{IsServiceWithRoom, ServiceTables, tables_of};
 
     ghost Value = { ServiceTables };

@@ -11,10 +11,9 @@ ghost use Rattle.iox_nodes.specs.Shown.{service_of};
 
 use crate::asks::{is_making, want_of};
 use crate::service::Service;
-use iox_port_commands::Backpressure;
 use iox_model::command::Command;
 use iox_model::reply::{Refusal, Reply};
-use iox_port_commands::Elements;
+use iox_port_commands::{Backpressure, Elements};
 use iox_store::Payload;
 use iox_words::Words;
 use std::alloc::{AllocError, Global};

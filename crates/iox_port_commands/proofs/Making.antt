@@ -1,7 +1,6 @@
 -- Makings that lack memory, and options of the code.
-use Rattle.std.specs.Prelude.{◌≡◌, ℕ, false, List, Option, Some, None, is_some, refl}
-use Rattle.std.specs.Option.{option_map}
-use Rattle.std.proofs.Common.{subst, ap, true≢false}
+use Rattle.std.specs.Prelude.{◌≡◌, ℕ}
+use Rattle.std.proofs.Common.{subst}
 use Rattle.iox_types.specs.declared.identifiers.system_id.UniqueSystemId.{UniqueSystemId}
 use Rattle.iox_model.specs.declared.command.PortOptions as the_options
 use Rattle.iox_model.specs.declared.kind.Role.{Role}
@@ -14,7 +13,6 @@ use Rattle.iox_hub.specs.NotMade.TheVariants.{DataSegment}
 use Rattle.iox_hub.specs.MadePorts.{refusal_of}
 use Rattle.iox_hub.specs.Hubs.{HubState, state_of_hub}
 use Rattle.iox_port_commands.specs.Applying.{LacksMemory}
-use Rattle.iox_port_commands.specs.Asking.{options_for}
 
 -- a port that gets no data segment lacks memory
 pub wanting : (old new : HubState) (node : ℕ) (role : Role) (id : UniqueSystemId) (o : Options) (reason : NotMade) → reason ≡ DataSegment

@@ -9,8 +9,7 @@ ghost use Rattle.iox_port_commands.specs.Asking.{options_for};
 ghost use Rattle.iox_port_commands.specs.Telling.{tells_want};
 
 use crate::answers::{made, not_made};
-use iox_hub::Backpressure;
-use iox_hub::{Hub, Options};
+use iox_hub::{Backpressure, Hub, Options};
 use iox_model::command::PortOptions;
 use iox_model::kind::Role;
 use iox_model::reply::PortReply;
@@ -67,5 +66,13 @@ pub(crate) fn make<Q: Payload, QH: Words, P: Payload, PH: Words, H: Backpressure
         allocation: options.allocation,
         loaned_responses: options.loaned_responses,
     };
-    make_port(hub, alloc, node, role, id.system_id(), asked, options.handler)
+    make_port(
+        hub,
+        alloc,
+        node,
+        role,
+        id.system_id(),
+        asked,
+        options.handler,
+    )
 }

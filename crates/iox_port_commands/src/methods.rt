@@ -11,8 +11,7 @@ ghost use Rattle.iox_port_commands.specs.Telling.{tells_want, wants_memory, want
 
 use crate::applying::{apply, try_apply};
 use crate::elements::Elements;
-use iox_hub::Backpressure;
-use iox_hub::Hub;
+use iox_hub::{Backpressure, Hub};
 use iox_model::command::PortCommand;
 use iox_model::reply::PortReply;
 use iox_store::Payload;
@@ -70,7 +69,8 @@ pub trait ApplyCommand {
         ensures defaults { HaveDefaults (shown self.new) };
 }
 
-impl<Q: Payload, QH: Words, P: Payload, PH: Words, H: Backpressure> ApplyCommand for Hub<Q, QH, P, PH, H> {
+impl<Q: Payload, QH: Words, P: Payload, PH: Words, H: Backpressure> ApplyCommand
+    for Hub<Q, QH, P, PH, H> {
     type Request = Q::Element;
 
     type Response = P::Element;

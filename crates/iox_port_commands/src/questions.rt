@@ -5,8 +5,7 @@ ghost use Rattle.iox_port_commands.specs.Applying.{IsCalled};
 ghost use Rattle.iox_port_commands.specs.Telling.{tells_want};
 
 use crate::begins::{NOWHERE, begin};
-use iox_hub::Backpressure;
-use iox_hub::{Asked, Hub};
+use iox_hub::{Asked, Backpressure, Hub};
 use iox_model::kind::Kind;
 use iox_model::reply::PortReply;
 use iox_store::Payload;

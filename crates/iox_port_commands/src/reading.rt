@@ -8,8 +8,7 @@ ghost use Rattle.iox_port_commands.specs.Telling.{tells_want};
 
 use crate::begins::{NOWHERE, begin};
 use crate::word_lists::words_of;
-use iox_hub::Backpressure;
-use iox_hub::{Asked, Hub};
+use iox_hub::{Asked, Backpressure, Hub};
 use iox_model::kind::Kind;
 use iox_model::reply::PortReply;
 use iox_store::Payload;

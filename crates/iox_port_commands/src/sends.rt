@@ -6,8 +6,7 @@ ghost use Rattle.iox_port_commands.specs.Telling.{tells_want};
 
 use crate::answers::{requested, responded};
 use crate::begins::{NOWHERE, begin};
-use iox_hub::Backpressure;
-use iox_hub::{Asked, Hub};
+use iox_hub::{Asked, Backpressure, Hub};
 use iox_model::kind::Kind;
 use iox_model::reply::PortReply;
 use iox_store::Payload;

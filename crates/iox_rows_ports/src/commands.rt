@@ -16,9 +16,7 @@ use crate::expected::equal;
 use iox_control::Settings;
 use iox_model::command::{PortCommand, PortOptions};
 use iox_model::reply::{PortReply, Refusal};
-use iox_port_commands::{
-    Always, BackpressureAction, Elements, Hub, MessageShape, Part, apply,
-};
+use iox_port_commands::{Always, BackpressureAction, Elements, Hub, MessageShape, Part, apply};
 use iox_store::{Many, One};
 use iox_types::identifiers::{UniqueNodeId, UniqueSystemId};
 use iox_types::{AllocationStrategy, BackpressureStrategy};

@@ -91,11 +91,7 @@ fn tell(hub: &mut Numbers, client: &Asker, value: u64) -> Told {
 }
 
 /// What two requests are told at two servers, of which each has room for one.
-fn tell_two(
-    alloc: Global,
-    hub: &mut Numbers,
-    client: &Asker,
-) -> Result<(Told, Told), AllocError> {
+fn tell_two(alloc: Global, hub: &mut Numbers, client: &Asker) -> Result<(Told, Told), AllocError> {
     let Ok(first) = PortFactoryServer::new(1, NODE).create(alloc, hub) else {
         return Err(AllocError);
     };

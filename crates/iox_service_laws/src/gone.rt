@@ -4,8 +4,7 @@ ghost use Rattle.iox_nodes.specs.Shown.{service_of};
 ghost use Rattle.iox_service_laws.specs.Gone.{ClosesWithTheLastNode, KeepsNothingForTheGone};
 ghost use Rattle.iox_service_laws.specs.Gone.{TheDeadDoNothing};
 
-use iox_nodes::Backpressure;
-use iox_nodes::Service;
+use iox_nodes::{Backpressure, Service};
 use iox_store::Payload;
 use iox_words::Words;
 

@@ -5,8 +5,7 @@ ghost use Rattle.iox_nodes.specs.Shown.{service_of};
 ghost use Rattle.iox_service_laws.specs.Messages.{AreAsDelivered, ComeAtMostOnce};
 ghost use Rattle.iox_service_laws.specs.Messages.{ComeAtTheirRequest, ComeInOrder, WereSent};
 
-use iox_nodes::Backpressure;
-use iox_nodes::Service;
+use iox_nodes::{Backpressure, Service};
 use iox_store::Payload;
 use iox_words::Words;
 
@@ -52,9 +51,13 @@ pub fn messages_were_sent<Q: Payload, QH: Words, P: Payload, PH: Words, H: Backp
 
 /// A response is received only at its own request. Without fire-and-forget, a server receives only
 /// requests that their clients did not give up.
-pub fn messages_come_at_their_request<Q: Payload, QH: Words, P: Payload, PH: Words, H: Backpressure>(
-    service: &Service<Q, QH, P, PH, H>,
-)
+pub fn messages_come_at_their_request<
+    Q: Payload,
+    QH: Words,
+    P: Payload,
+    PH: Words,
+    H: Backpressure,
+>(service: &Service<Q, QH, P, PH, H>)
     ensures { ComeAtTheirRequest (service_of service.now) }
 {
     service.is_served();

@@ -18,12 +18,11 @@ ghost use Rattle.iceoryx2_ports.specs.Idling.{BringsOne};
 ghost use Rattle.iceoryx2_ports.specs.Keeping.{KeepsAsking};
 ghost use Rattle.iceoryx2_ports.specs.Reaching.{CopiesRequest, ReachesServers};
 
-use iox_hub_laws::Backpressure;
 use super::Client;
 use crate::copies::error_of_test;
 use crate::errors::{LoanError, RequestSendError, SendError};
 use crate::pending_response::PendingResponse;
-use iox_hub_laws::{Copied, Hub, copy_request};
+use iox_hub_laws::{Backpressure, Copied, Hub, copy_request};
 use iox_store::{One, Payload};
 use iox_words::Words;
 

@@ -15,12 +15,11 @@ ghost use Rattle.iceoryx2_ports.specs.Overrides.{IsMadeWithItsPool, MadeWith};
 ghost use Rattle.iceoryx2_ports.specs.Reaching.{KeepsRoom};
 ghost use Rattle.iceoryx2_ports.specs.declared.errors.ClientCreateError.TheVariants.{FailedToDeployThreadsafetyPolicy};
 
-use iox_hub_laws::Backpressure;
 use super::PortFactoryClient;
 use crate::client::Client;
 use crate::errors::ClientCreateError;
 use crate::overrides::with_pool;
-use iox_hub_laws::Hub;
+use iox_hub_laws::{Backpressure, Hub};
 use iox_model::kind::Role;
 use iox_store::Payload;
 use iox_words::Words;
@@ -46,7 +45,13 @@ impl<Q, QH, P, PH, H, F> Model for PreallocatedClient<Q, QH, P, PH, H, F> {
     } };
 }
 
-impl<Q: Payload, QH: Words, P: Payload, PH: Words, H: Backpressure> PortFactoryClient<Q, QH, P, PH, H> {
+impl<Q: Payload, QH: Words, P: Payload, PH: Words, H: Backpressure> PortFactoryClient<
+    Q,
+    QH,
+    P,
+    PH,
+    H,
+> {
     /// Lets that closure choose how many requests the client has memory for. It is asked with the
     /// most that are ever needed; what it answers is raised to 1, and lowered to that. With fewer
     /// than are needed, a loan may find no memory.
@@ -67,14 +72,14 @@ impl<Q: Payload, QH: Words, P: Payload, PH: Words, H: Backpressure> PortFactoryC
     }
 }
 
-impl<Q: Payload, QH: Words, P: Payload, PH: Words, H: Backpressure, F: Fn(usize) -> usize + Drop> PreallocatedClient<
-    Q,
-    QH,
-    P,
-    PH,
-    H,
-    F,
-> {
+impl<
+    Q: Payload,
+    QH: Words,
+    P: Payload,
+    PH: Words,
+    H: Backpressure,
+    F: Fn(usize) -> usize + Drop,
+> PreallocatedClient<Q, QH, P, PH, H, F> {
     /// Makes the client. Where it is refused, all stays.
     pub fn create(
         self,

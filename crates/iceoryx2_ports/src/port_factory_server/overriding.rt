@@ -15,12 +15,11 @@ ghost use Rattle.iceoryx2_ports.specs.Overrides.{IsMadeWithItsPool, MadeWith};
 ghost use Rattle.iceoryx2_ports.specs.Reaching.{KeepsRoom};
 ghost use Rattle.iceoryx2_ports.specs.declared.errors.ServerCreateError.TheVariants.{FailedToDeployThreadsafetyPolicy};
 
-use iox_hub_laws::Backpressure;
 use super::PortFactoryServer;
 use crate::errors::ServerCreateError;
 use crate::overrides::with_pool;
 use crate::server::Server;
-use iox_hub_laws::Hub;
+use iox_hub_laws::{Backpressure, Hub};
 use iox_model::kind::Role;
 use iox_store::Payload;
 use iox_words::Words;
@@ -46,7 +45,13 @@ impl<Q, QH, P, PH, H, F> Model for PreallocatedServer<Q, QH, P, PH, H, F> {
     } };
 }
 
-impl<Q: Payload, QH: Words, P: Payload, PH: Words, H: Backpressure> PortFactoryServer<Q, QH, P, PH, H> {
+impl<Q: Payload, QH: Words, P: Payload, PH: Words, H: Backpressure> PortFactoryServer<
+    Q,
+    QH,
+    P,
+    PH,
+    H,
+> {
     /// Lets that closure choose how many responses the server has memory for. It is asked with the
     /// most that are ever needed; what it answers is raised to 1, and lowered to that. With fewer
     /// than are needed, a loan may find no memory.
@@ -67,14 +72,14 @@ impl<Q: Payload, QH: Words, P: Payload, PH: Words, H: Backpressure> PortFactoryS
     }
 }
 
-impl<Q: Payload, QH: Words, P: Payload, PH: Words, H: Backpressure, F: Fn(usize) -> usize + Drop> PreallocatedServer<
-    Q,
-    QH,
-    P,
-    PH,
-    H,
-    F,
-> {
+impl<
+    Q: Payload,
+    QH: Words,
+    P: Payload,
+    PH: Words,
+    H: Backpressure,
+    F: Fn(usize) -> usize + Drop,
+> PreallocatedServer<Q, QH, P, PH, H, F> {
     /// Makes the server. Where it is refused, all stays.
     pub fn create(
         self,

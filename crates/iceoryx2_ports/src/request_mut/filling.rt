@@ -9,9 +9,8 @@ ghost use Rattle.iox_hub_laws.specs.Hubs.{HasValue};
 ghost use Rattle.iox_hub_laws.specs.Keeping.{HaveSameShapes, KeepsOthers};
 ghost use Rattle.iox_hub_laws.specs.Reads.{message_in};
 
-use iox_hub_laws::Backpressure;
 use super::{RequestMut, RequestMutUninit};
-use iox_hub_laws::Hub;
+use iox_hub_laws::{Backpressure, Hub};
 use iox_store::Payload;
 use iox_words::Words;
 
@@ -75,7 +74,10 @@ impl<Q: Payload, QH: Words, P: Payload, PH: Words> RequestMutUninit<Q, QH, P, PH
 
     /// The filled request, if each of its elements is filled. Else nothing changes, and the loan is
     /// given back.
-    pub fn assume_init<H: Backpressure>(self, hub: &mut Hub<Q, QH, P, PH, H>) -> Result<RequestMut<Q, QH, P, PH>, Self>
+    pub fn assume_init<H: Backpressure>(
+        self,
+        hub: &mut Hub<Q, QH, P, PH, H>,
+    ) -> Result<RequestMut<Q, QH, P, PH>, Self>
         requires has { HasValue hub.old self.node self.number kinds.RequestMutUninit }
         ensures all { IsOk result ↔ (message_in hub.old self.node self.number).filled
             ≡ (message_in hub.old self.node self.number).elements }

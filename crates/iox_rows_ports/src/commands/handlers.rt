@@ -23,7 +23,11 @@ fn second_send(
         alloc,
         &[
             (1, Asked::Server, Told::Server(0)),
-            (0, Asked::Client(Given::Handler(action, strategy)), Told::Client(1)),
+            (
+                0,
+                Asked::Client(Given::Handler(action, strategy)),
+                Told::Client(1),
+            ),
             (0, Asked::Loan(1, 1), Told::Handle(2)),
             (0, Asked::Send(2), Told::Sent(1)),
             (0, Asked::Release(2), Told::Done),
