@@ -1,3 +1,4 @@
 pub mod OpensOnOnes
 pub mod OpensOnFour
 pub mod OpensOnWide
+pub mod OpensOnUnits

@@ -4,3 +4,5 @@ pub mod Ones
 pub mod Fours
 -- a plan with reduced pools and wide messages
 pub mod Wide
+-- and one whose elements have no words
+pub mod Units

@@ -42,6 +42,8 @@ mod stops_on_returns;
 #[cfg(test)]
 mod two_servers;
 #[cfg(test)]
+mod units;
+#[cfg(test)]
 mod whole_calls;
 #[cfg(test)]
 mod wide;

@@ -23,6 +23,7 @@ pub(super) enum Ask {
     CopyResponse(u64, u64),
     /// The same of no word.
     WriteNoRequest(u64),
+    WriteNoResponse(u64),
     CopyNoRequest(u64),
     /// Of two words, as a message of that role.
     WriteTwo(u64, Role, [u64; 2]),
@@ -45,6 +46,8 @@ pub(super) enum Told {
     Sent(u64),
     Nothing,
     Answer(bool),
+    /// No word was read.
+    NoWord,
     /// One word was read.
     Word(u64),
     /// So many were read.
@@ -137,6 +140,7 @@ fn responded(reply: RespondReply) -> Told {
 /// What was read last.
 fn word_read(words: Option<&[u64]>) -> Told {
     match words {
+        Some([]) => Told::NoWord,
         Some([word]) => Told::Word(*word),
         Some([a, b, c]) => Told::Three(*a, *b, *c),
         Some([a, b, c, d]) => Told::Four(*a, *b, *c, *d),
@@ -218,6 +222,7 @@ pub(super) fn begin(wire: &mut Wire, node: u64, ask: Ask) -> Result<(), WireRefu
         Ask::WriteRequest(number, word) => writes(wire, node, number, Role::Client, &[word]),
         Ask::WriteResponse(number, word) => writes(wire, node, number, Role::Server, &[word]),
         Ask::WriteNoRequest(number) => writes(wire, node, number, Role::Client, &[]),
+        Ask::WriteNoResponse(number) => writes(wire, node, number, Role::Server, &[]),
         Ask::Send(number) => wire.begin(node, NodeCall::Send { number }),
         Ask::CopyRequest(number, word) => copies(wire, node, number, Role::Client, &[word]),
         Ask::CopyResponse(number, word) => copies(wire, node, number, Role::Server, &[word]),

@@ -1,23 +1,25 @@
 -- What the begin of a call leads to, and what is left where it is refused.
 use Rattle.std.specs.Prelude.{◌*◌, ◌%◌, ◌/◌, ◌^◌, if◌then◌else◌, option_map, position}
 use Rattle.std.specs.Option.{option_map_or}
-use Rattle.std.proofs.Common.{◌≡◌, ℕ, ◌+◌, ◌-◌, ◌<◌, ◌≤◌, ◌==◌, Bool, true, false, length, get_or, Option, None, Some, refl, ap, ap₂, sym, subst, ◌∙◌, arith, slice_set, eqb-true}
+use Rattle.std.proofs.Common.{◌≡◌, ℕ, ◌+◌, ◌-◌, ◌<◌, ◌≤◌, ◌==◌, Bool, true, false, List, length, get_or, Option, None, Some, refl, ap, ap₂, sym, subst, ◌∙◌, arith, slice_set, eqb-true, inl, inr}
+use Rattle.std.proofs.lemmas.Bool.{cases_Bool}
 use Rattle.std.proofs.Math.Nat.{div-mul-le_self, mod-eq-sub-div-mul}
 use Rattle.iox_model.specs.declared.call.WireCall.TheVariants.{Port}
-use Rattle.iox_model.specs.Commands.{WireCall}
+use Rattle.iox_model.specs.Commands.{Call, WireCall}
 use Rattle.iox_model.specs.Loans.{Choice}
 use Rattle.iox_model.specs.declared.reply.Refusal.TheVariants as refusals
 use Rattle.iox_model.specs.Maps.{or_else, refused_if}
-use Rattle.iox_model.specs.WireCalls.{in_wire_words}
-use Rattle.iox_model.specs.Settings.{shape_of}
+use Rattle.iox_model.specs.WireCalls.{elements_for, in_wire_words}
+use Rattle.iox_model.specs.Settings.{Shape, shape_of}
 use Rattle.iox_model.specs.Weaves.{Begins, begin_refusal}
 use Rattle.iox_laws.proofs.WeaveLedger.Truths.{none-some}
 use Rattle.iox_wire_weaves.specs.Aims.{MayAdd}
-use Rattle.iox_wire_weaves.specs.Asking.{BeginsCall, IsBeginRefusal}
+use Rattle.iox_wire_weaves.specs.Asking.{BeginsCall, IsBeginRefusal, asked_of}
 use Rattle.iox_wire_weaves.specs.Begins.{is_busy, misnamed_call, refusal_at}
 use Rattle.iox_wire_weaves.specs.CallAt.{CallAt}
 use Rattle.iox_wire_weaves.specs.CallAt.TheVariants as at
 use Rattle.iox_wire_weaves.specs.Calls.{IsKeptAt, call_in, call_in_words, may_add_handle}
+use Rattle.iox_wire_weaves.specs.Entry.{Entry}
 use Rattle.iox_wire_weaves.specs.HandleCall.TheVariants as handle_calls
 use Rattle.iox_wire_weaves.specs.Laws.{LivesAs}
 use Rattle.iox_wire_weaves.specs.Lendings.{next_handle}
@@ -30,8 +32,8 @@ use Rattle.iox_wire_weaves.specs.NodesBegins.{AddsHandle, IsUnderWay, MayBegin}
 use Rattle.iox_wire_weaves.specs.Replies.{call_within}
 use Rattle.iox_wire_weaves.specs.Runs.{GoesOnBy, Run}
 use Rattle.iox_wire_weaves.specs.Seat.{Seat}
-use Rattle.iox_wire_weaves.specs.Steps.{most_accesses}
-use Rattle.iox_wire_weaves.specs.Tables.{Setting}
+use Rattle.iox_wire_weaves.specs.Steps.{KeepsReads, most_accesses}
+use Rattle.iox_wire_weaves.specs.Tables.{Setting, entry_at}
 use Rattle.iox_wire_weaves.specs.Terms.{IsSettingWith}
 use Rattle.iox_wire_weaves.specs.WholeElements.{elements_in, elements_of_nothing}
 use Rattle.iox_wire_weaves.specs.WirePlan.{WirePlan}
@@ -39,6 +41,7 @@ use Rattle.iox_wire_weaves.specs.WireTerms.{WireTerms}
 use Rattle.iox_wire_weaves.specs.declared.refusal.WireRefusal.{WireRefusal}
 use Rattle.iox_wire_weaves.specs.Wires.{Shows, WireData, WireNode, living_refusal, node_at, refusal_in, seat_of}
 use Rattle.iox_wire_weaves.proofs.BeginsShown.{begins_show, refusals_are_shown}
+use Rattle.iox_wire_weaves.proofs.CallsSaid.{calls_are_said}
 use Rattle.iox_wire_weaves.proofs.HandlesStanding.{handles_stand}
 use Rattle.iox_wire_weaves.proofs.Lookups.{first_none, not_refused, seat_there}
 use Rattle.iox_wire.specs.Begun.{FindsNoRoom, HasBegun, IsRefusedBy, LacksRoom}
@@ -84,20 +87,30 @@ elements_whole many width n k = by_width (width == 0) refl
     by_width true none is = of_nothing (eqb-true width 0 none) (n == 0) refl is
     by_width false some is = of_some (n % width == 0) refl is
 
+-- so are those that are written
+written_whole : (x : Shape) (words : List ℕ) (k : ℕ) (o : Option Entry) → option_map_or (λ e. elements_for x e.elements words) o None ≡ Some k → length words ≡ k * x.width
+written_whole x words k None is = absurd (none-some k is)
+written_whole x words k (Some e) is = by_case (length words == e.elements * x.width) refl is
+  where
+    by_case : (b : Bool) → (length words == e.elements * x.width) ≡ b → (if b then Some e.elements else None) ≡ Some k → length words ≡ k * x.width
+    by_case true same told =
+        eqb-true (length words) (e.elements * x.width) same ∙ ap (λ i. i * x.width) (ap (λ (o : Option ℕ). option_map_or (λ i. i) o k) told)
+    by_case false other told = absurd (none-some k told)
+
 -- the words of each call are of whole elements
-pub words_are_whole : (p : Setting) (call : NodeCall) → WordsAreWhole p.limits (Port (call_in p call))
-words_are_whole p (Loan n k) = tt
-words_are_whole p (Write n y) = λ k is. elements_whole (shape_of p.limits y.role).many (shape_of p.limits y.role).width (length y.words.now) k is
-words_are_whole p (Send n) = tt
-words_are_whole p (SendCopy n y) = λ k is. elements_whole (shape_of p.limits y.role).many (shape_of p.limits y.role).width (length y.words.now) k is
-words_are_whole p (Receive n) = tt
-words_are_whole p (HasRequests n) = tt
-words_are_whole p (Handle n handle_calls.Read) = tt
-words_are_whole p (Handle n handle_calls.Release) = tt
-words_are_whole p (Handle n handle_calls.IsConnected) = tt
-words_are_whole p (Handle n handle_calls.SetHint) = tt
-words_are_whole p (Handle n handle_calls.HasHint) = tt
-words_are_whole p (Handle n handle_calls.HasResponse) = tt
+pub words_are_whole : (p : Setting) (x : Seat) (call : NodeCall) → WordsAreWhole p.limits (Port (call_in p x call))
+words_are_whole p x (Loan n k) = tt
+words_are_whole p x (Write n y) = λ k is. written_whole (shape_of p.limits y.role) y.words.now k (entry_at n x.table) is
+words_are_whole p x (Send n) = tt
+words_are_whole p x (SendCopy n y) = λ k is. elements_whole (shape_of p.limits y.role).many (shape_of p.limits y.role).width (length y.words.now) k is
+words_are_whole p x (Receive n) = tt
+words_are_whole p x (HasRequests n) = tt
+words_are_whole p x (Handle n handle_calls.Read) = tt
+words_are_whole p x (Handle n handle_calls.Release) = tt
+words_are_whole p x (Handle n handle_calls.IsConnected) = tt
+words_are_whole p x (Handle n handle_calls.SetHint) = tt
+words_are_whole p x (Handle n handle_calls.HasHint) = tt
+words_are_whole p x (Handle n handle_calls.HasResponse) = tt
 
 -- ---- a node
 
@@ -121,18 +134,18 @@ rests_if p x call allowed =
 -- a node that began a call, with room where that may add a handle, and keeps it
 pub has_begun : (plan : WirePlan) (terms : WireTerms) (old : WireNode) (call : NodeCall) (events : ℕ) (mid new : WireNode)
     → (p : Setting) × IsSettingWith plan terms p
-    → ((p : Setting) → IsSettingWith plan terms p → IsUnderWay p old.node (Port (call_in p call)) mid.node)
+    → ((p : Setting) → IsSettingWith plan terms p → IsUnderWay p old.node (Port (call_in p (seat_in old.node) call)) mid.node)
     → (AddsHandle mid.node.at → may_add_handle call ≡ true) → IsKeptAt (call_in_words call) mid.node.at → (may_add_handle call ≡ true → 0 < old.node.seat.room)
     → (is_busy (seat_in old.node).local ≡ false → 0 < old.node.seat.room → (p : Setting) → IsSettingWith plan terms p → (port : ℕ)
     → MayLend old.node.seat (next_handle p old.node.seat.seat) port)
-    → KeepsRooms old.node mid.node → mid.number ≡ old.number → LivesAs old mid
+    → KeepsRooms old.node mid.node → mid.number ≡ old.number → LivesAs old mid → mid.read ≡ old.read
     → new ≡ record mid { call = Some (record { call = call_within mid.longest (words_call call); begun = events }) } → HasBegun plan terms old call events new
-has_begun plan terms old call events mid new set begun adds there room lends rooms number lives keeps =
-    let way : IsUnderWay set.0 old.node (Port (call_in set.0 call)) mid.node = begun set.0 set.1 in
-    let rests : is_busy (seat_in old.node).local ≡ false = rests_if set.0 (seat_in old.node) (Port (call_in set.0 call)) way.allowed in
+has_begun plan terms old call events mid new set begun adds there room lends rooms number lives read keeps =
+    let way : IsUnderWay set.0 old.node (Port (call_in set.0 (seat_in old.node) call)) mid.node = begun set.0 set.1 in
+    let rests : is_busy (seat_in old.node).local ≡ false = rests_if set.0 (seat_in old.node) (Port (call_in set.0 (seat_in old.node) call)) way.allowed in
     let same : mid.node ≡ new.node = sym (ap (λ (x : WireNode). x.node) keeps) in
     record {
-      begun = λ p setting. subst (λ (x : Node). IsUnderWay p old.node (Port (call_in p call)) x) same (begun p setting);
+      begun = λ p setting. subst (λ (x : Node). IsUnderWay p old.node (Port (call_in p (seat_in old.node) call)) x) same (begun p setting);
       ready = subst (λ (x : Node). MayAdd x.at x) same (way.ready.may (λ more. lends rests (room (adds more)) set.0 set.1));
       at = subst (λ (x : Node). IsKeptAt (call_in_words call) x.at) same there;
       rooms = subst (λ (x : Node). KeepsRooms old.node x) same rooms;
@@ -142,18 +155,19 @@ has_begun plan terms old call events mid new set begun adds there room lends roo
         died = ap (λ (x : WireNode). x.died) keeps ∙ lives.died;
         longest = ap (λ (x : WireNode). x.longest) keeps ∙ lives.longest;
       };
+      read = ap (λ (x : WireNode). x.read) keeps ∙ read;
       kept = ap (λ (x : WireNode). x.call) keeps ∙ ap (λ k. Some (record { call = call_within k (words_call call); begun = events })) lives.longest;
     }
 
 -- a call in words is the same in each setting
-call_words : (p : Setting) (call : NodeCall) → words_call call ≡ in_wire_words (Port (call_in p call))
-call_words p (Loan n k) = refl
-call_words p (Write n y) = refl
-call_words p (Send n) = refl
-call_words p (SendCopy n y) = refl
-call_words p (Receive n) = refl
-call_words p (HasRequests n) = refl
-call_words p (Handle n h) = refl
+call_words : (p : Setting) (x : Seat) (call : NodeCall) → words_call call ≡ in_wire_words (Port (call_in p x call))
+call_words p x (Loan n k) = refl
+call_words p x (Write n y) = refl
+call_words p x (Send n) = refl
+call_words p x (SendCopy n y) = refl
+call_words p x (Receive n) = refl
+call_words p x (HasRequests n) = refl
+call_words p x (Handle n h) = refl
 
 -- a wire has a setting
 pub set_there : (w : WireData) → IsShown w → (p : Setting) × IsSettingWith w.plan w.terms p
@@ -195,22 +209,32 @@ module _ (w : WireData) (n i : ℕ) (d : WireNode) (at : position (λ x. x.numbe
   -- ---- a begin
 
   module _ (p : Setting) (r : Run) (shows : Shows p w r) (call : NodeCall) where
-    -- the machine refuses a call of a living node as its own tables tell
-    own_refusal : living_refusal w.nodes n ≡ None → begin_refusal r.last n (Port (call_in p call)) ≡ refusal_at p (seat_in d.node) (Port (call_in p call))
+    -- the call, as its own tables tell
+    abbrev own : Call
+    own = call_in p (seat_in d.node) call
+
+    -- the machine refuses a call of a living node as these do
+    own_refusal : living_refusal w.nodes n ≡ None → begin_refusal r.last n (Port (call_in p (seat_in d.node) call)) ≡ refusal_at p (seat_in d.node) (Port (call_in p (seat_in d.node) call))
     own_refusal alive =
-        refusals_are_shown p w r n (call_in p call) shows
-        ∙ ap (λ o. or_else (option_map refusal_in o) (refusal_at p (seat_of p w.nodes n) (Port (call_in p call)))) alive
-        ∙ ap (λ s. refusal_at p s (Port (call_in p call))) (seat_there p w.nodes n d there)
+        refusals_are_shown p w r n own shows
+        ∙ ap (λ o. or_else (option_map refusal_in o) (refusal_at p (seat_of p w.nodes n) (Port own))) alive
+        ∙ ap (λ s. refusal_at p s (Port own)) (seat_there p w.nodes n d there)
+
+    pub asked_refusal : living_refusal w.nodes n ≡ None → begin_refusal r.last n (asked_of r n call) ≡ refusal_at p (seat_in d.node) (Port (call_in p (seat_in d.node) call))
+    asked_refusal alive = (calls_are_said p w r n d call shows there).0 ∙ own_refusal alive
 
     pub begun : (y : WireNode) (events : ℕ) → events ≡ length w.events → living_refusal w.nodes n ≡ None → (seat_in d.node).accesses ≤ most_accesses
         → HasBegun w.plan w.terms d call events y
-        → BeginsCall p w n (Port (call_in p call)) (Now y)
-        × (c : Choice) × (after : Run) × GoesOnBy r (Begins n (Port (call_in p call)) c) after × Shows p (Now y) after
+        → BeginsCall p w n (asked_of r n call) (Now y)
+        × (c : Choice) × (after : Run) × GoesOnBy r (Begins n (asked_of r n call) c) after × Shows p (Now y) after
     begun y events count alive few has =
-        begins_show p w (Now y) r n d y (Port (call_in p call)) shows
-        (own_refusal alive ∙ (has.begun p shows.setting).allowed) (words_are_whole p call) (omega (arith, few)) (replaced n w.nodes i d y at read has.number) has.lives
-        (has.begun p shows.setting).begun (λ pools. (has.begun p shows.setting).aimed (tells_of_pools p y.node.at (seat_in y.node).local pools)) refl refl refl refl refl
-        (has.kept ∙ ap₂ (λ c k. Some (record { call = call_within d.longest c; begun = k })) (call_words p call) count)
+        let way : IsUnderWay p d.node (Port (call_in p (seat_in d.node) call)) y.node = has.begun p shows.setting in
+        subst (λ (k : Call). BeginsCall p w n (Port k) (Now y) × (c : Choice) × (after : Run) × GoesOnBy r (Begins n (Port k) c) after × Shows p (Now y) after)
+        (sym ((calls_are_said p w r n d call shows there).1 alive way.allowed).0)
+        (begins_show p w (Now y) r n d y (Port own) shows
+        (own_refusal alive ∙ way.allowed) (words_are_whole p (seat_in d.node) call) (omega (arith, few)) (replaced n w.nodes i d y at read has.number) has.lives
+        way.begun (λ pools. way.aimed (tells_of_pools p y.node.at (seat_in y.node).local pools)) refl refl refl refl refl
+        (has.kept ∙ ap₂ (λ c k. Some (record { call = call_within d.longest c; begun = k })) (call_words p (seat_in d.node) call) count))
 
   pub shown_begun : (call : NodeCall) (y : WireNode) (events : ℕ) → events ≡ length w.events → IsShown w → living_refusal w.nodes n ≡ None
       → HasBegun w.plan w.terms d call events y → IsShown (Now y)
@@ -222,16 +246,29 @@ module _ (w : WireData) (n i : ℕ) (d : WireNode) (at : position (λ x. x.numbe
         whole = shown.whole;
         numbers = shown.numbers;
         kept = kept_still w.nodes n d y (slice_set w.nodes i y) (replaced n w.nodes i d y at read has.number) shown.kept
-            (kept_begun p d.node y.node (Port (call_in p call)) (shown.kept n d there) (has.begun p shown.shows.2.setting).begun has.ready);
+            (kept_begun p d.node y.node (Port (call_in p (seat_in d.node) call)) (shown.kept n d there) (has.begun p shown.shows.2.setting).begun has.ready);
         own = each_still IsAtItsCall w.nodes n d y (slice_set w.nodes i y) (replaced n w.nodes i d y at read has.number) shown.own
             (own_begun d y call events has.kept has.at);
         rooms = roomy_still w.plan w.nodes n d y (slice_set w.nodes i y) (replaced n w.nodes i d y at read has.number) shown.rooms has.rooms;
       }
 
+  -- what was read stays
+  pub reads_stay : (call : NodeCall) (y : WireNode) (events : ℕ) → HasBegun w.plan w.terms d call events y → KeepsReads w (Now y)
+  reads_stay call y events has m = elim (cases_Bool (m == n)) [
+    | inl same ↦ (
+        let e : m ≡ n = eqb-true m n same in
+        let puts = replaced n w.nodes i d y at read has.number in
+        ap (λ k. option_map (λ (x : WireNode). x.read) (node_at k (slice_set w.nodes i y))) e ∙ ap (option_map (λ (x : WireNode). x.read)) puts.here
+        ∙ ap (λ (ws : List ℕ). Some ws) has.read
+        ∙ sym (ap (λ k. option_map (λ (x : WireNode). x.read) (node_at k w.nodes)) e ∙ ap (option_map (λ (x : WireNode). x.read)) puts.before)
+        )
+    | inr other ↦ ap (option_map (λ (x : WireNode). x.read)) ((replaced n w.nodes i d y at read has.number).others m other)
+  ]
+
   -- ---- a refusal
 
   pub refused : (call : NodeCall) (refusal : WireRefusal) → living_refusal w.nodes n ≡ None → IsRefusedBy w.plan w.terms d call refusal → IsBeginRefusal w n call refusal
-  refused call refusal alive by p r shows = own_refusal p r shows call alive ∙ by p shows.setting
+  refused call refusal alive by p r shows = asked_refusal p r shows call alive ∙ by p shows.setting
 
   -- ---- a node that stays
 

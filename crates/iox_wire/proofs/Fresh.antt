@@ -6,6 +6,7 @@ use Rattle.iox_model.specs.Maps.{AreDistinct}
 use Rattle.iox_laws.proofs.WeaveLedger.Lists.{IsAmong}
 use Rattle.iox_wire_weaves.specs.Begins.{is_busy}
 use Rattle.iox_wire_weaves.specs.Copying.{CopyGoesOn}
+use Rattle.iox_wire_weaves.specs.ReadWords.{TellsNoWords}
 use Rattle.iox_wire_weaves.specs.Counts.{IsTidy}
 use Rattle.iox_wire_weaves.specs.PlanPort.{PlanPort}
 use Rattle.iox_wire_weaves.specs.Seat.{Seat}
@@ -53,6 +54,7 @@ kept_first plan apart low handles n x opened = record {
       (few_ways plan (λ q among. under _ _ (ways_are_few plan apart q among) low) (filter (λ (q : PlanPort). q.node == n) plan.ports.items)
       (λ q among. filtered_among (λ (q : PlanPort). q.node == n) q plan.ports.items among));
   copies = subst (λ (s : Seat). CopyGoesOn s.local) (sym opened.seat) (λ e is. refl);
+  reads = subst (λ (s : Seat). TellsNoWords s.local) (sym opened.seat) tt;
   ready = λ busy. absurd (true≢false (sym busy ∙ ap (λ (s : Seat). is_busy s.local) opened.seat));
 }
   where
@@ -76,7 +78,7 @@ module _ (plan : WirePlan) (terms : WireTerms) (ns : List ℕ) (wire : WireData)
       terms_are = terms_are;
       words = words;
       nodes_are = λ n. opened_has plan handles ns wire.nodes n nodes;
-      seats = λ n x at. ((one n x at).seat ∙ opened_as_planned plan p is setting n, (one n x at).lives, (one n x at).seated, (one n x at).rests, (one n x at).longest, (one n x at).undead);
+      seats = λ n x at. ((one n x at).seat ∙ opened_as_planned plan p is setting n, (one n x at).lives, (one n x at).seated, (one n x at).rests, (one n x at).longest, (one n x at).undead, (one n x at).unread);
       replies = replies;
       events = events;
     }

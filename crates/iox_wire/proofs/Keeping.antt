@@ -15,6 +15,7 @@ use Rattle.iox_wire_weaves.specs.Laws.{Replaces, WentOn}
 use Rattle.iox_wire_weaves.specs.LocalsSteps.{accessed, advance, closed, ending_at, next, tells}
 use Rattle.iox_wire_weaves.specs.NodeReply.{NodeReply}
 use Rattle.iox_wire_weaves.specs.Nodes.{Node, seat_in}
+use Rattle.iox_wire_weaves.specs.ReadWords.{TellsNoWords}
 use Rattle.iox_wire_weaves.specs.Seat.{Seat}
 use Rattle.iox_wire_weaves.specs.Settlements.{reply_of}
 use Rattle.iox_wire_weaves.specs.Steps.{most_accesses}
@@ -24,6 +25,7 @@ use Rattle.iox_wire_weaves.specs.Wires.{WireNode, node_at}
 use Rattle.iox_wire_weaves.proofs.AccessesMade as made
 use Rattle.iox_wire_weaves.proofs.Copying.{begun_copies_go_on, stepped_copies_go_on}
 use Rattle.iox_wire_weaves.proofs.PortsKept.{begins_keep_ports, steps_keep_ports}
+use Rattle.iox_wire_weaves.proofs.ReadWords.{begun_reads_tell_none, stepped_reads_tell_none}
 use Rattle.iox_wire_weaves.proofs.Tidying.{begun_nodes_are_tidy, stepped_nodes_are_tidy}
 use Rattle.iox_wire.specs.Kept.{AreKept, IsKept}
 
@@ -78,6 +80,7 @@ kept_on p x y seen reply kept busy few went ready = record {
   ways = few_ways_still (seat_in x).desks (seat_in y).desks
       (ap (λ (s : Seat). map (λ (d : Desk). length d.recorded) s.desks) went.next_is ∙ (steps_keep_ports p (seat_in x) seen).sends) kept.ways;
   copies = subst (λ (s : Seat). CopyGoesOn s.local) (sym went.next_is) (stepped_copies_go_on p (seat_in x) seen);
+  reads = subst (λ (s : Seat). TellsNoWords s.local) (sym went.next_is) (stepped_reads_tell_none p (seat_in x) seen);
   ready = λ later.
       ready (none_of _ reply (sym went.told ∙ quiet p (seat_in x) seen (subst (λ (s : Seat). is_busy s.local ≡ true) went.next_is later))) (kept.ready busy);
 }
@@ -92,6 +95,7 @@ kept_begun p x y call kept begun ready = record {
   ways = few_ways_still (seat_in x).desks (seat_in y).desks
       (ap (λ (s : Seat). map (λ (d : Desk). length d.recorded) s.desks) begun ∙ (begins_keep_ports p (seat_in x) call).sends) kept.ways;
   copies = subst (λ (s : Seat). CopyGoesOn s.local) (sym begun) (begun_copies_go_on p (seat_in x) call);
+  reads = subst (λ (s : Seat). TellsNoWords s.local) (sym begun) (begun_reads_tell_none p (seat_in x) call);
   ready = λ busy. ready;
 }
 

@@ -2,17 +2,19 @@
 use Rattle.std.specs.Prelude.{Err, IfErr, IfOk, MatchOption, Ok, OnErr, OnOk, Result, max, not, option_map}
 use Rattle.std.specs.Option.{option_map_or}
 use Rattle.std.proofs.Common.{◌≡◌, ℕ, zero, suc, ◌+◌, ◌≤◌, nat_le, Bool, true, false, arith, length, take, List, [], ◌∷◌, ◌++◌, Option, Some, None, refl, ap, sym, subst, ◌∙◌, append-nil, append_assoc}
-use Rattle.iox_model.specs.Commands.{Refusal, WireCall}
+use Rattle.iox_laws.proofs.WeaveLedger.Truths.{none-some}
+use Rattle.iox_model.specs.Commands.{Call, Refusal, WireCall}
 use Rattle.iox_model.specs.Joins.{not_living}
 use Rattle.iox_model.specs.Loans.{Choice}
 use Rattle.iox_model.specs.Maps.{or_else, refused_if}
 use Rattle.iox_model.specs.Schedules.{IsBeginOf, IsDeathOf, nothing}
+use Rattle.iox_model.specs.WireCalls.{said_on_wire}
 use Rattle.iox_model.specs.Weaves.{Beat, Begins, Dies, IsWeave, begin_refusal}
 use Rattle.iox_model.specs.declared.call.WireCall.TheVariants.{Port}
 use Rattle.iox_sets.specs.Refusals.{IsRefusal}
 use Rattle.iox_steps.specs.declared.access.Progress.{Progress}
-use Rattle.iox_wire_weaves.specs.Asking.{BeginIsWoven, BeginsCall, BeginsItsCall, IsBeginRefusal, MayBegin}
-use Rattle.iox_wire_weaves.specs.Begins.{is_busy}
+use Rattle.iox_wire_weaves.specs.Asking.{BeginIsWoven, BeginsCall, BeginsItsCall, IsBeginRefusal, MayBegin, asked_of}
+use Rattle.iox_wire_weaves.specs.Begins.{is_busy, refusal_at}
 use Rattle.iox_wire_weaves.specs.Calls.{call_in}
 use Rattle.iox_wire_weaves.specs.NodeCall.{NodeCall}
 use Rattle.iox_wire_weaves.specs.NodeReply.{NodeReply}
@@ -20,11 +22,15 @@ use Rattle.iox_wire_weaves.specs.Nodes.{seat_in}
 use Rattle.iox_wire_weaves.specs.Runs.{GoesOnBy, Run}
 use Rattle.iox_wire_weaves.specs.Steps.{DeathIsWoven, MakesItsAccess, MakesOneAccess, StepIsWoven, most_accesses, rest_refusal, step_refusal}
 use Rattle.iox_wire_weaves.specs.Tables.{Setting}
-use Rattle.iox_wire_weaves.specs.Wires.{Shows, WireData, WireNode, living_refusal, machine_refusal, node_at, refusal_in}
+use Rattle.iox_wire_weaves.specs.Wires.{Shows, WireData, WireNode, living_refusal, machine_refusal, node_at, refusal_in, seat_of}
 use Rattle.iox_wire_weaves.specs.declared.refusal.WireRefusal.{WireRefusal}
 use Rattle.iox_wire_weaves.specs.declared.refusal.WireRefusal.TheVariants.{AccessesSpent, AtRest, NodeIsDead, UnknownNode, WantOfMemory}
+use Rattle.iox_wire_weaves.proofs.BeginsShown.{refusals_are_shown}
+use Rattle.iox_wire_weaves.proofs.CallsSaid.{calls_are_said}
+use Rattle.iox_wire_weaves.proofs.Lookups.{first_none, seat_there}
 use Rattle.iox_wire.specs.Begun.{LacksRoom}
 use Rattle.iox_wire.specs.Kept.{Loses}
+use Rattle.iox_wire.specs.Replies.{words_call}
 use Rattle.iox_wire.specs.Schedules.{AreEntered, IsAsked, IsDeclaredDead, IsEntered, IsPlayed, IsStepped, IsWovenBy, LeadsTo, WantsMemory}
 use Rattle.iox_wire.specs.declared.entry.WireEntry.{WireEntry}
 use Rattle.iox_wire.specs.declared.entry.WireEntry.TheVariants.{Begin, Die, Step}
@@ -117,12 +123,12 @@ left_told P (Err refusal) (Err want) left wants = left
 
 begin_asked : (a b : WireData) (n : ℕ) (call : NodeCall) → BeginsItsCall a n call b → BeginIsWoven a n call b → IsAsked a n call b
 begin_asked a b n call begun woven p r shows =
-    let w = woven p r shows in so_where _ _ (begin_refusal r.last n (Port (call_in p call))) w.2.beat.0 (begun p r shows, w)
+    let w = woven p r shows in so_where _ _ (begin_refusal r.last n (asked_of r n call)) w.2.beat.0 (begun p r shows, w)
 
 begin_passed : (a b : WireData) (n : ℕ) (call : NodeCall) (refusal : WireRefusal) → IsBeginRefusal a n call refusal → IsNamed refusal → b ≡ a
     → IsAsked a n call b
 begin_passed a b n call refusal refused named left p r shows =
-    refused_where _ _ (begin_refusal r.last n (Port (call_in p call))) (refusal_in refusal) (refused p r shows ∙ named) left
+    refused_where _ _ (begin_refusal r.last n (asked_of r n call)) (refusal_in refusal) (refused p r shows ∙ named) left
 
 pub begin_told : (a b : WireData) (n : ℕ) (call : NodeCall) (told want : Result (Unit {0}) WireRefusal) → OnOk told (BeginsItsCall a n call b)
     → OnOk told (BeginIsWoven a n call b) → IfErr told (IsBeginRefusal a n call) → OnErr told (b ≡ a)
@@ -148,6 +154,12 @@ begin_full a n call told (Ok none) full wants memory = tt
 begin_full a n call (Ok done) (Err want) full wants memory = absurd wants
 begin_full a n call (Err refusal) (Err want) full wants memory = full memory
 
+-- an entry that is such a begin wants memory
+pub begin_wants : (a b : WireData) (n : ℕ) (call : NodeCall) (e : WireEntry) (want : Result (Unit {0}) WireRefusal) → e ≡ Begin n call
+    → OnErr want (MayBegin a n call) → OnErr want (LacksRoom a n call) → OnErr want (b ≡ a) → OnErr want (WantsMemory a e b)
+begin_wants a b n call e (Ok none) is may lacks same = tt
+begin_wants a b n call e (Err want) is may lacks same = subst (λ k. WantsMemory a k b) (sym is) (may, lacks, same)
+
 -- ---- and of a death
 
 pub death_told : (a b : WireData) (n : ℕ) (told : Result (Unit {0}) WireRefusal) → OnOk told (DeathIsWoven a n b) → OnOk told (Loses a n b)
@@ -160,19 +172,46 @@ death_told a b n (Err refusal) woven lost alive refused same = refused_where _ _
 -- the run goes on by beats to which the entry may lead, and the wire shows it
 abbrev GoesOnIn : Setting → Run → WireEntry → WireData → Type 0
 GoesOnIn p r e b =
-    (bs : List Beat) × (after : Run) × LeadsTo p r.last e bs × IsWeave r.last bs after.last
+    (bs : List Beat) × (after : Run) × LeadsTo r.last e bs × IsWeave r.last bs after.last
     × (after.first ≡ r.first) × (after.beats ≡ r.beats ++ bs) × Shows p b after
 
-begin_goes : (a b : WireData) (n : ℕ) (call : NodeCall) (p : Setting) (r : Run) → Shows p a r → let asked : WireCall = Port (call_in p call) in
+-- the machine's call of what is asked where the machine does not refuse it
+said_where : (a : WireData) (n : ℕ) (call : NodeCall) (p : Setting) (r : Run) → Shows p a r → begin_refusal r.last n (asked_of r n call) ≡ None
+    → asked_of r n call ≡ said_on_wire r.last.state.fixed n (words_call call)
+said_where a n call p r shows none = by_node (node_at n a.nodes) refl
+  where
+    alive : living_refusal a.nodes n ≡ None
+    alive = by_living (living_refusal a.nodes n) refl
+      where
+        by_living : (o : Option WireRefusal) → living_refusal a.nodes n ≡ o → o ≡ None
+        by_living None is = refl
+        by_living (Some refusal) is =
+            absurd (none-some (refusal_in refusal)
+            (sym (first_none (not_living r.last.state n) _ none) ∙ shows.living n ∙ ap (option_map refusal_in) is))
+
+    by_node : (o : Option WireNode) → node_at n a.nodes ≡ o → asked_of r n call ≡ said_on_wire r.last.state.fixed n (words_call call)
+    by_node (Some x) there =
+        let said_so = calls_are_said p a r n x call shows there in
+        let own : Call = call_in p (seat_in x.node) call in
+        ap (λ (k : Call). Port k)
+        (said_so.1 alive
+        (sym (refusals_are_shown p a r n own shows
+        ∙ ap (λ o. or_else (option_map refusal_in o) (refusal_at p (seat_of p a.nodes n) (Port own))) alive
+        ∙ ap (λ s. refusal_at p s (Port own)) (seat_there p a.nodes n x there)) ∙ sym said_so.0 ∙ none)).1
+    by_node None there =
+        absurd (none-some UnknownNode (sym (sym (ap (λ o. option_map_or (λ (x : WireNode). refused_if (not x.alive) NodeIsDead) o (Some UnknownNode)) there) ∙ alive)))
+
+begin_goes : (a b : WireData) (n : ℕ) (call : NodeCall) (p : Setting) (r : Run) → Shows p a r → let asked : WireCall = asked_of r n call in
     (o : Option Refusal) → begin_refusal r.last n asked ≡ o
     → MatchOption o (BeginsCall p a n asked b × ((c : Choice) × (after : Run) × GoesOnBy r (Begins n asked c) after × Shows p b after)) (λ refusal. b ≡ a)
     → GoesOnIn p r (Begin n call) b
 begin_goes a b n call p r shows None is so =
-    let asked : WireCall = Port (call_in p call) in
+    let asked : WireCall = asked_of r n call in
     let s = so.1 in (
       Begins n asked s.0 ∷ [],
       s.1,
-      subst (λ (o : Option Refusal). IsBeginOf o n asked (Begins n asked s.0 ∷ [])) (sym is) (s.0, refl),
+      subst (λ (o : Option Refusal). IsBeginOf o n (said_on_wire r.last.state.fixed n (words_call call)) (Begins n asked s.0 ∷ [])) (sym is)
+          (s.0, ap (λ k. Begins n k s.0 ∷ []) (said_where a n call p r shows is)),
       (s.1.last, s.2.beat, refl),
       s.2.first,
       s.2.beats,
@@ -181,7 +220,7 @@ begin_goes a b n call p r shows None is so =
 begin_goes a b n call p r shows (Some refusal) is left = (
   [],
   r,
-  subst (λ (o : Option Refusal). IsBeginOf o n (Port (call_in p call)) []) (sym is) refl,
+  subst (λ (o : Option Refusal). IsBeginOf o n (said_on_wire r.last.state.fixed n (words_call call)) []) (sym is) refl,
   refl,
   refl,
   sym (append-nil r.beats),
@@ -220,7 +259,7 @@ death_goes a b n p r shows (Some refusal) is same =
 
 entry_goes : (a b : WireData) (e : WireEntry) → IsEntered a e b → (p : Setting) (r : Run) → Shows p a r → GoesOnIn p r e b
 entry_goes a b (Begin n call) asked p r shows =
-    begin_goes a b n call p r shows (begin_refusal r.last n (Port (call_in p call))) refl (asked p r shows)
+    begin_goes a b n call p r shows (begin_refusal r.last n (asked_of r n call)) refl (asked p r shows)
 entry_goes a b (Step n) stepped p r shows = step_goes a b n p r shows (step_refusal a n) stepped
 entry_goes a b (Die n) dead p r shows = death_goes a b n p r shows (living_refusal a.nodes n) refl dead
 

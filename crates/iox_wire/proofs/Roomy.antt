@@ -56,7 +56,7 @@ found_ge (p ∷ ps) a n = elim (cases_Bool (p.number == n)) [
   | inr apart ↦ rw apart (found_ge ps (more a p) n)
 ]
 
-slots_fit : (plan : WirePlan) (room : ℕ) → room ≡ most_words plan → HasRoomForSlots plan room
+pub slots_fit : (plan : WirePlan) (room : ℕ) → room ≡ most_words plan → HasRoomForSlots plan room
 slots_fit plan room is port = subst (λ k. option_map_or (λ (p : PlanPort). p.slot_words) (find (λ p. p.number == port) plan.ports.items) 0 ≤ k) (sym is) (found_ge plan.ports.items 0 port)
 
 at_most : (most ways room : ℕ) → ways ≡ most → room ≡ ways → most ≤ room

@@ -1,26 +1,35 @@
 -- What a step leaves, by what its code does.
-use Rattle.std.specs.Prelude.{IfSome, position}
-use Rattle.std.proofs.Common.{◌≡◌, ℕ, ◌<◌, ◌==◌, List, ◌++◌, append-nil, length, get_or, Option, Some, None, refl, ap, ap₂, sym, subst, ◌∙◌, slice_set}
+use Rattle.std.specs.Prelude.{IfSome, position, ◌⊎◌}
+use Rattle.std.proofs.Common.{◌≡◌, ℕ, ◌<◌, ◌≤◌, ◌==◌, true, List, [], ◌++◌, append-nil, arith, length, get_or, Option, Some, None, refl, ap, ap₂, sym, subst, ◌∙◌, slice_set, inl, inr, true≢false}
 use Rattle.iox_laws.proofs.WeaveLaws.WholeLemmas.{some-is}
 use Rattle.iox_model.specs.declared.event.Event.{Event}
 use Rattle.iox_model.specs.Schedules.{Finished, IsStepOf}
 use Rattle.iox_model.specs.Weaves.{Beat}
+use Rattle.iox_model.specs.declared.reply.Reply.TheVariants.{Words}
 use Rattle.iox_steps.specs.Accesses.{seen_at, words_after}
+use Rattle.iox_steps.specs.declared.access.Progress.{Progress}
 use Rattle.iox_wire_weaves.specs.Aims.{IsAimed}
 use Rattle.iox_wire_weaves.specs.Laws.{LivesAs, progress_of}
 use Rattle.iox_wire_weaves.specs.NodeReply.{NodeReply}
-use Rattle.iox_wire_weaves.specs.Nodes.{Node, answered_at, seat_in}
+use Rattle.iox_wire_weaves.specs.NodeReply.TheVariants as node_replies
+use Rattle.iox_wire_weaves.specs.Nodes.{Node, answered_at, reply_in, seat_in}
+use Rattle.iox_wire_weaves.specs.Plans.{slot_words_of}
+use Rattle.iox_wire_weaves.specs.Replies.{most_words}
 use Rattle.iox_wire_weaves.specs.Rooms.{KeepsRooms}
 use Rattle.iox_wire_weaves.specs.Runs.{Run}
+use Rattle.iox_wire_weaves.specs.SeatReply.TheVariants as seat_replies
 use Rattle.iox_wire_weaves.specs.SlotEvents.{slot_event}
-use Rattle.iox_wire_weaves.specs.Steps.{IsWireCallAt, MakesOneAccess, answer_of, call_after, finished_by, most_accesses, recorded, step_refusal}
+use Rattle.iox_wire_weaves.specs.Steps.{IsWireCallAt, MakesOneAccess, answer_of, call_after, finished_by, most_accesses, read_after, recorded, reply_of, step_refusal}
 use Rattle.iox_wire_weaves.specs.Tables.{Setting}
 use Rattle.iox_wire_weaves.specs.WholeSteps.{GoesOnWith}
 use Rattle.iox_wire_weaves.specs.Wires.{Shows, WireData, WireNode, answers_in, node_at}
 use Rattle.iox_wire_weaves.proofs.Lookups.{steps_on}
+use Rattle.iox_wire_weaves.proofs.ReadsWithin.{reads_are_within}
 use Rattle.iox_wire.specs.Kept.{FoundThere, HasGoneOn, IsShown, MayAccess, access_in}
+use Rattle.iox_wire.specs.Replies.{IsReadWithin, is_read}
 use Rattle.iox_wire.proofs.OwnCalls.{own_answer}
-use Rattle.iox_wire.proofs.Places.{number_there}
+use Rattle.iox_wire.proofs.Places.{number_there, replaced}
+use Rattle.iox_wire.proofs.Roomy.{slots_fit}
 use Rattle.iox_wire.proofs.WireSteps as wires
 use Rattle.iox_wire.proofs.WireSteps.{may_access, refused_at, shown_after, stepped}
 
@@ -34,8 +43,8 @@ pub record EndsAs (reply : Option NodeReply) (z y : WireNode) : Type 0 where
 pub goes_on : (z : WireNode) → EndsAs None z z
 goes_on z = record { node = refl; number = refl; lives = record { alive = refl; died = refl; longest = refl }; call = refl }
 
-pub is_over : (reply : NodeReply) (z y : WireNode) → y ≡ record z { call = None } → EndsAs (Some reply) z y
-is_over reply z y is = record {
+pub is_over : (reply : NodeReply) (z y : WireNode) (read : List ℕ) → y ≡ record z { call = None; read = read } → EndsAs (Some reply) z y
+is_over reply z y read is = record {
   node = ap (λ (x : WireNode). x.node) is;
   number = ap (λ (x : WireNode). x.number) is;
   lives = record {
@@ -96,6 +105,45 @@ module _ (w : WireData) (n i : ℕ) (m d : WireNode) (first : position (λ x. x.
         subst (λ (o : Option WireNode). IfSome o (λ x. IfSome reply (λ r. IfSome x.call (λ u. IsWireCallAt u.call (answered_at r))))) (sym at_d)
         (own_answer d reply (shown.own n d at_d) (steps_on w n d at_d goes).1
         (gone shown.shows.0 w.words (may_d shown.shows.0 shown.shows.1 shown.shows.2) (saw_d shown.shows.0 (may_d shown.shows.0 shown.shows.1 shown.shows.2))).own)
+
+    -- what the node read before stays, unless its read is over
+    pub keeps_read : (progress : Progress NodeReply) (z y : WireNode) (new : List WireNode) → new ≡ slice_set w.nodes i y → y.number ≡ d.number → z.read ≡ d.read
+        → y.read ≡ read_after z.read y.node.seat.words (reply_of progress) → (a b : WireNode) → node_at n w.nodes ≡ Some a → node_at n new ≡ Some b
+        → b.read ≡ read_after a.read b.node.seat.words (reply_of progress)
+    keeps_read progress z y new is number kept read_so a b before after =
+        let old : d ≡ a = some-is d a (sym at_d ∙ before) in
+        let puts = replaced n w.nodes i d y first read number in
+        let now : y ≡ b = some-is y b (sym puts.here ∙ sym (ap (node_at n) is) ∙ after) in
+        subst (λ (x : WireNode). x.read ≡ read_after a.read x.node.seat.words (reply_of progress)) now
+        (read_so ∙ ap (λ ws. read_after ws y.node.seat.words (reply_of progress)) (kept ∙ ap (λ (x : WireNode). x.read) old))
+
+    -- a read has told no more words than the longest message has
+    pub read_within : (reply : NodeReply) (z : WireNode)
+        → ((p : Setting) (ws : List ℕ) → MayAccess p d.node ws → seen ≡ seen_at (access_in p d.node) ws → HasGoneOn p d.node ws (Some reply) z.node)
+        → LivesAs d z → IsReadWithin z.longest reply z.node.seat.words
+    read_within reply z gone lives read_it =
+        let p : Setting = shown.shows.0 in
+        let r : Run = shown.shows.1 in
+        let shows : Shows p w r = shown.shows.2 in
+        let told = (gone p w.words (may_d p r shows) (saw_d p (may_d p r shows))).went.told in
+        subst (λ k. length z.node.seat.words ≤ k) (sym (lives.longest ∙ (shows.calls n d at_d).room))
+        (in_most (z.node.seat.words)
+        (reads_are_within p w r n d (seen_at (access_in p d.node) w.words) z.node.seat.words shows (steps_on w n d at_d goes).0 at_d (shown.kept n d at_d).reads
+        (told ∙ ap (λ k. Some k) (is_words reply z.node.seat.words read_it))))
+      where
+        is_words : (a : NodeReply) (ws : List ℕ) → is_read a ≡ true → reply_in ws a ≡ Words ws
+        is_words (node_replies.OfSeat seat_replies.Words) ws is = refl
+        is_words a ws is = absurd (true≢false (sym is))
+
+        none_in : (ws : List ℕ) (k : ℕ) → ws ≡ [] → length ws ≤ k
+        none_in ws k is = let e : length ws ≡ 0 = ap length is in omega (arith, e)
+
+        less : (a b c : ℕ) → a ≤ b → b ≤ c → a ≤ c
+        less a b c low high = omega (arith, low, high)
+
+        in_most : (ws : List ℕ) → (ws ≡ []) ⊎ ((port : ℕ) × (length ws ≤ slot_words_of w.plan port)) → length ws ≤ most_words w.plan
+        in_most ws (inl none) = none_in ws (most_words w.plan) none
+        in_most ws (inr (port, low)) = less (length ws) (slot_words_of w.plan port) (most_words w.plan) low (slots_fit w.plan (most_words w.plan) refl port)
 
     module _ (reply : Option NodeReply) (z y : WireNode)
         (gone : (p : Setting) (ws : List ℕ) → MayAccess p d.node ws → seen ≡ seen_at (access_in p d.node) ws → HasGoneOn p d.node ws reply z.node)

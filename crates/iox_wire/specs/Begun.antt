@@ -26,12 +26,13 @@ use Rattle.iox_wire.specs.Replies.{words_call}
 pub record HasBegun (plan : WirePlan) (terms : WireTerms) (old : WireNode) (call : NodeCall)
     (events : ℕ) (new : WireNode) : Type 0 where
   pub begun : (p : Setting) → IsSettingWith plan terms p
-      → IsUnderWay p old.node (Port (call_in p call)) new.node
+      → IsUnderWay p old.node (Port (call_in p (seat_in old.node) call)) new.node
   pub ready : MayAdd new.node.at new.node
   pub at : IsKeptAt (call_in_words call) new.node.at
   pub rooms : KeepsRooms old.node new.node
   pub number : new.number ≡ old.number
   pub lives : LivesAs old new
+  pub read : new.read ≡ old.read
   pub kept : new.call
       ≡ Some (record { call = call_within old.longest (words_call call); begun = events })
 
@@ -39,7 +40,8 @@ pub record HasBegun (plan : WirePlan) (terms : WireTerms) (old : WireNode) (call
 abbrev pub IsRefusedBy : WirePlan → WireTerms → WireNode → NodeCall → WireRefusal → Type 0
 IsRefusedBy plan terms old call error =
     (p : Setting) → IsSettingWith plan terms p
-    → refusal_at p (seat_in old.node) (Port (call_in p call)) ≡ machine_refusal error
+    → refusal_at p (seat_in old.node) (Port (call_in p (seat_in old.node) call))
+    ≡ machine_refusal error
 
 -- the call may add a handle, for which the node has no room
 abbrev pub FindsNoRoom : WireNode → NodeCall → Type 0

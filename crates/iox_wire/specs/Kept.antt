@@ -11,6 +11,7 @@ use Rattle.iox_wire_weaves.specs.Aims.{IsAimed, KnowsItsPlace, MayAdd, MayGoOn}
 use Rattle.iox_wire_weaves.specs.Nodes.{Node, answered_at, seat_in}
 use Rattle.iox_wire_openings.specs.OpenedNodes.{planned_seat}
 use Rattle.iox_wire.specs.Replies.{FinishedCalls}
+use Rattle.iox_wire_weaves.specs.ReadWords.{TellsNoWords}
 use Rattle.iox_wire_weaves.specs.Replies.{most_words}
 use Rattle.iox_wire_weaves.specs.Rooms.{HasRoomToBegin}
 use Rattle.iox_wire_weaves.specs.Runs.{Run}
@@ -37,6 +38,8 @@ pub record IsKept (x : Node) : Type 0 where
   pub ways : HaveFewWays (seat_in x).desks
   -- a message that its call made and sends goes on
   pub copies : CopyGoesOn (seat_in x).local
+  -- a read that is over without an access has no words to tell
+  pub reads : TellsNoWords (seat_in x).local
   -- there is room for what its call adds at its end
   pub ready : is_busy (seat_in x).local ≡ true → MayAdd x.at x
 
@@ -95,6 +98,7 @@ pub record IsOpenedNode (plan : WirePlan) (handles number : ℕ) (x : WireNode) 
   pub rests : x.call ≡ None
   pub undead : x.died ≡ None
   pub longest : x.longest ≡ most_words plan
+  pub unread : x.read ≡ []
   pub rooms : HasRoomToBegin plan x.node
 
 -- such are the nodes of these numbers

@@ -51,6 +51,10 @@ is_read reply = false
 abbrev pub HasWordsIfRead : NodeReply → List ℕ → Type 0
 HasWordsIfRead reply words = is_read reply ≡ false → words ≡ []
 
+-- a read has told no more words than so many
+abbrev pub IsReadWithin : ℕ → NodeReply → List ℕ → Type 0
+IsReadWithin most reply words = is_read reply ≡ true → length words ≤ most
+
 -- ---- finished calls, and those under way
 
 -- the machine's finished call that one stands for

@@ -6,8 +6,8 @@ use Rattle.iox_model.specs.Schedules.{IsBeginOf, IsDeathOf, IsStepOf}
 use Rattle.iox_model.specs.Weaves.{Beat, Begins, IsWeave, World, begin_refusal}
 use Rattle.iox_model.specs.declared.call.WireCall.TheVariants.{Port}
 use Rattle.iox_steps.specs.declared.access.Progress.{Progress}
-use Rattle.iox_wire_weaves.specs.Asking.{BeginsCall, MayBegin}
-use Rattle.iox_wire_weaves.specs.Calls.{call_in}
+use Rattle.iox_model.specs.WireCalls.{said_on_wire}
+use Rattle.iox_wire_weaves.specs.Asking.{BeginsCall, MayBegin, asked_of, call_said}
 use Rattle.iox_wire_weaves.specs.NodeCall.{NodeCall}
 use Rattle.iox_wire_weaves.specs.NodeReply.{NodeReply}
 use Rattle.iox_wire_weaves.specs.Runs.{GoesOnBy, Run}
@@ -16,6 +16,7 @@ use Rattle.iox_wire_weaves.specs.Tables.{Setting}
 use Rattle.iox_wire_weaves.specs.Wires.{Shows, WireData, living_refusal}
 use Rattle.iox_wire.specs.Begun.{LacksRoom}
 use Rattle.iox_wire.specs.Kept.{Loses}
+use Rattle.iox_wire.specs.Replies.{words_call}
 use Rattle.iox_wire.specs.declared.entry.WireEntry.{WireEntry}
 use Rattle.iox_wire.specs.declared.entry.WireEntry.TheVariants.{Begin, Die, Step}
 
@@ -25,7 +26,7 @@ use Rattle.iox_wire.specs.declared.entry.WireEntry.TheVariants.{Begin, Die, Step
 -- machine refuses the call, nothing changes.
 abbrev pub IsAsked : WireData → ℕ → NodeCall → WireData → Type 0
 IsAsked old node call new =
-    (p : Setting) (r : Run) → Shows p old r → let asked = Port (call_in p call) in
+    (p : Setting) (r : Run) → Shows p old r → let asked = asked_of r node call in
     MatchOption (begin_refusal r.last node asked)
     (BeginsCall p old node asked new
     × ((c : Choice) × (after : Run) × GoesOnBy r (Begins node asked c) after × Shows p new after))
@@ -61,28 +62,28 @@ AreEntered old (e ∷ es) new = (mid : WireData) × IsEntered old e mid × AreEn
 
 -- ---- what it does to a run
 
--- The beats to which the entry may lead at a world. The machine's own entries begin a call with
--- words alone, and read them as a payload of what the call names; a call of a wire says itself whose
--- payload its words are. So a begin is that of the call as it is said.
-abbrev pub LeadsTo : Setting → World → WireEntry → List Beat → Type 0
-LeadsTo p w (Begin node call) bs =
-    let asked = Port (call_in p call) in IsBeginOf (begin_refusal w node asked) node asked bs
-LeadsTo p w (Step node) bs = IsStepOf node bs
-LeadsTo p w (Die node) bs = IsDeathOf (not_living w.state node) node bs
+-- The beats to which the entry may lead at a world, as the machine's own entry may (`IsEntry`). A call
+-- of a wire says itself whose payload its words are: what has no such payload refuses it.
+abbrev pub LeadsTo : World → WireEntry → List Beat → Type 0
+LeadsTo w (Begin node call) bs =
+    IsBeginOf (begin_refusal w node (Port (call_said w.state.fixed node call)))
+    node (said_on_wire w.state.fixed node (words_call call)) bs
+LeadsTo w (Step node) bs = IsStepOf node bs
+LeadsTo w (Die node) bs = IsDeathOf (not_living w.state node) node bs
 
 -- the entries, from one world, may make these beats, which lead to the other world
-abbrev pub IsWeaveBy : Setting → World → List WireEntry → List Beat → World → Type 0
-IsWeaveBy p w [] bs w' = (bs ≡ []) × (w' ≡ w)
-IsWeaveBy p w (e ∷ es) bs w' =
+abbrev pub IsWeaveBy : World → List WireEntry → List Beat → World → Type 0
+IsWeaveBy w [] bs w' = (bs ≡ []) × (w' ≡ w)
+IsWeaveBy w (e ∷ es) bs w' =
     (now later : List Beat) × (mid : World) × (bs ≡ now ++ later)
-    × LeadsTo p w e now × IsWeave w now mid × IsWeaveBy p mid es later w'
+    × LeadsTo w e now × IsWeave w now mid × IsWeaveBy mid es later w'
 
 -- Each run that the wire showed goes on by beats to which these entries may lead, and the wire
 -- shows that run.
 abbrev pub IsWovenBy : WireData → List WireEntry → WireData → Type 0
 IsWovenBy old entries new =
     (p : Setting) (r : Run) → Shows p old r
-    → (bs : List Beat) × (after : Run) × IsWeaveBy p r.last entries bs after.last
+    → (bs : List Beat) × (after : Run) × IsWeaveBy r.last entries bs after.last
     × (after.first ≡ r.first) × (after.beats ≡ r.beats ++ bs) × Shows p new after
 
 -- ---- schedules

@@ -2,6 +2,7 @@
 ghost use Rattle.std.specs.Prelude.{◌≡◌, IfErr, OnErr, OnOk};
 ghost use Rattle.iox_wire_weaves.specs.Asking.{BeginIsWoven, BeginsItsCall, IsBeginRefusal};
 ghost use Rattle.iox_wire_weaves.specs.NodeCall.TheVariants.{HasRequests};
+ghost use Rattle.iox_wire_weaves.specs.Steps.{KeepsReads};
 ghost use Rattle.iox_wire_weaves.specs.declared.refusal.WireRefusal.TheVariants.{WantOfMemory};
 ghost use Rattle.iox_wire.specs.Begun.{LacksRoom};
 
@@ -14,6 +15,7 @@ impl Wire {
     pub fn begin(&mut self, node: u64, call: NodeCall<'_>) -> Result<(), WireRefusal>
         ensures begun { OnOk result (BeginsItsCall self.old node call.entry self.new) }
         ensures weave { OnOk result (BeginIsWoven self.old node call.entry self.new) }
+        ensures read { KeepsReads self.old self.new }
         ensures room { self.new.room ≡ self.old.room }
         ensures refused { IfErr result (IsBeginRefusal self.old node call.entry) }
         ensures full { IfErr result (λ error. error ≡ WantOfMemory
@@ -35,6 +37,7 @@ impl Wire {
     pub fn begin_has_requests(&mut self, node: u64, number: u64) -> Result<(), WireRefusal>
         ensures begun { OnOk result (BeginsItsCall self.old node (HasRequests number) self.new) }
         ensures weave { OnOk result (BeginIsWoven self.old node (HasRequests number) self.new) }
+        ensures read { KeepsReads self.old self.new }
         ensures room { self.new.room ≡ self.old.room }
         ensures refused { IfErr result (IsBeginRefusal self.old node (HasRequests number)) }
         ensures always { IfErr result (λ error. error ≡ WantOfMemory → ⊥) }

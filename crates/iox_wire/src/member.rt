@@ -33,8 +33,10 @@ pub(crate) struct Member {
     // the handles that it has, and those for which it has room
     most: usize,
     call: Option<BegunCall>,
-    // the words of that call, as far as there is room for them, and for how many that is
+    // the words of that call, as far as there is room for them, those of its last read that is over,
+    // and for how many there is room
     words: Vec<u64>,
+    read: Vec<u64>,
     longest: usize,
 }
 
@@ -54,14 +56,16 @@ impl Model for Member {
       call = option_map
           (λ c. record { call = call_with m.words.items c.call; begun = c.begun }) m.call;
       longest = m.longest;
+      read = m.read.items;
     } };
 
     ghost invariant = { λ m.
-        HasItsRoom m.most m.node × FitsRoom m.longest m.words.items (vec_capacity m.words) };
+        HasItsRoom m.most m.node × FitsRoom m.longest m.words.items (vec_capacity m.words)
+        × FitsRoom m.longest m.read.items (vec_capacity m.read) };
 }
 
 impl Member {
-    ghost use Rattle.std.specs.Prelude.{◌≡◌, ◌<◌, ℕ, IfOk, List, None, Some, false, nat_le, true};
+    ghost use Rattle.std.specs.Prelude.{◌≡◌, ◌<◌, ℕ, [], IfOk, List, None, Some, false, nat_le, true};
     ghost use Rattle.std.specs.Bool.{OnFalse, OnTrue};
     ghost use Rattle.iox_wire_weaves.specs.Begins.{is_busy};
     ghost use Rattle.iox_wire_weaves.specs.Rooms.{HasItsRoom, KeepsRooms};
@@ -75,7 +79,7 @@ impl Member {
     ghost use Rattle.iox_wire.specs.Kept.{FoundThere, HasGoneOn, MayAccess, access_in};
 
     /// A living node, which has so many handles and room for more together, and for so many words
-    /// of a call.
+    /// of a call, and of a read.
     pub(crate) fn new(
         alloc: Global,
         number: u64,
@@ -91,9 +95,11 @@ impl Member {
           node = node;
           call = None;
           longest = longest;
+          read = [];
         }) }
     {
         let words = Vec::with_capacity(alloc, longest)?;
+        let read = Vec::with_capacity(alloc, longest)?;
         Ok(Member {
             number,
             died: None,
@@ -101,6 +107,7 @@ impl Member {
             most,
             call: None,
             words,
+            read,
             longest,
         })
     }
@@ -151,11 +158,11 @@ impl Member {
         self.died = Some(events);
     }
 
-    /// The words that its last read loaded.
-    pub(crate) fn words(&self) -> &[u64]
-        ensures { result.now ≡ self.now.node.seat.words }
+    /// The words of its last read that is over.
+    pub(crate) fn words_read(&self) -> &[u64]
+        ensures { result.now ≡ self.now.read }
     {
-        self.node.words()
+        &self.read
     }
 
     /// Why it makes no step, if it lives.
@@ -206,6 +213,7 @@ impl Member {
         ensures number { self.new.number ≡ self.old.number }
         ensures lives { LivesAs self.old self.new }
         ensures call { self.new.call ≡ self.old.call }
+        ensures read { self.new.read ≡ self.old.read }
         ensures rooms { KeepsRooms self.old.node self.new.node }
     {
         self.node.place();

@@ -75,7 +75,7 @@ impl Wire {
     ghost use Rattle.iox_wire_weaves.specs.Tables.{Setting};
     ghost use Rattle.iox_wire_weaves.specs.declared.refusal.WireRefusal.TheVariants.{WantOfMemory};
     ghost use Rattle.iox_wire_weaves.specs.Steps.{DeathIsWoven, MakesItsAccess, StepIsWoven};
-    ghost use Rattle.iox_wire_weaves.specs.Steps.{IsOwnAnswer, step_refusal};
+    ghost use Rattle.iox_wire_weaves.specs.Steps.{IsOwnAnswer, KeepsRead, step_refusal};
     ghost use Rattle.iox_wire_weaves.specs.Wires.{AreWhole, OpensOn, ShowsOpened, living_refusal};
     ghost use Rattle.iox_wire.specs.Kept.{HaveRoomFor, Loses};
 
@@ -197,6 +197,7 @@ impl Wire {
         ensures one_access { OnOk result (MakesItsAccess self.old node self.new) }
         ensures weave { IfOk result (λ progress. StepIsWoven self.old node progress self.new) }
         ensures own { IfOk result (IsOwnAnswer self.old node) }
+        ensures read { IfOk result (λ progress. KeepsRead self.old node progress self.new) }
         ensures room { OnOk result (self.new.room + 1 ≡ max self.old.room 1) }
         ensures allowed { OnOk result (step_refusal self.old node ≡ None) }
         ensures refused { IfErr result (IsRefusal WantOfMemory (step_refusal self.old node)) }
@@ -222,6 +223,7 @@ impl Wire {
         ensures one_access { MakesItsAccess self.old node self.new }
         ensures weave { StepIsWoven self.old node result self.new }
         ensures own { IsOwnAnswer self.old node result }
+        ensures read { KeepsRead self.old node result self.new }
         ensures room { self.new.room + 1 ≡ self.old.room }
     {
         let member = &self.members[place];

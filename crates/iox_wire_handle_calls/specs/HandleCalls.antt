@@ -1,5 +1,6 @@
 -- The calls of a port or a handle, why they do not begin, and how a node begins them.
 use Rattle.std.specs.Prelude.{◌≡◌, ℕ, List, Option, Some, None}
+use Rattle.std.specs.Option.{option_map_or}
 use Rattle.iox_model.specs.declared.call.Call.TheVariants as calls
 use Rattle.iox_model.specs.declared.call.WireCall.TheVariants.{Port}
 use Rattle.iox_model.specs.declared.kind.Kind.{Kind}
@@ -8,9 +9,12 @@ use Rattle.iox_model.specs.declared.kind.Role.{Role}
 use Rattle.iox_model.specs.declared.kind.Role.TheVariants.{Client, Server}
 use Rattle.iox_model.specs.declared.reply.Refusal.TheVariants as refusals
 use Rattle.iox_model.specs.Commands.{Call, Payload, Refusal, WireCall}
+use Rattle.iox_model.specs.Settings.{shape_of}
+use Rattle.iox_model.specs.WireCalls.{elements_for}
 use Rattle.iox_wire_stops.specs.Begins.{begin, refusal_at}
-use Rattle.iox_wire_stops.specs.Tables.{Setting}
+use Rattle.iox_wire_stops.specs.Tables.{Setting, entry_at}
 use Rattle.iox_wire_stops.specs.Aims.{IsAimed}
+use Rattle.iox_wire_stops.specs.Seat.{Seat}
 use Rattle.iox_wire_stops.specs.Seats.{Placed}
 use Rattle.iox_wire_handle_calls.specs.declared.asked.Asked.{Asked}
 use Rattle.iox_wire_handle_calls.specs.declared.asked.Asked.TheVariants as asked
@@ -46,10 +50,19 @@ HasRole (asked.Write role) y = y.role ≡ role
 HasRole (asked.SendCopy role) y = y.role ≡ role
 HasRole call y = Unit {0}
 
--- the write of such a payload
-abbrev pub write_of : ℕ → Role → Option ℕ → List ℕ → WireCall
-write_of n role elements words =
-    Port (calls.Write n (record { role = role; elements = elements; words = words }))
+-- these words as the payload of the loan of that number, a request's or a response's by that role: they
+-- are of all its elements, if there are just as many words
+abbrev pub payload_for : Setting → Seat → ℕ → Role → List ℕ → Payload
+payload_for p x n role words = record {
+  role = role;
+  elements = option_map_or (λ e. elements_for (shape_of p.limits role) e.elements words)
+      (entry_at n x.table) None;
+  words = words;
+}
+
+-- the write of that payload
+abbrev pub write_of : Setting → Seat → ℕ → Role → List ℕ → WireCall
+write_of p x n role words = Port (calls.Write n (payload_for p x n role words))
 
 -- ---- how they begin
 

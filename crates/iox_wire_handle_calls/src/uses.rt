@@ -1,5 +1,5 @@
 //! Callers, proved from the clauses alone.
-ghost use Rattle.std.specs.Prelude.{ℕ, ◌≡◌, ◌+◌, ◌*◌, ◌<◌, ◌^◌, ◌≤◌, Err, IfOk, IfSome, None, OnOk, Some, length, vec_capacity};
+ghost use Rattle.std.specs.Prelude.{◌≡◌, ◌+◌, ◌<◌, ◌^◌, ◌≤◌, Err, IfOk, IfSome, None, OnOk, Some, vec_capacity};
 ghost use Rattle.iox_model.specs.declared.call.Call.TheVariants.{IsConnected, Read, SetHint};
 ghost use Rattle.iox_model.specs.declared.call.WireCall.TheVariants.{Port};
 ghost use Rattle.iox_model.specs.declared.kind.Role.TheVariants.{Client};
@@ -15,7 +15,7 @@ ghost use Rattle.iox_wire_stops.specs.Programs.{program_access};
 ghost use Rattle.iox_wire_handle_calls.specs.declared.error.BeginError.TheVariants as errors;
 ghost use Rattle.iox_wire_handle_calls.specs.HandleCalls.{write_of};
 ghost use Rattle.iox_wire_handle_calls.specs.PlacedHandles.{HasLoanSlot, HasRoomForSlots, IsReadable};
-ghost use Rattle.iox_wire_handle_calls.specs.PlacedHandles.{IsWritableAs, words_each};
+ghost use Rattle.iox_wire_handle_calls.specs.PlacedHandles.{IsWritableAs};
 ghost use Rattle.iox_wire_stops.specs.OwnStates.{HasStates};
 
 use crate::asking::begin_is_connected;
@@ -32,7 +32,6 @@ pub fn payload_written_by_one_step(
     seat: &mut StoredSeat,
     map: &WordMap,
     number: u64,
-    elements: Option<u64>,
     words: &[u64],
     seen: u64,
 ) -> Result<Option<SeatReply>, BeginError>
@@ -40,14 +39,13 @@ pub fn payload_written_by_one_step(
     requires slot { IfSome (entry_at number seat.old.seat.table) (HasLoanSlot map.now) }
     requires writable { IfSome (entry_at number seat.old.seat.table)
         (IsWritableAs map.now Client) }
-    requires whole { (k : ℕ) → elements ≡ Some k
-        → length words.now ≡ k * words_each map.now Client }
     requires words { HasRoomForSlots map.now seat.old.words_room }
     requires accesses { seat.old.seat.accesses + 1 < 2 ^ 64 }
     ensures { (p : Setting) → IsSettingOf map.now p → OnOk result (seat.new.seat
-        ≡ next p (begin p seat.old.seat (write_of number Client elements words.now)) seen) }
+        ≡ next p
+        (begin p seat.old.seat (write_of p seat.old.seat number Client words.now)) seen) }
 {
-    begin_write(seat, map, number, Role::Client, elements, words)?;
+    begin_write(seat, map, number, Role::Client, words)?;
     Ok(seat.go_on(seen))
 }
 

@@ -30,7 +30,7 @@ use Rattle.iox_wire_calls.specs.Local.{Local}
 use Rattle.iox_model.specs.States.{Port}
 use Rattle.iox_model.specs.declared.way.Way.{Way}
 
--- nothing is stored or loaded at the place
+-- nothing is stored or loaded at the place, nor told of a read
 abbrev pub IsFirst : Local → Type 0
 IsFirst (LendStores o slot next) = next ≡ 0
 IsFirst (Writes e words next) = next ≡ 0
@@ -39,12 +39,14 @@ IsFirst (ReceiveLoads v w slot header left waiting) = header ≡ []
 IsFirst (ReceiveAsks v w slot header left waiting) = ⊥
 IsFirst (Ends (endings.Lends o slot)) = ⊥
 IsFirst (Ends (endings.Fills e words)) = words ≡ []
+IsFirst (Ends (endings.Words words)) = words ≡ []
 IsFirst (Ends (endings.Receives v w slot header)) = ⊥
 IsFirst local = Unit {0}
 
 ended_first : (ending : Ending) → IsQuiet (Ends ending) → IsFirst (Ends ending)
 ended_first (endings.Lends o slot) still = still
 ended_first (endings.Fills e words) still = absurd still
+ended_first (endings.Words words) still = absurd still
 ended_first (endings.Receives v w slot header) still = still
 ended_first ending still = tt
 
@@ -120,7 +122,7 @@ module _ (p : Setting) (x : Seat) where
   at_entry (calls.Send n) e = of_quiet _ (quiet.sends p x e false)
   at_entry (calls.SendCopy n y) e = copies_response e y.elements y.words
   at_entry (calls.Receive n) e = of_quiet _ (quiet.visiting p x _ _ false)
-  at_entry (calls.Read n) e = either (words_to_read p e == 0) _ _ tt refl
+  at_entry (calls.Read n) e = either (words_to_read p e == 0) _ _ refl refl
   at_entry (calls.Release n) e = releasing e
   at_entry (calls.IsConnected n) e = of_quiet _ (quiet.checking p x e false _)
   at_entry (calls.SetHint n) e = of_quiet _ (quiet.hinting p x e _)

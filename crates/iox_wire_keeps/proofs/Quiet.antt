@@ -35,7 +35,7 @@ use Rattle.iox_steps.specs.declared.side.Popping.{Popping}
 use Rattle.iox_model.specs.declared.way.Way.{Way}
 use Rattle.iox_wire_calls.specs.Visit.{Visit}
 
--- the place lends, writes and reads nothing, and loaded no word of a header
+-- the place lends, writes and reads nothing, loaded no word of a header, and tells none of a read
 abbrev pub IsQuiet : Local → Type 0
 IsQuiet (LendEmpties o w place left) = ⊥
 IsQuiet (LendStores o slot next) = ⊥
@@ -45,6 +45,7 @@ IsQuiet (ReceiveLoads v w slot header left waiting) = header ≡ []
 IsQuiet (ReceiveAsks v w slot header left waiting) = ⊥
 IsQuiet (Ends (endings.Lends o slot)) = ⊥
 IsQuiet (Ends (endings.Fills e words)) = ⊥
+IsQuiet (Ends (endings.Words words)) = ⊥
 IsQuiet (Ends (endings.Receives v w slot header)) = ⊥
 IsQuiet local = Unit {0}
 

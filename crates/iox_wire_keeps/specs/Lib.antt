@@ -43,6 +43,7 @@ pub use Rattle.iox_wire_calls.specs.Places
 pub use Rattle.iox_wire_calls.specs.PoolSlots
 pub use Rattle.iox_wire_calls.specs.Programs
 pub use Rattle.iox_wire_calls.specs.Readiness
+pub use Rattle.iox_wire_calls.specs.ReceiveCourses
 pub use Rattle.iox_wire_calls.specs.Recorded
 pub use Rattle.iox_wire_calls.specs.Records
 pub use Rattle.iox_wire_calls.specs.Rows
@@ -59,4 +60,5 @@ pub use Rattle.iox_wire_calls.specs.Tables
 pub use Rattle.iox_wire_calls.specs.UsedSlots
 pub use Rattle.iox_wire_calls.specs.Uses
 pub use Rattle.iox_wire_calls.specs.UsesLaws
+pub use Rattle.iox_wire_calls.specs.Visit
 pub use Rattle.iox_wire_calls.specs.WholeSteps

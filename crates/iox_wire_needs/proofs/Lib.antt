@@ -6,6 +6,7 @@ pub mod Uses
 pub mod GivenUp
 pub mod Tidying
 pub mod Copying
+pub mod ReadWords
 pub mod Handles
 pub mod SettingsStay
 pub mod OwnBegins

@@ -1,6 +1,7 @@
 -- In reading order: what no step changes, that calls begin by their node's own data, and that a place
 -- bounds its access; what a node may count, and that it stays tidy; slots and lanes that its place names;
--- which slots are in use; that a copy goes on; and what it may do with its handles.
+-- which slots are in use; that a copy goes on; which words a read tells; and what it may do with its
+-- handles.
 pub mod SettingsStay
 pub mod OwnBegins
 pub mod PlaceBounds
@@ -9,6 +10,7 @@ pub mod Tidying
 pub mod Places
 pub mod Uses
 pub mod Copying
+pub mod ReadWords
 pub mod Handles
 -- what the crates above cite of those below
 pub use Rattle.iox_wire_keeps.specs.Aside

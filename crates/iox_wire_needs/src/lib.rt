@@ -8,6 +8,8 @@ ghost use Rattle.iox_wire_needs.specs.Handles.{HandlesMayBeGivenUp};
 ghost use Rattle.iox_wire_needs.specs.OwnBegins.{CallsBeginByOwnData};
 ghost use Rattle.iox_wire_needs.specs.PlaceBounds.{CellsStay, NodesAreBound, PlacesBoundAccesses};
 ghost use Rattle.iox_wire_needs.specs.Places.{PlacesAreInPools};
+ghost use Rattle.iox_wire_needs.specs.ReadWords.{BegunReadsTellNone, ReadsTellMessages};
+ghost use Rattle.iox_wire_needs.specs.ReadWords.{SteppedReadsTellNone};
 ghost use Rattle.iox_wire_needs.specs.SettingsStay.{StepsLeaveSettings};
 ghost use Rattle.iox_wire_needs.specs.Tidying.{BegunNodesAreTidy, SteppedNodesAreTidy};
 ghost use Rattle.iox_wire_needs.specs.Uses.{AccessesFindInUse, RequestsMayBeGivenUp};
@@ -42,6 +44,14 @@ pub fn loans_may_be_given_up()
 pub fn copies_go_on()
     ensures begins { BegunCopiesGoOn }
     ensures steps { SteppedCopiesGoOn }
+{}
+
+/// No read has words to tell before its first access, and those that it tells are of a message in a
+/// slot.
+pub fn reads_tell_messages()
+    ensures begins { BegunReadsTellNone }
+    ensures steps { SteppedReadsTellNone }
+    ensures tells { ReadsTellMessages }
 {}
 
 /// A handle that was not received may be given up.

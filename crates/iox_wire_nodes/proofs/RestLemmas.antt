@@ -48,6 +48,12 @@ seat_rests n at.SendsResponse own rests = at_its_place n.seat.seat n.responds.lo
 seat_rests n at.CopiesRequest own rests = at_its_place n.seat.seat n.copies_request.local own rests
 seat_rests n at.CopiesResponse own rests = at_its_place n.seat.seat n.copies_response.local own rests
 
+-- so it is of a node as its own code has it
+pub own_rests : {n old : Node} → n ≡ old → RestsUnless (same_call at.Seats n.at) n.seat.seat.local → is_busy (seat_in old).local ≡ false
+    → n.seat.seat ≡ seat_in old
+own_rests {n} same own rests =
+    sym (seat_rests n n.at own (ap (λ (o : Node). is_busy (seat_in o).local) same ∙ rests)) ∙ ap seat_in same
+
 -- what begins in the seat begins so
 pub begun_in : (p : Setting) (call : WireCall) {n old : Node} (y : Placed) → n ≡ old → RestsUnless (same_call at.Seats n.at) n.seat.seat.local
     → is_busy (seat_in old).local ≡ false → handles.IsBegun p n.seat call y → y.seat.accesses ≡ n.seat.seat.accesses → y.room ≡ n.seat.room → HasSameRooms n.seat y
@@ -64,6 +70,14 @@ begun_in p call {n} y same own rests by accesses room rooms =
         may = λ lends. tt;
       };
     })
+
+-- so it does where the call is told by the node's own data
+pub told_in : (p : Setting) (call : Seat → WireCall) {n old : Node} (y : Placed) → n ≡ old → RestsUnless (same_call at.Seats n.at) n.seat.seat.local
+    → is_busy (seat_in old).local ≡ false → handles.IsBegun p n.seat (call n.seat.seat) y → y.seat.accesses ≡ n.seat.seat.accesses → y.room ≡ n.seat.room → HasSameRooms n.seat y
+    → IsBegun p old (call (seat_in old)) (record n { at = at.Seats; seat = y })
+told_in p call {n} {old} y same own rests by accesses room rooms =
+    subst (λ (x : Seat). IsBegun p old (call x) (record n { at = at.Seats; seat = y })) (own_rests same own rests)
+    (begun_in p (call n.seat.seat) y same own rests by accesses room rooms)
 
 -- ---- what it may add
 

@@ -9,6 +9,8 @@ use Rattle.iox_model.specs.WireCalls.{in_words}
 use Rattle.iox_wire_begins.specs.WirePlan.{WirePlan}
 use Rattle.iox_wire_begins.specs.Plans.{details_of}
 use Rattle.iox_wire_begins.specs.WholeElements.{elements_in, whole_elements}
+use Rattle.iox_wire_begins.specs.HandleCalls.{payload_for}
+use Rattle.iox_wire_begins.specs.Seat.{Seat}
 use Rattle.iox_wire_begins.specs.Asked.{Asked}
 use Rattle.iox_wire_begins.specs.Asked.TheVariants as asked
 use Rattle.iox_wire_begins.specs.WireTerms.{WireTerms}
@@ -52,15 +54,16 @@ of_handle handle_calls.SetHint n = calls.SetHint n
 of_handle handle_calls.HasHint n = calls.HasHint n
 of_handle handle_calls.HasResponse n = calls.HasResponse n
 
--- and of a call of a port or a handle
-abbrev pub call_in : Setting → NodeCall → Call
-call_in p (node_calls.Loan n k) = calls.Loan n k
-call_in p (node_calls.Write n y) = calls.Write n (payload_of p y)
-call_in p (node_calls.Send n) = calls.Send n
-call_in p (node_calls.SendCopy n y) = calls.SendCopy n (payload_of p y)
-call_in p (node_calls.Receive n) = calls.Receive n
-call_in p (node_calls.HasRequests n) = calls.HasRequests n
-call_in p (node_calls.Handle n call) = of_handle call n
+-- and of a call of a port or a handle of that node: a write is of all elements of its loan, if it has
+-- just as many words
+abbrev pub call_in : Setting → Seat → NodeCall → Call
+call_in p x (node_calls.Loan n k) = calls.Loan n k
+call_in p x (node_calls.Write n y) = calls.Write n (payload_for p x n y.role y.words.now)
+call_in p x (node_calls.Send n) = calls.Send n
+call_in p x (node_calls.SendCopy n y) = calls.SendCopy n (payload_of p y)
+call_in p x (node_calls.Receive n) = calls.Receive n
+call_in p x (node_calls.HasRequests n) = calls.HasRequests n
+call_in p x (node_calls.Handle n call) = of_handle call n
 
 -- such a call, its payload as words
 abbrev pub call_in_words : NodeCall → the_call.Call (List ℕ)

@@ -33,7 +33,7 @@ use Rattle.iox_wire_nodes.specs.Seat.{Seat}
 use Rattle.iox_wire_nodes.specs.Tables.{Setting, entry_at, port_shape, state_in, way_in}
 use Rattle.iox_wire_nodes.specs.WirePlans.{HandleStands, IsLaneOf, IsWirePlan}
 use Rattle.iox_wire_nodes.specs.PlacedHandles.{HasSlot, IsWritableAs, is_loan_of, words_behind_header, words_each}
-use Rattle.iox_wire_nodes.proofs.Planned.{Found, each_planned, find_planned}
+use Rattle.iox_wire_nodes.proofs.Planned.{Found}
 use Rattle.iox_wire_needs.specs.CallPlaces.{SuitsPort, is_kind_of}
 use Rattle.iox_wire_needs.specs.CallsStand.{CallStands}
 use Rattle.iox_wire_needs.specs.Counts.{IsTidy}
@@ -51,7 +51,8 @@ use Rattle.iox_wire_needs.proofs.LanesTell.{in_table, lane_of_client, low, reque
 use Rattle.iox_wire_needs.proofs.OwnPorts.{is_response}
 use Rattle.iox_wire_weaves.specs.Laws.{HandlesStand}
 use Rattle.iox_wire_weaves.specs.Wires.{Shows, WireData, WireNode, living_refusal, node_at, players_of, seat_of}
-use Rattle.iox_wire_weaves.proofs.SlotRooms.{eighth, payload_behind, slot_room, within, within_slot}
+use Rattle.iox_wire_weaves.proofs.PortSlots as slots
+use Rattle.iox_wire_weaves.proofs.SlotRooms.{eighth, payload_behind, within}
 use Rattle.iox_wire_weaves.proofs.NodesKnown.{entry_there, handle_kind, here, idle, if_some, lives, same}
 
 -- ---- kinds and roles
@@ -133,21 +134,18 @@ module _ (p : Setting) (wire : WireData) (r : Run) (n : ℕ) (x : WireNode) (sho
   -- ---- the plan
 
   sizes_are : p.layout.sizes ≡ sizes_of wire.plan
-  sizes_are = ap (λ (l : WireLayout). l.sizes) shows.setting.setting.layout
+  sizes_are = slots.sizes_are p wire r shows
 
-  -- the plan's port of a number of the wire
   planned : (port : ℕ) → has_number port p.layout.sizes.ports ≡ true → Found (λ q. IsAsPlanned q (p.port q.number)) wire.plan.ports.items port
-  planned port known =
-      find_planned (λ q. IsAsPlanned q (p.port q.number)) wire.plan.ports.items port
-      (each_planned p.port wire.plan.ports.items shows.setting.setting.is_for.ports)
-      (subst (λ (z : Sizes). has_number port z.ports ≡ true) sizes_are known)
+  planned port known = slots.planned p wire r shows port known
 
   module _ (port : ℕ) (known : has_number port p.layout.sizes.ports ≡ true) where
     abbrev q : PlanPort
     q = (planned port known).port
 
     pool_is : (p.port port).pool ≡ (planned port known).port.pool
-    pool_is = ap (λ k. (p.port k).pool) (sym (planned port known).number) ∙ (planned port known).so.pool
+    unfolding planned
+    pool_is = slots.pool_is p wire r shows port known
 
     role_is : (p.port port).role ≡ (planned port known).port.role
     role_is = ap (λ k. (p.port k).role) (sym (planned port known).number) ∙ (planned port known).so.role
@@ -281,25 +279,10 @@ module _ (p : Setting) (wire : WireData) (r : Run) (n : ℕ) (x : WireNode) (sho
 
   -- ---- and those of a slot
 
-  region_there : p.layout.sizes.region e.sender ≡ (p.port e.sender).pool * slot_words_of wire.plan e.sender
-  region_there =
-      ap (λ (z : Sizes). z.region e.sender) sizes_are
-      ∙ ap (λ (o : Option PlanPort). option_map_or (λ (k : PlanPort). k.pool * k.slot_words) o 0) (planned e.sender known).found
-      ∙ ap₂ (λ (a b : ℕ). a * b) (sym (pool_is e.sender known))
-      (sym (ap (λ (o : Option PlanPort). option_map_or (λ (k : PlanPort). k.slot_words) o 0) (planned e.sender known).found))
-
-  some_slot : (k pool : ℕ) → k < pool → 0 < pool
-  some_slot k pool less = omega (arith, less)
-
   in_slot : length (port_shape p e.sender).user + e.elements * (port_shape p e.sender).width ≤ slot_words_of wire.plan e.sender
   in_slot =
-      within_slot d.header_part.size d.user_part.size (d.user_part.alignment - 1) d.element_part.size (d.element_part.alignment - 1) (length d.user) d.width e.elements
-      (p.port e.sender).longest (message_size d (p.port e.sender).longest) (slot_words_of wire.plan e.sender)
-      message.fits.region.user message.fits.region.element (subst (λ k. k ≤ (p.port e.sender).longest) (stored.lengths e has low_slot) message.fits.room)
-      (aligned_place-ge (bytes_of_parts d.header_part d.user_part d.element_part (p.port e.sender).longest) d.header_part.alignment
-      (IsPowerOfTwo-positive d.header_part.alignment message.fits.region.header_part))
-      (slot_room (p.layout.sizes.region e.sender) (p.port e.sender).pool (message_size d (p.port e.sender).longest) (slot_words_of wire.plan e.sender)
-      message.fits.region.region region_there (some_slot e.slot (p.port e.sender).pool low_slot))
+      slots.message_in_slot p wire r shows e.sender known message.fits.region e.slot e.elements low_slot
+      (subst (λ k. k ≤ (p.port e.sender).longest) (stored.lengths e has low_slot) message.fits.room)
 
   few : words_behind_header wire.plan e.sender e.elements ≤ slot_words_of wire.plan e.sender
   few = subst (λ k. k ≤ slot_words_of wire.plan e.sender) (sym words_are) in_slot

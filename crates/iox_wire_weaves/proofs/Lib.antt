@@ -9,7 +9,10 @@ pub mod DeathsShown
 pub mod BeginsShown
 pub mod NodesKnown
 mod SlotRooms
+mod PortSlots
 pub mod HandlesStanding
+pub mod CallsSaid
+pub mod ReadsWithin
 pub mod Opened
 pub mod LivingDesks
 pub mod CountsTold
@@ -19,6 +22,7 @@ pub use Rattle.iox_wire_needs.proofs.Copying
 pub use Rattle.iox_wire_needs.proofs.Counts
 pub use Rattle.iox_wire_needs.proofs.GivenUp
 pub use Rattle.iox_wire_needs.proofs.OpenedDesks
+pub use Rattle.iox_wire_needs.proofs.ReadWords
 pub use Rattle.iox_wire_needs.proofs.Tidying
 pub use Rattle.iox_wire_needs.proofs.Uses
 pub use Rattle.iox_wire_nodes.proofs.BesideLemmas

@@ -15,7 +15,7 @@ use Rattle.iox_laws.proofs.WeaveLaws.MapLemmas.{eqb-refl}
 use Rattle.iox_wire_nodes.specs.declared.call_at.NodeReply.{NodeReply}
 use Rattle.iox_wire_nodes.specs.Nodes.{reply_in}
 use Rattle.iox_wire_needs.specs.WholeSteps.{step_beats}
-use Rattle.iox_wire_weaves.specs.Replies.{call_within, died_after, died_from, finished_within, reply_within, under_way, under_way_from, under_way_within}
+use Rattle.iox_wire_weaves.specs.Replies.{call_within, died_after, died_from, finished_within, under_way, under_way_from, under_way_within}
 use Rattle.iox_wire_weaves.specs.Laws.{LivesAs}
 use Rattle.iox_wire_weaves.specs.Steps.{call_after, finished_by}
 use Rattle.iox_wire_weaves.specs.Wires.{KeepsItsCall, WireNode}
@@ -82,14 +82,14 @@ step_finishes n payload None (Some reply) e u = ap (λ k. finish (u n) n reply k
 step_finishes n payload (Some m) (Some reply) e u = refl
 
 -- those that are kept
-kept_ended : (most n e : ℕ) (u : Option UnderWay) (x : WireNode) (words : List ℕ) (reply : Option NodeReply) → x.longest ≡ most
+kept_ended : (most n e : ℕ) (u : Option UnderWay) (x : WireNode) (words : List ℕ) (reply : Option NodeReply)
     → x.call ≡ option_map (under_way_within most) u → finished_by n x words e reply ≡ map (finished_within most) (ended e u n (option_map (reply_in words) reply))
-kept_ended most n e u x words None room call = refl
-kept_ended most n e u x words (Some reply) room call =
-    ap₂ (λ c k. finish c n (reply_within k (reply_in words reply)) e []) call room ∙ by_call u
+kept_ended most n e u x words None call = refl
+kept_ended most n e u x words (Some reply) call =
+    ap (λ c. finish c n (reply_in words reply) e []) call ∙ by_call u
   where
     by_call : (v : Option UnderWay)
-        → finish (option_map (under_way_within most) v) n (reply_within most (reply_in words reply)) e []
+        → finish (option_map (under_way_within most) v) n (reply_in words reply) e []
         ≡ map (finished_within most) (finish v n (reply_in words reply) e [])
     by_call None = refl
     by_call (Some v) = refl
@@ -101,7 +101,7 @@ pub step_replies : (most n : ℕ) (bs : List Beat) (payload : List ℕ) (m : Opt
     ≡ map (finished_within most) (replies_of (bs ++ step_beats n payload m told))
 step_replies most n bs payload m told x words reply events keeps same is =
     ap (λ es. map (finished_within most) (replies_of bs) ++ es)
-    (kept_ended most n (length events) (under_way bs n) x words reply keeps.room keeps.call
+    (kept_ended most n (length events) (under_way bs n) x words reply keeps.call
     ∙ ap₂ (λ k t. map (finished_within most) (ended k (under_way bs n) n t)) count (sym same)
     ∙ ap (map (finished_within most)) (sym (step_finishes n payload m told (moments bs) (under_way bs))))
     ∙ sym (map-append (finished_within most) (replies_of bs) (finished_from (moments bs) (under_way bs) (step_beats n payload m told)))

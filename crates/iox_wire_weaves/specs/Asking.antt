@@ -1,17 +1,37 @@
 -- Why a call does not begin on a wire, and what the begin of one does.
 use Rattle.std.specs.Prelude.{◌≡◌, ℕ, ◌==◌, false, Option, None, option_map}
+use Rattle.iox_model.specs.declared.call.Call.TheVariants as calls
 use Rattle.iox_model.specs.declared.call.WireCall.TheVariants.{Port}
 use Rattle.iox_model.specs.Commands.{Call, Refusal, WireCall}
+use Rattle.iox_model.specs.Handles.{subject}
 use Rattle.iox_model.specs.Loans.{Choice}
 use Rattle.iox_model.specs.Maps.{or_else}
+use Rattle.iox_model.specs.States.{Fixed}
 use Rattle.iox_model.specs.Weaves.{Begins, begin_refusal}
-use Rattle.iox_wire_nodes.specs.Calls.{call_in}
+use Rattle.iox_model.specs.WireCalls.{copied_payload, said, written_payload}
+use Rattle.iox_wire_nodes.specs.Calls.{call_in_words}
 use Rattle.iox_wire_nodes.specs.LocalsBegins.{begin, refusal_at}
 use Rattle.iox_wire_nodes.specs.Tables.{Setting}
 use Rattle.iox_wire_nodes.specs.declared.node_call.NodeCall.{NodeCall}
+use Rattle.iox_wire_nodes.specs.declared.node_call.NodeCall.TheVariants as node_calls
 use Rattle.iox_wire_needs.specs.Runs.{GoesOnBy, Run}
 use Rattle.iox_wire_weaves.specs.declared.refusal.WireRefusal.{WireRefusal}
 use Rattle.iox_wire_weaves.specs.Wires.{IsSameSetting, Shows, WireData, living_refusal, machine_refusal, node_at, refusal_in, seat_of}
+
+-- ---- calls
+
+-- a call as the machine reads its words (`said`), but of the role that it tells itself: what has no such
+-- payload is of the wrong kind
+abbrev pub call_said : Fixed → ℕ → NodeCall → Call
+call_said f n (node_calls.Write k y) =
+    calls.Write k (record (written_payload f (subject f n k) y.words.now) { role = y.role })
+call_said f n (node_calls.SendCopy k y) =
+    calls.SendCopy k (record (copied_payload f (subject f n k) y.words.now) { role = y.role })
+call_said f n call = said f n (call_in_words call)
+
+-- the machine's call that a node is asked for, where the run led
+abbrev pub asked_of : Run → ℕ → NodeCall → WireCall
+asked_of r n call = Port (call_said r.last.state.fixed n call)
 
 -- ---- refusals
 
@@ -27,13 +47,13 @@ call_refusal p wire n call =
 abbrev pub IsBeginRefusal : WireData → ℕ → NodeCall → WireRefusal → Type 0
 IsBeginRefusal wire n call refusal =
     (p : Setting) (r : Run) → Shows p wire r
-    → begin_refusal r.last n (Port (call_in p call)) ≡ machine_refusal refusal
+    → begin_refusal r.last n (asked_of r n call) ≡ machine_refusal refusal
 
 -- The machine does not refuse the call, in any run that the wire shows.
 abbrev pub MayBegin : WireData → ℕ → NodeCall → Type 0
 MayBegin wire n call =
     (p : Setting) (r : Run) → Shows p wire r
-    → begin_refusal r.last n (Port (call_in p call)) ≡ None
+    → begin_refusal r.last n (asked_of r n call) ≡ None
 
 -- ---- a begin
 
@@ -51,11 +71,11 @@ pub record BeginsCall (p : Setting) (old : WireData) (n : ℕ) (call : WireCall)
 -- so it is in each run that the wire shows
 abbrev pub BeginsItsCall : WireData → ℕ → NodeCall → WireData → Type 0
 BeginsItsCall old n call new =
-    (p : Setting) (r : Run) → Shows p old r → BeginsCall p old n (Port (call_in p call)) new
+    (p : Setting) (r : Run) → Shows p old r → BeginsCall p old n (asked_of r n call) new
 
 -- Each run that the wire showed goes on by the begin of that call, and the wire shows that run.
 abbrev pub BeginIsWoven : WireData → ℕ → NodeCall → WireData → Type 0
 BeginIsWoven old n call new =
     (p : Setting) (r : Run) → Shows p old r
-    → (c : Choice) × (after : Run) × GoesOnBy r (Begins n (Port (call_in p call)) c) after
+    → (c : Choice) × (after : Run) × GoesOnBy r (Begins n (asked_of r n call) c) after
     × Shows p new after

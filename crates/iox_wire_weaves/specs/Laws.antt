@@ -1,13 +1,14 @@
 -- That a wire shows a run as it opens, and goes on showing one.
-use Rattle.std.specs.Prelude.{◌≡◌, ℕ, ◌+◌, ◌==◌, false, true, ◌++◌, List, [], length, replicate, Option, Some, None, is_some, option_map, ◌<◌, IfSome}
+use Rattle.std.specs.Prelude.{◌≡◌, ◌⊎◌, ℕ, ◌+◌, ◌==◌, false, true, ◌++◌, List, [], length, replicate, Option, Some, None, is_some, option_map, ◌<◌, ◌≤◌, IfSome}
 use Rattle.iox_model.specs.Maps.{has_number}
 use Rattle.iox_model.specs.Schedules.{IsStepOf}
 use Rattle.iox_model.specs.States.{State}
-use Rattle.iox_model.specs.WireCalls.{in_wire_words}
+use Rattle.iox_model.specs.WireCalls.{in_wire_words, said}
 use Rattle.iox_model.specs.Commands.{Call, WireCall}
 use Rattle.iox_model.specs.Loans.{Choice}
 use Rattle.iox_model.specs.Weaves.{Beat, Begins, Dies, begin_refusal}
 use Rattle.iox_model.specs.declared.call.WireCall.TheVariants.{Port}
+use Rattle.iox_model.specs.declared.reply.Reply.TheVariants.{Words}
 use Rattle.iox_steps.specs.declared.access.Progress.{Progress}
 use Rattle.iox_steps.specs.declared.access.Progress.TheVariants.{Done, Going}
 use Rattle.iox_steps.specs.Accesses.{IsWithin, seen_at, words_after}
@@ -15,10 +16,11 @@ use Rattle.iox_steps.specs.Sites.{last_position}
 use Rattle.iox_wire_needs.specs.Counts.{IsTidy}
 use Rattle.iox_wire_needs.specs.MessageBegins.{WordsAreWhole}
 use Rattle.iox_model.specs.Names.{is_port}
-use Rattle.iox_wire_nodes.specs.LocalsBegins.{begin, is_busy}
+use Rattle.iox_wire_nodes.specs.Calls.{call_in, call_in_words}
+use Rattle.iox_wire_nodes.specs.LocalsBegins.{begin, is_busy, refusal_at}
 use Rattle.iox_word_map.specs.WordMaps.{total_words}
 use Rattle.iox_wire_nodes.specs.WirePlan.{WirePlan}
-use Rattle.iox_wire_nodes.specs.Plans.{IsPlan, sizes_of}
+use Rattle.iox_wire_nodes.specs.Plans.{IsPlan, sizes_of, slot_words_of}
 use Rattle.iox_wire_nodes.specs.Steps.{next, tells}
 use Rattle.iox_wire_nodes.specs.Tables.{Setting, entry_at}
 use Rattle.iox_wire_nodes.specs.WirePlans.{HandleStands, IsWirePlan}
@@ -26,16 +28,18 @@ use Rattle.iox_wire_nodes.specs.WireTerms.{WireTerms}
 use Rattle.iox_wire_nodes.specs.Aims.{IsAimed}
 use Rattle.iox_wire_nodes.specs.declared.call_at.CallAt.TheVariants.{Seats}
 use Rattle.iox_wire_nodes.specs.declared.call_at.NodeReply.{NodeReply}
+use Rattle.iox_wire_nodes.specs.declared.node_call.NodeCall.{NodeCall}
 use Rattle.iox_wire_nodes.specs.Nodes.{Node, reply_in, seat_in}
 use Rattle.iox_wire_needs.specs.Openings.{opened_seat}
 use Rattle.iox_wire_needs.specs.Places.{InPools}
+use Rattle.iox_wire_needs.specs.ReadWords.{TellsNoWords}
 use Rattle.iox_wire_needs.specs.Runs.{GoesOnBy, Run}
 use Rattle.iox_wire_needs.specs.WholeSteps.{GoesOnWith}
 use Rattle.iox_wire_seats.specs.SlotEvents.{slot_event}
 use Rattle.iox_wire_weaves.specs.Wires.{OpensOn, Shows, ShowsOpened, WireData, WireNode, answers_in, living_refusal, node_at, seat_of}
 use Rattle.iox_wire_weaves.specs.Replies.{call_within, most_words}
 use Rattle.iox_wire_weaves.specs.Steps.{MakesOneAccess, access_of, answer_of, call_after, finished_by, recorded, step_refusal}
-use Rattle.iox_wire_weaves.specs.Asking.{BeginsCall, call_refusal}
+use Rattle.iox_wire_weaves.specs.Asking.{BeginsCall, call_refusal, call_said}
 
 -- ---- an opening
 
@@ -48,7 +52,7 @@ pub record IsFresh (p : Setting) (plan : WirePlan) (terms : WireTerms) (nodes : 
   pub nodes_are : (n : ℕ) → is_some (node_at n wire.nodes) ≡ has_number n nodes
   pub seats : (n : ℕ) (x : WireNode) → node_at n wire.nodes ≡ Some x
       → (seat_in x.node ≡ opened_seat p n) × (x.alive ≡ true) × (x.node.at ≡ Seats)
-      × (x.call ≡ None) × (x.longest ≡ most_words plan) × (x.died ≡ None)
+      × (x.call ≡ None) × (x.longest ≡ most_words plan) × (x.died ≡ None) × (x.read ≡ [])
   pub replies : wire.replies ≡ []
   pub events : wire.events ≡ []
 
@@ -158,6 +162,26 @@ abbrev pub RefusalsAreShown : Type 0
 RefusalsAreShown =
     (p : Setting) (wire : WireData) (r : Run) (n : ℕ) (call : Call) → Shows p wire r
     → begin_refusal r.last n (Port call) ≡ call_refusal p wire n call
+
+-- A living node that has no words to tell before its access tells no more of a read than a message takes
+-- in a slot of its port.
+abbrev pub ReadsAreWithin : Type 0
+ReadsAreWithin =
+    (p : Setting) (wire : WireData) (r : Run) (n : ℕ) (x : WireNode) (seen : ℕ) (told : List ℕ)
+    → Shows p wire r → living_refusal wire.nodes n ≡ None → node_at n wire.nodes ≡ Some x
+    → TellsNoWords (seat_in x.node).local → tells p (seat_in x.node) seen ≡ Some (Words told)
+    → (told ≡ []) ⊎ ((port : ℕ) × (length told ≤ slot_words_of wire.plan port))
+
+-- The machine refuses a call that a node is asked for as the call that the node makes of it. Where it
+-- does not, they are the same, and the machine's own reading of the words.
+abbrev pub CallsAreSaid : Type 0
+CallsAreSaid =
+    (p : Setting) (wire : WireData) (r : Run) (n : ℕ) (x : WireNode) (call : NodeCall)
+    → Shows p wire r → node_at n wire.nodes ≡ Some x
+    → let own = call_in p (seat_in x.node) call in let f = r.last.state.fixed in
+    (begin_refusal r.last n (Port (call_said f n call)) ≡ begin_refusal r.last n (Port own))
+    × (living_refusal wire.nodes n ≡ None → refusal_at p (seat_in x.node) (Port own) ≡ None
+    → (call_said f n call ≡ own) × (call_said f n call ≡ said f n (call_in_words call)))
 
 -- After the begin of a call that is not refused, whose words are of whole elements, the wire shows
 -- the run with that beat.

@@ -23,6 +23,7 @@ pub use Rattle.iox_wire_needs.specs.NewLoan
 pub use Rattle.iox_wire_needs.specs.NewLoans
 pub use Rattle.iox_wire_needs.specs.Openings
 pub use Rattle.iox_wire_needs.specs.Places
+pub use Rattle.iox_wire_needs.specs.ReadWords
 pub use Rattle.iox_wire_needs.specs.Runs
 pub use Rattle.iox_wire_needs.specs.Serials
 pub use Rattle.iox_wire_needs.specs.Settlements

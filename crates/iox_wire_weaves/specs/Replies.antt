@@ -1,14 +1,12 @@
 -- The calls of nodes that are under way after some beats, and when nodes died; and how many words of calls
--- and replies a wire keeps.
+-- a wire keeps.
 use Rattle.std.specs.Prelude.{ℕ, ◌+◌, List, [], ◌∷◌, Option, None, Some, max, take}
 use Rattle.std.specs.List.{fold}
-use Rattle.iox_model.specs.Commands.{Reply}
 use Rattle.iox_model.specs.Maps.{put_at}
 use Rattle.iox_model.specs.Schedules.{Finished, UnderWay}
 use Rattle.iox_model.specs.WireCalls.{WordsCall, in_wire_words, with_payloads}
 use Rattle.iox_model.specs.Weaves.{Beat, Begins, Dies, Ends, Makes}
 use Rattle.iox_model.specs.declared.call.WireCall.TheVariants.{Forget, Port}
-use Rattle.iox_model.specs.declared.reply.Reply.TheVariants.{Words}
 use Rattle.iox_wire_nodes.specs.WirePlan.{WirePlan}
 
 -- ---- calls under way
@@ -56,17 +54,12 @@ call_within most (Forget dead) = Forget dead
 abbrev pub under_way_within : ℕ → UnderWay → UnderWay
 under_way_within most u = record { call = call_within most u.call; begun = u.begun }
 
--- a reply, with no more than so many words of a read
-abbrev pub reply_within : ℕ → Reply → Reply
-reply_within most (Words words) = Words (take most words)
-reply_within most reply = reply
-
--- so it is of a finished call
+-- and of a finished one, whose reply is whole
 abbrev pub finished_within : ℕ → Finished → Finished
 finished_within most f = record {
   node = f.node;
   call = call_within most f.call;
-  reply = reply_within most f.reply;
+  reply = f.reply;
   begun = f.begun;
   ended = f.ended;
 }

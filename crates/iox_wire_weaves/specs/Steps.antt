@@ -24,13 +24,14 @@ use Rattle.iox_wire_needs.specs.WholeSteps.{GoesOnWith}
 use Rattle.iox_wire_nodes.specs.declared.call_at.CallAt.{CallAt}
 use Rattle.iox_wire_nodes.specs.declared.call_at.CallAt.TheVariants.{Seats}
 use Rattle.iox_wire_nodes.specs.declared.call_at.NodeReply.{NodeReply}
+use Rattle.iox_wire_nodes.specs.declared.call_at.NodeReply.TheVariants.{OfSeat}
+use Rattle.iox_wire_nodes.specs.SeatReply.TheVariants as seat_replies
 use Rattle.iox_wire_nodes.specs.Nodes.{answered_at, reply_in, seat_in}
 use Rattle.iox_wire_weaves.specs.Events.{with_serials}
 use Rattle.iox_wire_weaves.specs.Owners.{serial_of}
-use Rattle.iox_wire_weaves.specs.Replies.{reply_within}
 use Rattle.iox_wire_weaves.specs.declared.refusal.WireRefusal.{WireRefusal}
 use Rattle.iox_wire_weaves.specs.declared.refusal.WireRefusal.TheVariants.{AccessesSpent, AtRest}
-use Rattle.iox_wire_weaves.specs.Wires.{IsSameSetting, Shows, WireData, WireNode, answers_in, living_refusal, node_at, seat_of}
+use Rattle.iox_wire_weaves.specs.Wires.{IsSameSetting, Shows, WireData, WireNode, answers_in, living_refusal, node_at, read_of, seat_of}
 
 -- ---- refusals
 
@@ -91,6 +92,27 @@ IsOwnAnswer old n Going = Unit {0}
 IsOwnAnswer old n (Done reply) =
     IfSome (node_at n old.nodes) (λ x. IfSome x.call (λ u. IsWireCallAt u.call (answered_at reply)))
 
+-- the words of a read that is over with that answer; else those of the read before
+abbrev pub read_after : List ℕ → (words : List ℕ) → Option NodeReply → List ℕ
+read_after before words (Some (OfSeat seat_replies.Words)) = words
+read_after before words reply = before
+
+-- the answer of a call that is over
+abbrev pub reply_of : Progress NodeReply → Option NodeReply
+reply_of Going = None
+reply_of (Done reply) = Some reply
+
+-- The last step of a read leaves the words that it answers, and each other one the words of the read
+-- before.
+abbrev pub KeepsRead : WireData → ℕ → Progress NodeReply → WireData → Type 0
+KeepsRead old n progress new =
+    (x y : WireNode) → node_at n old.nodes ≡ Some x → node_at n new.nodes ≡ Some y
+    → y.read ≡ read_after x.read y.node.seat.words (reply_of progress)
+
+-- the words of each node's last read stay
+abbrev pub KeepsReads : WireData → WireData → Type 0
+KeepsReads old new = (n : ℕ) → read_of new.nodes n ≡ read_of old.nodes n
+
 -- the call that a node has under way after its step
 abbrev pub call_after : Option UnderWay → Option NodeReply → Option UnderWay
 call_after call None = call
@@ -101,7 +123,7 @@ call_after call (Some reply) = None
 abbrev pub finished_by : ℕ → WireNode → (words : List ℕ) → ℕ → Option NodeReply → List Finished
 finished_by n x words events None = []
 finished_by n x words events (Some reply) =
-    finish x.call n (reply_within x.longest (reply_in words reply)) events []
+    finish x.call n (reply_in words reply) events []
 
 -- what the step of a node records: its event, if it has one, with serials in place of slots
 abbrev pub recorded : WirePlan → List WireNode → ℕ → Option Event → List (ℕ × Event)

@@ -31,7 +31,8 @@ use Rattle.iox_wire_weaves.specs.declared.refusal.WireRefusal.TheVariants.{Acces
 -- ---- a wire
 
 -- A node of a wire: its number, whether it lives, and else how many events came before its death; its own
--- part of the wire, its call under way, and the most words that it keeps of a call.
+-- part of the wire, its call under way, the most words that it keeps of a call, and the words of its last
+-- read that is over.
 pub record WireNode : Type 0 where
   pub number : ℕ
   pub alive : Bool
@@ -39,6 +40,7 @@ pub record WireNode : Type 0 where
   pub node : Node
   pub call : Option UnderWay
   pub longest : ℕ
+  pub read : List ℕ
 
 -- A wire: what it was made for, and told beside that, its words, its nodes, the finished calls in the
 -- order of their ends, the events that were recorded, each with its node, oldest first, and how many more
@@ -60,6 +62,10 @@ pub record IsSameSetting (old new : WireData) : Type 0 where
 -- the node of that number
 abbrev pub node_at : ℕ → List WireNode → Option WireNode
 node_at n nodes = find (λ x. x.number == n) nodes
+
+-- the words of the node's last read that is over
+abbrev pub read_of : List WireNode → ℕ → Option (List ℕ)
+read_of nodes n = option_map (λ x. x.read) (node_at n nodes)
 
 -- why a node is not a living one: it is unknown, or it is dead
 abbrev pub living_refusal : List WireNode → ℕ → Option WireRefusal
@@ -128,7 +134,7 @@ pub record Shows (p : Setting) (wire : WireData) (r : Run) : Type 0 where
   -- each node keeps its call that is under way, and when it died
   pub calls : (n : ℕ) (x : WireNode) → node_at n wire.nodes ≡ Some x
       → KeepsItsCall (most_words wire.plan) r.beats n x
-  -- the replies are the run's, with no more words than the longest message has
+  -- the replies are the run's; of what a call brought they tell no more words than the longest message has
   pub replies : wire.replies ≡ map (finished_within (most_words wire.plan)) (replies_of r.beats)
   -- and so are the events
   pub events : wire.events ≡ events_of r.beats

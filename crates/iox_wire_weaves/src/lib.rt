@@ -4,8 +4,8 @@
 
 ghost use Rattle.iox_wire_weaves.specs.CountLaws.{KeptIsTold, OutstandingIsTold};
 ghost use Rattle.iox_wire_weaves.specs.Events.{SlotsTellEvents};
-ghost use Rattle.iox_wire_weaves.specs.Laws.{BeginsShow, DeathsShow, RefusalsAreShown};
-ghost use Rattle.iox_wire_weaves.specs.Laws.{HandlesStand};
+ghost use Rattle.iox_wire_weaves.specs.Laws.{BeginsShow, CallsAreSaid, DeathsShow, RefusalsAreShown};
+ghost use Rattle.iox_wire_weaves.specs.Laws.{HandlesStand, ReadsAreWithin};
 ghost use Rattle.iox_wire_weaves.specs.Laws.{NodesAreKnown, StepsAreSafe, StepsShow, WiresOpen};
 
 mod refusal;
@@ -42,6 +42,11 @@ pub fn refusals_are_shown()
     ensures { RefusalsAreShown }
 {}
 
+/// What a node is asked for is the call that the machine reads, and that its own tables tell.
+pub fn calls_are_said()
+    ensures { CallsAreSaid }
+{}
+
 /// After the begin of a call the wire shows the run with that beat.
 pub fn begins_show()
     ensures { BeginsShow }
@@ -55,6 +60,11 @@ pub fn nodes_are_known()
 /// Each handle of a node between calls is what it may be on the wire.
 pub fn handles_stand()
     ensures { HandlesStand }
+{}
+
+/// A read tells no more words than a message takes in its slot.
+pub fn reads_are_within()
+    ensures { ReadsAreWithin }
 {}
 
 /// The desk of a port tells how many messages the port keeps, and how many are outstanding on each

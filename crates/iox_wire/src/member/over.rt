@@ -1,14 +1,14 @@
 //! The call that a node of a wire has under way, from its begin to its end.
-ghost use Rattle.std.specs.Prelude.{◌≡◌, ◌+◌, ◌<◌, ◌≤◌, ◌++◌, [], IfSome, None, Some, length};
+ghost use Rattle.std.specs.Prelude.{ℕ, ◌≡◌, ◌+◌, ◌<◌, ◌≤◌, ◌++◌, [], IfSome, None, Some, length};
 ghost use Rattle.std.specs.Prelude.{option_map, take, vec_capacity};
 ghost use Rattle.std.specs.Option.{option_to_list};
 ghost use Rattle.iox_model.specs.Schedules.{finish};
 ghost use Rattle.iox_wire_weaves.specs.Nodes.{reply_in};
-ghost use Rattle.iox_wire_weaves.specs.Replies.{call_within, reply_within};
+ghost use Rattle.iox_wire_weaves.specs.Replies.{call_within};
 ghost use Rattle.iox_wire_weaves.specs.Seats.{reply_with};
-ghost use Rattle.iox_wire_weaves.specs.Steps.{finished_by};
+ghost use Rattle.iox_wire_weaves.specs.Steps.{finished_by, read_after};
 ghost use Rattle.iox_wire_weaves.specs.NodeReply.TheVariants.{OfSeat};
-ghost use Rattle.iox_wire.specs.Replies.{HasWordsIfRead, finished_of, under_way_of};
+ghost use Rattle.iox_wire.specs.Replies.{HasWordsIfRead, IsReadWithin, finished_of, under_way_of};
 ghost use Rattle.iox_wire.specs.Replies.{words_brought, words_call};
 
 use super::{BegunCall, Member};
@@ -17,28 +17,29 @@ use crate::spans::{first_of, write_behind};
 use crate::stored_call::{StoredCall, words_of};
 use iox_wire_weaves::{NodeCall, NodeReply, SeatReply};
 
-/// The words that a reply of a handle has, and no more than so many.
-fn words_of_seat(reply: SeatReply, words: &[u64], most: usize) -> &[u64]
-    ensures told { reply_with result.now reply ≡ reply_within most (reply_with words.now reply) }
-    ensures few { length result.now ≤ most }
+/// The words that a reply of a handle has, where so many were loaded.
+fn words_of_seat(reply: SeatReply, words: &[u64]) -> &[u64]
+    ensures told { reply_with result.now reply ≡ reply_with words.now reply }
+    ensures few { (most : ℕ) → IsReadWithin most (OfSeat reply) words.now
+        → length result.now ≤ most }
     ensures read { HasWordsIfRead (OfSeat reply) result.now }
 {
     match reply {
-        SeatReply::Words => first_of(words, most),
+        SeatReply::Words => words,
         SeatReply::Done => &words[..0],
         SeatReply::Answer(_) => &words[..0],
         SeatReply::Refused(_) => &words[..0],
     }
 }
 
-/// The words that a reply has, where so many were loaded, and no more than so many.
-fn words_told(reply: NodeReply, words: &[u64], most: usize) -> &[u64]
-    ensures told { reply_in result.now reply ≡ reply_within most (reply_in words.now reply) }
-    ensures few { length result.now ≤ most }
+/// The words that a reply has, where so many were loaded.
+fn words_told(reply: NodeReply, words: &[u64]) -> &[u64]
+    ensures told { reply_in result.now reply ≡ reply_in words.now reply }
+    ensures few { (most : ℕ) → IsReadWithin most reply words.now → length result.now ≤ most }
     ensures read { HasWordsIfRead reply result.now }
 {
     match reply {
-        NodeReply::OfSeat(reply) => words_of_seat(reply, words, most),
+        NodeReply::OfSeat(reply) => words_of_seat(reply, words),
         NodeReply::OfReceive(_) => &words[..0],
         NodeReply::OfLoan(_) => &words[..0],
         NodeReply::OfRequest(_) => &words[..0],
@@ -90,9 +91,10 @@ impl Member {
 
     /// The call that it has under way, as it is over with that reply after so many events.
     fn finished(&self, reply: NodeReply, ended: usize) -> Option<FinishedCall<'_>>
+        requires within { IsReadWithin self.now.longest reply self.now.node.seat.words }
         ensures told { option_to_list (option_map finished_of result)
-            ≡ finish self.now.call self.now.number (reply_within self.now.longest
-            (reply_in self.now.node.seat.words reply)) ended [] }
+            ≡ finish self.now.call self.now.number (reply_in self.now.node.seat.words reply)
+            ended [] }
         ensures brought { IfSome result (λ f. length (words_brought f.call) ≤ self.now.longest) }
         ensures words { IfSome result (λ f. length f.words.now ≤ self.now.longest) }
         ensures read { IfSome result (λ f. HasWordsIfRead f.reply f.words.now) }
@@ -104,20 +106,25 @@ impl Member {
             node: self.number,
             call: begun.call.with_words(&self.words),
             reply,
-            words: words_told(reply, self.node.words(), self.longest),
+            words: words_told(reply, self.node.words()),
             begun: begun.begun,
             ended,
         })
     }
 
-    /// Its call is over with that reply, after so many events: that is told. There is room for it.
+    /// Its call is over with that reply, after so many events: that is told, with all words of a
+    /// read, which stay. There is room for it.
     #[inline]
     pub(crate) fn tell(&mut self, reply: NodeReply, ended: usize, replies: &mut Replies)
+        requires within { IsReadWithin self.old.longest reply self.old.node.seat.words }
         requires room { 0 < replies.old.room }
         requires words { self.old.longest ≤ replies.old.longest }
         ensures told { replies.new.finished ≡ replies.old.finished ++ finished_by self.old.number
             self.old self.old.node.seat.words ended (Some reply) }
-        ensures over { self.new ≡ record (self.old) { call = None } }
+        ensures over { self.new ≡ record (self.old) {
+          call = None;
+          read = read_after self.old.read self.old.node.seat.words (Some reply);
+        } }
         ensures longest { replies.new.longest ≡ replies.old.longest }
         ensures room { replies.old.room ≤ replies.new.room + 1 }
     {
@@ -125,5 +132,8 @@ impl Member {
             replies.tell(call);
         }
         self.call = None;
+        if matches!(reply, NodeReply::OfSeat(SeatReply::Words)) {
+            put(&mut self.read, self.node.words(), self.longest);
+        }
     }
 }

@@ -17,7 +17,6 @@ ghost use Rattle.iox_wire_nodes.specs.Nodes.{seat_in};
 ghost use Rattle.iox_wire_nodes.specs.Rooms.{HasRoomToBegin, KeepsRooms};
 
 use super::StoredNode;
-use super::elements::elements_in;
 use crate::node_call::NodeCall;
 use crate::node_error::NodeError;
 use iox_wire_begins::{Asked, BeginError, Lists, WireTerms, WordMap};
@@ -42,10 +41,11 @@ impl StoredNode {
         requires lists { HasRoomFor map.now lists.old }
         requires rooms { HasRoomToBegin map.now self.old }
         ensures begun { (p : Setting) → IsSettingWith map.now terms.now p
-            → OnOk result (IsUnderWay p self.old (Port (call_in p call.entry)) self.new) }
+            → OnOk result
+            (IsUnderWay p self.old (Port (call_in p (seat_in self.old) call.entry)) self.new) }
         ensures refused { (p : Setting) → IsSettingWith map.now terms.now p → IfErr result
-            (λ error. refusal_at p (seat_in self.old) (Port (call_in p call.entry))
-            ≡ node_refusal error) }
+            (λ error. refusal_at p (seat_in self.old)
+            (Port (call_in p (seat_in self.old) call.entry)) ≡ node_refusal error) }
         ensures at { OnOk result (IsKeptAt (call_in_words call.entry) self.new.at) }
         ensures adds { OnOk result (AddsHandle self.new.at → may_add_handle call.entry ≡ true) }
         ensures unchanged { OnErr result (self.new ≡ self.old) }
@@ -77,10 +77,11 @@ impl StoredNode {
         requires lists { HasRoomFor map.now lists.old }
         requires rooms { HasRoomToBegin map.now self.old }
         ensures begun { (p : Setting) → IsSettingWith map.now terms.now p
-            → OnOk result (IsUnderWay p self.old (Port (call_in p call.entry)) self.new) }
+            → OnOk result
+            (IsUnderWay p self.old (Port (call_in p (seat_in self.old) call.entry)) self.new) }
         ensures refused { (p : Setting) → IsSettingWith map.now terms.now p → IfErr result
-            (λ error. refusal_at p (seat_in self.old) (Port (call_in p call.entry))
-            ≡ node_refusal error) }
+            (λ error. refusal_at p (seat_in self.old)
+            (Port (call_in p (seat_in self.old) call.entry)) ≡ node_refusal error) }
         ensures at { OnOk result (IsKeptAt (call_in_words call.entry) self.new.at) }
         ensures adds { OnOk result (AddsHandle self.new.at → may_add_handle call.entry ≡ true) }
         ensures unchanged { OnErr result (self.new ≡ self.old) }
@@ -140,10 +141,11 @@ impl StoredNode {
         requires lists { HasRoomFor map.now lists.old }
         requires rooms { HasRoomToBegin map.now self.old }
         ensures begun { (p : Setting) → IsSettingWith map.now terms.now p
-            → OnOk result (IsUnderWay p self.old (Port (call_in p call.entry)) self.new) }
+            → OnOk result
+            (IsUnderWay p self.old (Port (call_in p (seat_in self.old) call.entry)) self.new) }
         ensures refused { (p : Setting) → IsSettingWith map.now terms.now p → IfErr result
-            (λ error. refusal_at p (seat_in self.old) (Port (call_in p call.entry))
-            ≡ node_refusal error) }
+            (λ error. refusal_at p (seat_in self.old)
+            (Port (call_in p (seat_in self.old) call.entry)) ≡ node_refusal error) }
         ensures at { OnOk result (IsKeptAt (call_in_words call.entry) self.new.at) }
         ensures adds { OnOk result (AddsHandle self.new.at → may_add_handle call.entry ≡ true) }
         ensures unchanged { OnErr result (self.new ≡ self.old) }
@@ -167,8 +169,7 @@ impl StoredNode {
             }
             NodeCall::Write { number, payload } => {
                 let (role, words) = (payload.role, payload.words);
-                let elements = elements_in(map, terms, role, words);
-                self.begin_write(map, number, role, elements, words)?;
+                self.begin_write(map, number, role, words)?;
             }
             NodeCall::Handle { number, call } => {
                 self.begin_on_handle(map, number, call, sources, stops)?;
@@ -193,10 +194,12 @@ impl StoredNode {
         requires there { IfSome port (λ place. number_at map.now place ≡ number_in call) }
         requires none { port ≡ None → port_of map.now (number_in call) ≡ None }
         ensures refused { (p : Setting) → IsSettingWith map.now terms.now p → IfSome result
-            (λ error. refusal_at p (seat_in self.now) (Port (call_in p call.entry))
+            (λ error. refusal_at p (seat_in self.now)
+            (Port (call_in p (seat_in self.now) call.entry))
             ≡ refusal_in error) }
         ensures allowed { (p : Setting) → IsSettingWith map.now terms.now p → result ≡ None
-            → refusal_at p (seat_in self.now) (Port (call_in p call.entry)) ≡ None }
+            → refusal_at p (seat_in self.now)
+            (Port (call_in p (seat_in self.now) call.entry)) ≡ None }
     {
         let asked = call.asked();
         let number = call.number();

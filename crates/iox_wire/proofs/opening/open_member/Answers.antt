@@ -16,6 +16,7 @@ returns c = record {
   rests = ap (λ (m : WireNode). m.call) c.in_ok-member.ensures;
   undead = ap (λ (m : WireNode). m.died) c.in_ok-member.ensures;
   longest = ap (λ (m : WireNode). m.longest) c.in_ok-member.ensures ∙ c.requires.longest;
+  unread = ap (λ (m : WireNode). m.read) c.in_ok-member.ensures;
   rooms = subst (λ (m : WireNode). HasRoomToBegin c.args.plan.now m.node) (sym c.in_ok-member.ensures)
       (roomy_node c.args.plan.now c.args.ways c.args.longest c.in_ok-node.node c.requires.ways c.requires.longest
       (ap (λ (s : Placed). s.ways_room) c.in_ok-node.ensures.whole ∙ c.in_ok-seat.ensures.ways)

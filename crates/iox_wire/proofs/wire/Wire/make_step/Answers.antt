@@ -1,9 +1,10 @@
 use Rattle.std.specs.Prelude.{IfSome, position, vec_capacity, vec_len}
-use Rattle.std.proofs.Common.{◌≡◌, ℕ, ◌+◌, ◌-◌, ◌<◌, ◌≤◌, ◌==◌, ◌++◌, List, None, Some, ap, arith, length, subst, sym, ◌∙◌, slice_set}
+use Rattle.std.proofs.Common.{◌≡◌, ℕ, ◌+◌, ◌-◌, ◌<◌, ◌≤◌, ◌==◌, ◌++◌, List, None, Some, ap, arith, length, refl, subst, sym, ◌∙◌, slice_set}
 use Rattle.std.proofs.lemmas.List.{length-map}
-use Rattle.iox_wire_weaves.specs.Nodes.{answered_at}
+use Rattle.iox_steps.specs.declared.access.Progress.TheVariants.{Done, Going}
+use Rattle.iox_wire_weaves.specs.Nodes.{Node, answered_at}
 use Rattle.iox_wire_weaves.specs.Replies.{most_words}
-use Rattle.iox_wire_weaves.specs.Steps.{IsWireCallAt, MakesOneAccess, finished_by, recorded, step_refusal}
+use Rattle.iox_wire_weaves.specs.Steps.{IsWireCallAt, MakesOneAccess, finished_by, read_after, recorded, step_refusal}
 use Rattle.iox_wire_weaves.specs.Wires.{Shows, WireData, WireNode, node_at}
 use Rattle.iox_wire_weaves.proofs.Lookups.{steps_on}
 use Rattle.iox_wire.specs.declared.events.WireEvent.{WireEvent}
@@ -45,6 +46,15 @@ tell-requires-clause-words c =
     let at : node_at c.args.node w.nodes ≡ Some c.index_mut-member.result.now = there w c.args.node c.args.place c.index_mut-member.result.now first c.index_mut-member.ensures.value in
     same_most c.go_on.new.self.longest c.index_mut-member.result.now.longest c.self.inside.replies.longest (most_words w.plan)
     c.in-Some.ensures.lives.longest (c.self.invariant.1.shows.2.calls c.args.node c.index_mut-member.result.now at).room c.self.invariant.2.longest
+
+pub tell-requires-clause-within : goal.tell-requires-clause-within
+tell-requires-clause-within c =
+    let first = ap (λ (v : WireData). position (λ x. x.number == c.args.node) v.nodes) c.self.view_is ∙ c.requires.there in
+    let w : WireData = record { plan = c.self.inside.places; terms = c.self.inside.terms; words = c.self.inside.words.items; nodes = c.self.inside.members.items; replies = c.self.inside.replies.finished; events = events_by c.self.inside.events.items; room = c.self.inside.room } in
+    let goes : step_refusal w c.args.node ≡ None = ap (λ (v : WireData). step_refusal v c.args.node) c.self.view_is ∙ c.requires.goes in
+    stepping.read_within w c.args.node c.args.place c.index-member.result.now c.index_mut-member.result.now first c.index-member.ensures c.index_mut-member.ensures.value c.self.invariant.1 goes
+    c.make_access-seen.result c.make_access-seen.new.words.items c.event-told.result c.make_access-seen.ensures.seen c.make_access-seen.ensures.words (λ q aimed. c.event-told.ensures q aimed)
+    c.in-Some.reply c.go_on.new.self c.in-Some.ensures.made c.in-Some.ensures.lives
 
 pub make_access-seen-requires : goal.make_access-seen-requires
 make_access-seen-requires c =
@@ -123,6 +133,16 @@ returns-in_default-clause-weave c p r shows =
     c.self.inside.replies.finished (events_by c.note.new.events.items) _ noted replied p r (subst (λ (v : WireData). Shows p v r) (sym c.self.view_is) shows) in
     (s.1, s.2, s.3, s.4, s.5, s.6)
 
+pub returns-in_default-clause-read : goal.returns-in_default-clause-read
+returns-in_default-clause-read c x y before after =
+    let first = ap (λ (v : WireData). position (λ x. x.number == c.args.node) v.nodes) c.self.view_is ∙ c.requires.there in
+    let w : WireData = record { plan = c.self.inside.places; terms = c.self.inside.terms; words = c.self.inside.words.items; nodes = c.self.inside.members.items; replies = c.self.inside.replies.finished; events = events_by c.self.inside.events.items; room = c.self.inside.room } in
+    let goes : step_refusal w c.args.node ≡ None = ap (λ (v : WireData). step_refusal v c.args.node) c.self.view_is ∙ c.requires.goes in
+    stepping.keeps_read w c.args.node c.args.place c.index-member.result.now c.index_mut-member.result.now first c.index-member.ensures c.index_mut-member.ensures.value c.self.invariant.1 goes
+    c.make_access-seen.result c.make_access-seen.new.words.items c.event-told.result c.make_access-seen.ensures.seen c.make_access-seen.ensures.words (λ q aimed. c.event-told.ensures q aimed)
+    Going c.go_on.new.self c.go_on.new.self _ refl c.in_default.ensures.number c.in_default.ensures.read refl
+    x y (ap (λ (v : WireData). node_at c.args.node v.nodes) c.self.view_is ∙ before) after
+
 pub invariant_of-self-2 : goal.invariant_of-self-2
 invariant_of-self-2 c = (
   c.self.invariant.0,
@@ -136,7 +156,7 @@ invariant_of-self-2 c = (
       stepping.shown_now w c.args.node c.args.place c.index-member.result.now c.index_mut-member.result.now first c.index-member.ensures c.index_mut-member.ensures.value c.self.invariant.1 goes
       c.make_access-seen.result c.make_access-seen.new.words.items c.event-told.result c.make_access-seen.ensures.seen c.make_access-seen.ensures.words (λ q aimed. c.event-told.ensures q aimed)
       (Some c.in-Some.reply) c.go_on.new.self c.tell.new.self c.in-Some.ensures.made c.in-Some.ensures.number c.in-Some.ensures.lives c.in-Some.ensures.call c.in-Some.ensures.rooms
-      (is_over c.in-Some.reply c.go_on.new.self c.tell.new.self c.tell.ensures.over) c.tell.new.replies.finished (events_by c.note.new.events.items) _ noted replied,
+      (is_over c.in-Some.reply c.go_on.new.self c.tell.new.self _ c.tell.ensures.over) c.tell.new.replies.finished (events_by c.note.new.events.items) _ noted replied,
   let fit = c.self.invariant.2 in let some : 0 < c.self.inside.room = subst (λ (v : WireData). 0 < v.room) (sym c.self.view_is) c.requires.room in
       record {
         replies = room_less c.self.inside.room c.self.inside.replies.room c.tell.new.replies.room some fit.replies c.tell.ensures.room;
@@ -157,7 +177,7 @@ returns-clause-one_access c p r shows =
     let s = stepping.woven w c.args.node c.args.place c.index-member.result.now c.index_mut-member.result.now first c.index-member.ensures c.index_mut-member.ensures.value c.self.invariant.1 goes
     c.make_access-seen.result c.make_access-seen.new.words.items c.event-told.result c.make_access-seen.ensures.seen c.make_access-seen.ensures.words (λ q aimed. c.event-told.ensures q aimed)
     (Some c.in-Some.reply) c.go_on.new.self c.tell.new.self c.in-Some.ensures.made c.in-Some.ensures.number c.in-Some.ensures.lives c.in-Some.ensures.call c.in-Some.ensures.rooms
-    (is_over c.in-Some.reply c.go_on.new.self c.tell.new.self c.tell.ensures.over) c.tell.new.replies.finished (events_by c.note.new.events.items) _ noted replied p r (subst (λ (v : WireData). Shows p v r) (sym c.self.view_is) shows) in
+    (is_over c.in-Some.reply c.go_on.new.self c.tell.new.self _ c.tell.ensures.over) c.tell.new.replies.finished (events_by c.note.new.events.items) _ noted replied p r (subst (λ (v : WireData). Shows p v r) (sym c.self.view_is) shows) in
     subst (λ (v : WireData). MakesOneAccess p v c.args.node
     (record { plan = w.plan; terms = w.terms; words = c.make_access-seen.new.words.items; nodes = slice_set w.nodes c.args.place c.tell.new.self; replies = c.tell.new.replies.finished; events = events_by c.note.new.events.items; room = c.self.inside.room - 1 }))
     c.self.view_is s.0
@@ -174,7 +194,7 @@ returns-clause-weave c p r shows =
     let s = stepping.woven w c.args.node c.args.place c.index-member.result.now c.index_mut-member.result.now first c.index-member.ensures c.index_mut-member.ensures.value c.self.invariant.1 goes
     c.make_access-seen.result c.make_access-seen.new.words.items c.event-told.result c.make_access-seen.ensures.seen c.make_access-seen.ensures.words (λ q aimed. c.event-told.ensures q aimed)
     (Some c.in-Some.reply) c.go_on.new.self c.tell.new.self c.in-Some.ensures.made c.in-Some.ensures.number c.in-Some.ensures.lives c.in-Some.ensures.call c.in-Some.ensures.rooms
-    (is_over c.in-Some.reply c.go_on.new.self c.tell.new.self c.tell.ensures.over) c.tell.new.replies.finished (events_by c.note.new.events.items) _ noted replied p r (subst (λ (v : WireData). Shows p v r) (sym c.self.view_is) shows) in
+    (is_over c.in-Some.reply c.go_on.new.self c.tell.new.self _ c.tell.ensures.over) c.tell.new.replies.finished (events_by c.note.new.events.items) _ noted replied p r (subst (λ (v : WireData). Shows p v r) (sym c.self.view_is) shows) in
     (s.1, s.2, s.3, s.4, s.5, s.6)
 
 pub returns-clause-own : goal.returns-clause-own
@@ -186,3 +206,15 @@ returns-clause-own c =
     (stepping.owned w c.args.node c.args.place c.index-member.result.now c.index_mut-member.result.now first c.index-member.ensures c.index_mut-member.ensures.value c.self.invariant.1 goes
     c.make_access-seen.result c.make_access-seen.new.words.items c.event-told.result c.make_access-seen.ensures.seen c.make_access-seen.ensures.words (λ q aimed. c.event-told.ensures q aimed)
     (Some c.in-Some.reply) c.go_on.new.self c.in-Some.ensures.made)
+
+pub returns-clause-read : goal.returns-clause-read
+returns-clause-read c x y before after =
+    let first = ap (λ (v : WireData). position (λ x. x.number == c.args.node) v.nodes) c.self.view_is ∙ c.requires.there in
+    let w : WireData = record { plan = c.self.inside.places; terms = c.self.inside.terms; words = c.self.inside.words.items; nodes = c.self.inside.members.items; replies = c.self.inside.replies.finished; events = events_by c.self.inside.events.items; room = c.self.inside.room } in
+    let goes : step_refusal w c.args.node ≡ None = ap (λ (v : WireData). step_refusal v c.args.node) c.self.view_is ∙ c.requires.goes in
+    stepping.keeps_read w c.args.node c.args.place c.index-member.result.now c.index_mut-member.result.now first c.index-member.ensures c.index_mut-member.ensures.value c.self.invariant.1 goes
+    c.make_access-seen.result c.make_access-seen.new.words.items c.event-told.result c.make_access-seen.ensures.seen c.make_access-seen.ensures.words (λ q aimed. c.event-told.ensures q aimed)
+    (Done c.in-Some.reply) c.go_on.new.self c.tell.new.self _ refl (ap (λ (m : WireNode). m.number) c.tell.ensures.over ∙ c.in-Some.ensures.number) c.in-Some.ensures.read
+    (ap (λ (m : WireNode). m.read) c.tell.ensures.over
+    ∙ ap (λ (k : Node). read_after c.go_on.new.self.read k.seat.words (Some c.in-Some.reply)) (sym (ap (λ (m : WireNode). m.node) c.tell.ensures.over)))
+    x y (ap (λ (v : WireData). node_at c.args.node v.nodes) c.self.view_is ∙ before) after

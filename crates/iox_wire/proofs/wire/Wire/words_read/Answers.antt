@@ -6,8 +6,8 @@ use Rattle.iox_wire.proofs.wire.Wire.words_read.Goals as goal
 
 pub returns-in-Some-clause-read : goal.returns-in-Some-clause-read
 returns-in-Some-clause-read c =
-    ap Some c.words.ensures
-    ∙ sym (ap (option_map (λ (x : WireNode). x.node.seat.words))
+    ap Some c.words_read.ensures
+    ∙ sym (ap (option_map (λ (x : WireNode). x.read))
     (read_there c.args.node c.args.self.now.nodes c.in-Some.place c.index.result.now (sym c.in-Some.ensures.first)
     (c.index.ensures ∙ ap (λ (w : WireData). get_or w.nodes c.in-Some.place c.index.result.now) c.self.view_is)))
 

@@ -9,5 +9,5 @@ use Rattle.iox_wire_nodes.proofs.node.StoredNode.begin.Goals as goal
 
 pub returns-then-is_busy-clause-refused : goal.returns-then-is_busy-clause-refused
 returns-then-is_busy-clause-refused c p with =
-    ap (λ (b : Bool). or_else (refused_if b Busy) (misnamed_call p (seat_in c.args.self.now) (Port (call_in p c.args.call))))
+    ap (λ (b : Bool). or_else (refused_if b Busy) (misnamed_call p (seat_in c.args.self.now) (Port (call_in p (seat_in c.args.self.now) c.args.call))))
     (sym c.is_busy.ensures ∙ c.if-is_busy.true)

@@ -9,7 +9,6 @@ use Rattle.iox_wire_nodes.specs.Calls.{IsKeptAt, call_in, call_in_words}
 use Rattle.iox_wire_nodes.specs.Nodes.{seat_in}
 use Rattle.iox_wire_nodes.proofs.BesideLemmas.{is_under_way, stands_so}
 use Rattle.iox_wire_nodes.proofs.CallLemmas.{handle_kept, none}
-use Rattle.iox_wire_nodes.proofs.NameLemmas.{elements_planned}
 use Rattle.iox_wire_begins.specs.PlacedHandles.{IsWritableAs}
 use Rattle.iox_wire_begins.specs.Tables.{entry_at}
 use Rattle.iox_wire_nodes.proofs.node.StoredNode.begin_at_handle.Goals as goal
@@ -19,16 +18,14 @@ begin_on_handle-requires-clause-header c = c.requires.plan.headers Server
 
 pub returns-in-HasRequests-clause-refused : goal.returns-in-HasRequests-clause-refused
 returns-in-HasRequests-clause-refused c p with =
-    subst (λ (k : NodeCall). refusal_at p (seat_in c.args.self.now) (Port (call_in p k)) ≡ refusal_in c.refuse_on_handle.result) (sym c.in-HasRequests.is)
+    subst (λ (k : NodeCall). refusal_at p (seat_in c.args.self.now) (Port (call_in p (seat_in c.args.self.now) k)) ≡ refusal_in c.refuse_on_handle.result) (sym c.in-HasRequests.is)
     (c.refuse_on_handle.ensures p none with.setting tt)
 
 pub returns-in_ok-begin_write-in-Write-clause-begun : goal.returns-in_ok-begin_write-in-Write-clause-begun
 returns-in_ok-begin_write-in-Write-clause-begun c p with =
-    subst (λ (k : NodeCall). IsUnderWay p c.args.self.now (Port (call_in p k)) c.begin_write.new.self) (sym c.in-Write.is)
-    (subst (λ (k : Option ℕ). IsUnderWay p c.args.self.now (write_of c.in-Write.number c.in-Write.payload.role k c.in-Write.payload.words.now) c.begin_write.new.self)
-    (c.elements_in-elements.ensures.elements ∙ elements_planned c.args.map.now c.args.terms.now p with c.in-Write.payload.role c.in-Write.payload.words.now)
-    (is_under_way p c.args.self.now (write_of c.in-Write.number c.in-Write.payload.role c.elements_in-elements.result c.in-Write.payload.words.now) c.begin_write.new.self
-    (c.in_ok-begin_write-in-Write.ensures.begun p with.setting)))
+    subst (λ (k : NodeCall). IsUnderWay p c.args.self.now (Port (call_in p (seat_in c.args.self.now) k)) c.begin_write.new.self) (sym c.in-Write.is)
+    (is_under_way p c.args.self.now (write_of p (seat_in c.args.self.now) c.in-Write.number c.in-Write.payload.role c.in-Write.payload.words.now) c.begin_write.new.self
+    (c.in_ok-begin_write-in-Write.ensures.begun p with.setting))
 
 pub returns-in_ok-begin_on_handle-in-Handle-clause-at : goal.returns-in_ok-begin_on_handle-in-Handle-clause-at
 returns-in_ok-begin_on_handle-in-Handle-clause-at c =
