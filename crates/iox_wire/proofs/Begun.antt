@@ -19,6 +19,7 @@ use Rattle.iox_wire_weaves.specs.Begins.{is_busy, misnamed_call, refusal_at}
 use Rattle.iox_wire_weaves.specs.CallAt.{CallAt}
 use Rattle.iox_wire_weaves.specs.CallAt.TheVariants as at
 use Rattle.iox_wire_weaves.specs.Calls.{IsKeptAt, call_in, call_in_words, may_add_handle}
+use Rattle.iox_wire_weaves.specs.Desks.{MayCount}
 use Rattle.iox_wire_weaves.specs.Entry.{Entry}
 use Rattle.iox_wire_weaves.specs.HandleCall.TheVariants as handle_calls
 use Rattle.iox_wire_weaves.specs.Laws.{LivesAs}
@@ -53,7 +54,7 @@ use Rattle.iox_wire.proofs.Keeping.{each_still, kept_begun, kept_still}
 use Rattle.iox_wire.proofs.OwnCalls.{own_begun}
 use Rattle.iox_wire.proofs.Roomy.{roomy_still}
 use Rattle.iox_wire_weaves.specs.Rooms.{KeepsRooms}
-use Rattle.iox_wire.proofs.MayLend.{may_lend}
+use Rattle.iox_wire.proofs.MayLend.{may_count, may_lend}
 use Rattle.iox_wire.proofs.Places.{read_there, replaced, unchanged_there}
 
 -- ---- payloads
@@ -136,17 +137,18 @@ pub has_begun : (plan : WirePlan) (terms : WireTerms) (old : WireNode) (call : N
     → (p : Setting) × IsSettingWith plan terms p
     → ((p : Setting) → IsSettingWith plan terms p → IsUnderWay p old.node (Port (call_in p (seat_in old.node) call)) mid.node)
     → (AddsHandle mid.node.at → may_add_handle call ≡ true) → IsKeptAt (call_in_words call) mid.node.at → (may_add_handle call ≡ true → 0 < old.node.seat.room)
+    → (is_busy (seat_in old.node).local ≡ false → (port : ℕ) → MayCount port old.node.seat.seat.desks)
     → (is_busy (seat_in old.node).local ≡ false → 0 < old.node.seat.room → (p : Setting) → IsSettingWith plan terms p → (port : ℕ)
     → MayLend old.node.seat (next_handle p old.node.seat.seat) port)
     → KeepsRooms old.node mid.node → mid.number ≡ old.number → LivesAs old mid → mid.read ≡ old.read
     → new ≡ record mid { call = Some (record { call = call_within mid.longest (words_call call); begun = events }) } → HasBegun plan terms old call events new
-has_begun plan terms old call events mid new set begun adds there room lends rooms number lives read keeps =
+has_begun plan terms old call events mid new set begun adds there room counts lends rooms number lives read keeps =
     let way : IsUnderWay set.0 old.node (Port (call_in set.0 (seat_in old.node) call)) mid.node = begun set.0 set.1 in
     let rests : is_busy (seat_in old.node).local ≡ false = rests_if set.0 (seat_in old.node) (Port (call_in set.0 (seat_in old.node) call)) way.allowed in
     let same : mid.node ≡ new.node = sym (ap (λ (x : WireNode). x.node) keeps) in
     record {
       begun = λ p setting. subst (λ (x : Node). IsUnderWay p old.node (Port (call_in p (seat_in old.node) call)) x) same (begun p setting);
-      ready = subst (λ (x : Node). MayAdd x.at x) same (way.ready.may (λ more. lends rests (room (adds more)) set.0 set.1));
+      ready = subst (λ (x : Node). MayAdd x.at x) same (way.ready.may (counts rests) (λ more. lends rests (room (adds more)) set.0 set.1));
       at = subst (λ (x : Node). IsKeptAt (call_in_words call) x.at) same there;
       rooms = subst (λ (x : Node). KeepsRooms old.node x) same rooms;
       number = ap (λ (x : WireNode). x.number) keeps ∙ number;
@@ -195,6 +197,11 @@ module _ (w : WireData) (n i : ℕ) (d : WireNode) (at : position (λ x. x.numbe
     where
       counted : (first own made accesses : ℕ) → made ≡ own → made ≤ accesses → accesses ≤ most_accesses → first + most_accesses < 2 ^ 64 → first + own < 2 ^ 64
       counted first own made accesses is less few numbers = omega (arith, is, less, few, numbers)
+
+  -- it may count a loan more of each of its ports
+  pub may_count_there : IsShown w → living_refusal w.nodes n ≡ None → is_busy (seat_in d.node).local ≡ false → (port : ℕ) → MayCount port d.node.seat.seat.desks
+  may_count_there shown alive rests port =
+      may_count shown.shows.0 w shown.shows.1 n d shown.shows.2 there alive (shown.kept n d there) rests port
 
   -- with room it may have a handle more, in each setting of the plan
   pub may_lend_there : IsShown w → living_refusal w.nodes n ≡ None → is_busy (seat_in d.node).local ≡ false → 0 < d.node.seat.room

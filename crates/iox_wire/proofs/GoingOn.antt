@@ -156,7 +156,7 @@ request_copy p seen x r copier_at.Sends told aimed may place =
     )
 
 response_copy : (p : Setting) (seen : ℕ) (x : Placed) (r : response_copies.ResponseCopy) (name : CopierAt) → IsTold p (placed x.seat r.local) seen
-    → response_copies.AreAimed p x.seat name r → copiers.MayBeMade x name r.lends.lending.order r.sends.loan → response_copies.HasItsPlace name r
+    → response_copies.AreAimed p x.seat name r → copiers.MayBeCounted x name r.lends.lending.order r.sends.loan → response_copies.HasItsPlace name r
     → is_busy r.local ≡ true → response_copies.MayEnd x name r × response_copies.FindsUsed x r seen
 response_copy p seen x r copier_at.Rest told aimed may place busy =
     (tt, subst (λ l. loans.GetsBackUsed x.seat l × responses.FindsAt x.seat r.sends.terms l seen) (sym place) (tt, tt))
@@ -174,7 +174,7 @@ response_copy p seen x r copier_at.Sends told aimed may place busy =
       (
         sends.used r.sends.loan r.sends.copied
             (response_message r.sends.loan r.sends.copied r.sends.local place.1.place (subst (λ l. is_busy l ≡ true) place.0 busy)),
-        λ copied. subst (λ k. MayCount k x.seat.desks) (sym may.2) may.0.loans,
+        λ copied. subst (λ k. MayCount k x.seat.desks) (sym may.1) may.0,
       ),
       (
         gets_back x.seat r.local r.local told.back,

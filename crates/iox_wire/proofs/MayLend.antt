@@ -7,6 +7,7 @@ use Rattle.iox_wire_weaves.specs.Begins.{is_busy}
 use Rattle.iox_wire_weaves.specs.CallAt.{CallAt}
 use Rattle.iox_wire_weaves.specs.CallAt.TheVariants as at
 use Rattle.iox_wire_weaves.specs.Counts.{IsTidy, MayCountMore}
+use Rattle.iox_wire_weaves.specs.Desks.{MayCount}
 use Rattle.iox_wire_weaves.specs.Following.{LeavesNothing, message_at}
 use Rattle.iox_wire_weaves.specs.Lendings.{next_handle}
 use Rattle.iox_wire_weaves.specs.Lends.{MayLend}
@@ -36,6 +37,15 @@ lends_by p n at.SendsResponse more room port = record { room = room; newer = mor
 lends_by p n at.CopiesRequest more room port = record { room = room; newer = more.newer; handles = more.handles; loans = more.loans port }
 lends_by p n at.CopiesResponse more room port = record { room = room; newer = more.newer; handles = more.handles; loans = more.loans port }
 
+counts_by : (p : Setting) (n : Node) (call : CallAt) → MayCountMore p (seat_at call n) → (port : ℕ) → MayCount port n.seat.seat.desks
+counts_by p n at.Seats more port = more.loans port
+counts_by p n at.Receives more port = more.loans port
+counts_by p n at.Lends more port = more.loans port
+counts_by p n at.SendsRequest more port = more.loans port
+counts_by p n at.SendsResponse more port = more.loans port
+counts_by p n at.CopiesRequest more port = more.loans port
+counts_by p n at.CopiesResponse more port = more.loans port
+
 module _ (p : Setting) (w : WireData) (r : Run) (n : ℕ) (d : WireNode) (shows : Shows p w r) (there : node_at n w.nodes ≡ Some d) (alive : living_refusal w.nodes n ≡ None)
     (kept : IsKept d.node) (rests : is_busy (seat_in d.node).local ≡ false) where
   here : seat_of p w.nodes n ≡ seat_in d.node
@@ -59,3 +69,6 @@ module _ (p : Setting) (w : WireData) (r : Run) (n : ℕ) (d : WireNode) (shows 
 
   pub may_lend : 0 < d.node.seat.room → (port : ℕ) → MayLend d.node.seat (next_handle p d.node.seat.seat) port
   may_lend room port = lends_by p d.node d.node.at counts_more room port
+
+  pub may_count : (port : ℕ) → MayCount port d.node.seat.seat.desks
+  may_count port = counts_by p d.node d.node.at counts_more port

@@ -6,7 +6,7 @@ ghost use Rattle.iox_wire_handle_calls.specs.Plans.{IsPortAt, IsWayAt, most_ways
 ghost use Rattle.iox_wire_begins.specs.ListRooms.{HasRoomFor, HasRoomToCopy};
 ghost use Rattle.iox_wire_handle_calls.specs.CopyAims.{HasSameRooms};
 ghost use Rattle.iox_wire_begins.specs.WirePlans.{IsWirePlan};
-ghost use Rattle.iox_wire_handle_calls.specs.Copiers.{MayBeMade};
+ghost use Rattle.iox_wire_handle_calls.specs.Copiers.{MayBeCounted, MayBeMade};
 ghost use Rattle.iox_wire_handle_calls.specs.CopyCalls as requests;
 ghost use Rattle.iox_wire_handle_calls.specs.ResponseCopies as responses;
 ghost use Rattle.iox_wire_lenders.specs.Terms.{IsSettingWith};
@@ -16,6 +16,7 @@ ghost use Rattle.iox_wire_handle_calls.specs.Courses.{placed};
 ghost use Rattle.iox_wire_handle_calls.specs.Known.{free_lanes};
 ghost use Rattle.iox_wire_handle_calls.specs.Lendings.{copies_request, copies_response};
 ghost use Rattle.iox_wire_handle_calls.specs.Lendings.{first_lane, next_handle};
+ghost use Rattle.iox_wire_handle_calls.specs.Desks.{MayCount};
 ghost use Rattle.iox_wire_handle_calls.specs.Lends.{MayLend};
 ghost use Rattle.iox_wire_handle_calls.specs.Seats.{Placed};
 ghost use Rattle.iox_wire_handle_calls.specs.Tables.{Setting, state_in};
@@ -145,8 +146,8 @@ pub fn begin_response_copy(
         → number ≡ next_handle p seat.old.seat
         → TellsOfSlot p copying.new.local
         → responses.IsAimed p seat.new.seat copying.new }
-    ensures may { (x : Placed) → MayLend x number (number_at map.now server)
-        → MayBeMade x copying.new.at copying.new.lends.lending.order copying.new.sends.loan }
+    ensures may { (x : Placed) → MayCount (number_at map.now server) x.seat.desks
+        → MayBeCounted x copying.new.at copying.new.lends.lending.order copying.new.sends.loan }
     ensures leaves { LeavesSeat seat.old seat.new }
     ensures list { vec_capacity stops.new ≡ vec_capacity stops.old }
     ensures rooms { HasSameRooms copying.old.lends copying.new.lends }

@@ -39,7 +39,7 @@ use Rattle.iox_wire_seats.specs.Seats.{Placed}
 use Rattle.iox_wire_request_sends.specs.Order.{Order}
 use Rattle.iox_wire_copies.specs.declared.at.CopierAt.{CopierAt}
 use Rattle.iox_wire_copies.specs.declared.at.CopierAt.TheVariants as copier
-use Rattle.iox_wire_copies.specs.Copiers.{IsAtWork, MayBeMade, SendsLoan}
+use Rattle.iox_wire_copies.specs.Copiers.{IsAtWork, MayBeCounted, MayBeMade, SendsLoan}
 
 -- It has the ports that it had, each with as many ways, and counts on the same ways.
 pub record PortsAlike (x y : Seat) : Type 0 where
@@ -357,3 +357,18 @@ made_still x copier.Rest o e is may = tt
 made_still x copier.Refuses o e is may = tt
 made_still x copier.Lends o e is may = may
 made_still x copier.Sends o e is may = (may, ap (λ (k : Entry). k.number) is, ap (λ (k : Entry). k.port) is)
+
+-- ---- a copy that becomes no handle
+
+-- so it is counted
+pub counts_at_work : (x : Placed) (a : CopierAt) (o : Order) (e : Entry) → IsAtWork a → MayBeCounted x a o e → MayCount o.port x.seat.desks
+counts_at_work x copier.Rest o e works may = absurd works
+counts_at_work x copier.Refuses o e works may = absurd works
+counts_at_work x copier.Lends o e works may = may
+counts_at_work x copier.Sends o e works may = may.0
+
+pub counted_still : (x : Placed) (a : CopierAt) (o : Order) (e : Entry) → SendsLoan a o e → MayCount o.port x.seat.desks → MayBeCounted x a o e
+counted_still x copier.Rest o e is may = tt
+counted_still x copier.Refuses o e is may = tt
+counted_still x copier.Lends o e is may = may
+counted_still x copier.Sends o e is may = (may, ap (λ (k : Entry). k.port) is)

@@ -6,6 +6,7 @@ use Rattle.iox_wire_locals.specs.declared.local.Local.{Local}
 use Rattle.iox_wire_locals.specs.declared.local.Local.TheVariants.{Idle, Ends}
 use Rattle.iox_wire_locals.specs.declared.table.Entry.{Entry}
 use Rattle.iox_wire_locals.specs.NewLoans.{entry_in}
+use Rattle.iox_wire_seats.specs.Desks.{MayCount}
 use Rattle.iox_wire_seats.specs.Lends.{MayLend}
 use Rattle.iox_wire_seats.specs.Seats.{Placed}
 use Rattle.iox_wire_request_sends.specs.Orders.{loan_of}
@@ -42,6 +43,14 @@ MayBeMade x at.Lends order loan = MayLend x order.number order.port
 MayBeMade x at.Sends order loan =
     MayLend x order.number order.port × (loan.number ≡ order.number) × (loan.port ≡ order.port)
 MayBeMade x name order loan = Unit {0}
+
+-- The loan of that order may be counted, as long as the copy lends or sends; what it sends is of that
+-- port.
+abbrev pub MayBeCounted : Placed → CopierAt → Order → Entry → Type 0
+MayBeCounted x at.Lends order loan = MayCount order.port x.seat.desks
+MayBeCounted x at.Sends order loan =
+    MayCount order.port x.seat.desks × (loan.port ≡ order.port)
+MayBeCounted x name order loan = Unit {0}
 
 -- it lends or sends
 abbrev pub IsAtWork : CopierAt → Type 0

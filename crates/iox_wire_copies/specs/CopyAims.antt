@@ -13,7 +13,7 @@ use Rattle.iox_wire_seats.specs.Aims.{IsPayloadAt}
 use Rattle.iox_wire_seats.specs.Desks.{MayGiveUp}
 use Rattle.iox_wire_seats.specs.Lends.{MayLend}
 use Rattle.iox_wire_seats.specs.Seats.{Placed}
-use Rattle.iox_wire_request_sends.specs.WireLoansAims.{IsStoring, Knows, TellsOfSlot, after, answered}
+use Rattle.iox_wire_request_sends.specs.WireLoansAims.{IsStoring, Knows, StaysCountable, TellsOfSlot, after, answered}
 use Rattle.iox_wire_request_sends.specs.WireLoansAims as loans
 use Rattle.iox_wire_request_sends.specs.Loans.{reply_in}
 use Rattle.iox_wire_request_sends.specs.Orders.{loan_of}
@@ -106,6 +106,11 @@ HoldsMade x r y s result = IsHeld x.seat r.local → IsHeldMade y.seat s.loan re
 abbrev pub MayLendMade : Placed → Order → Option CopyLent → Type 0
 MayLendMade x order (Some (lent.Refused reply)) = Unit {0}
 MayLendMade x order result = MayLend x order.number order.port
+
+-- unless it is refused, what may be counted still may
+abbrev pub StaysCountableMade : Placed → Placed → Option CopyLent → Type 0
+StaysCountableMade x y (Some (lent.Refused reply)) = Unit {0}
+StaysCountableMade x y result = StaysCountable x y
 
 -- the node knows of the same nodes
 pub record HasSamePeers (x y : Seat) : Type 0 where

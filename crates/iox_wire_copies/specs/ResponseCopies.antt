@@ -13,8 +13,7 @@ use Rattle.iox_wire_locals.specs.declared.table.Entry.{Entry}
 use Rattle.iox_wire_locals.specs.Courses.{placed, sends}
 use Rattle.iox_wire_locals.specs.Steps.{next, tells}
 use Rattle.iox_wire_locals.specs.Tables.{Setting, state_in}
-use Rattle.iox_wire_seats.specs.Desks.{IsUsed}
-use Rattle.iox_wire_seats.specs.Lends.{MayLend}
+use Rattle.iox_wire_seats.specs.Desks.{IsUsed, MayCount}
 use Rattle.iox_wire_seats.specs.Seats.{Placed}
 use Rattle.iox_wire_request_sends.specs.WireLoansAims.{GetsBackUsed, TellsOfSlot, after, answered}
 use Rattle.iox_wire_request_sends.specs.Loans as loans
@@ -91,11 +90,11 @@ CopiesItsResponse r = HasItsPlace r.at r
 
 -- ---- what the seat beside it keeps
 
--- What it lends may be counted as a handle would be, and may be given up; what it sends is in use,
--- and may be counted.
+-- What it lends may be counted and given up; what it sends is in use, and may be counted. It becomes no
+-- handle.
 abbrev pub MayEnd : Placed → CopierAt → ResponseCopy → Type 0
 MayEnd x at.Lends r =
-    MayLend x r.lends.lending.order.number r.lends.lending.order.port × IsHeld x.seat r.local
+    MayCount r.lends.lending.order.port x.seat.desks × IsHeld x.seat r.local
 MayEnd x at.Sends r =
     IsUsed r.sends.loan.port r.sends.loan.slot x.seat.desks × MayCountMade x r.sends
 MayEnd x name r = Unit {0}

@@ -107,6 +107,7 @@ impl CopyLending {
     ghost use Rattle.iox_wire_request_sends.specs.WireLoansAims.{GetsBackUsed};
     ghost use Rattle.iox_wire_copies.specs.CopyAims.{GoesOn, HoldsMade, IsAimed, IsMade, IsMadeAt};
     ghost use Rattle.iox_wire_copies.specs.CopyAims.{IsSameCopy, KeepsPeers, MayLendMade, StaysAimed};
+    ghost use Rattle.iox_wire_copies.specs.CopyAims.{StaysCountableMade};
 
     /// No loan is under way, and there is room for so many ways, and for so many words of a message.
     pub fn new(alloc: Global, ways: usize, longest: usize) -> Result<CopyLending, AllocError>
@@ -166,8 +167,6 @@ impl CopyLending {
         requires busy { is_busy self.old.local ≡ true }
         requires rests { is_busy seat.old.seat.local ≡ false }
         requires accesses { seat.old.seat.accesses + 1 < 2 ^ 64 }
-        requires may { MayLend seat.old self.old.lending.order.number
-            self.old.lending.order.port }
         requires used { GetsBackUsed seat.old.seat self.old.local }
         ensures next { GoesOn seat.old self.old seen seat.new self.new result }
         ensures aimed { StaysAimed seat.old self.old seat.new self.new }
@@ -178,7 +177,9 @@ impl CopyLending {
         ensures accesses { seat.new.seat.accesses ≡ seat.old.seat.accesses + 1 }
         ensures room { KeepsRoom seat.old seat.new }
         ensures rests { is_busy seat.new.seat.local ≡ false }
-        ensures may { MayLendMade seat.new self.new.lending.order result }
+        ensures may { MayLend seat.old self.old.lending.order.number
+            self.old.lending.order.port → MayLendMade seat.new self.new.lending.order result }
+        ensures counts { StaysCountableMade seat.old seat.new result }
         ensures peers { KeepsPeers seat.old self.old seat.new }
         ensures same { IsSameCopy self.old self.new }
     {

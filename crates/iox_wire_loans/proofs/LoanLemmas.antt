@@ -9,7 +9,7 @@ use Rattle.iox_wire_seats.specs.Desks.{MayCount}
 use Rattle.iox_wire_seats.specs.Keeps.{counted, got_back}
 use Rattle.iox_wire_seats.specs.Lends.{MayLend, picked}
 use Rattle.iox_wire_seats.specs.Seats.{Placed}
-use Rattle.iox_wire_loans.specs.Aims.{LeavesSeat}
+use Rattle.iox_wire_loans.specs.Aims.{LeavesSeat, StaysCountable}
 
 -- ---- the desk of a port may count as before
 
@@ -40,6 +40,7 @@ leaves_picked x port o slot free rests = record {
     handles = may.handles;
     loans = count_kept other port (picks o slot free) x.seat.desks (λ d. refl) (λ d. refl) may.loans;
   };
+  counts = λ other may. count_kept other port (picks o slot free) x.seat.desks (λ d. refl) (λ d. refl) may;
 }
 
 pub lends_after_got_back : (x : Placed) (port : ℕ) (w : Way) (slot number other : ℕ) → MayLend x number other
@@ -51,8 +52,14 @@ lends_after_got_back x port w slot number other may = record {
   loans = count_kept other port (gets_back w slot) x.seat.desks (λ d. refl) (λ d. refl) may.loans;
 }
 
+pub counts_after_got_back : (x : Placed) (port : ℕ) (w : Way) (slot : ℕ) → StaysCountable x (got_back x port w slot)
+counts_after_got_back x port w slot other may = count_kept other port (gets_back w slot) x.seat.desks (λ d. refl) (λ d. refl) may
+
 -- ---- an access is counted
 
 pub lends_counted : (x : Placed) (number port : ℕ) → MayLend x number port → MayLend (counted x) number port
 lends_counted x number port may =
     record { room = may.room; newer = may.newer; handles = may.handles; loans = may.loans }
+
+pub counts_counted : (x : Placed) → StaysCountable x (counted x)
+counts_counted x port may = may

@@ -19,7 +19,7 @@ use Rattle.iox_wire_locals.specs.Settlements.{reply_of}
 use Rattle.iox_wire_locals.specs.Steps.{closed, ending_at, next, tells}
 use Rattle.iox_wire_locals.specs.Tables.{Setting, region_word}
 use Rattle.iox_wire_seats.specs.Aims.{KeepsRoom, QueuesInMemory}
-use Rattle.iox_wire_seats.specs.Desks.{IsUsed}
+use Rattle.iox_wire_seats.specs.Desks.{IsUsed, MayCount}
 use Rattle.iox_wire_seats.specs.Lends.{MayLend}
 use Rattle.iox_wire_seats.specs.Seats.{Placed}
 use Rattle.iox_wire_seats.specs.declared.stops.Stop.{Stop}
@@ -98,12 +98,17 @@ GetsBackUsed x (LendEmpties o w (popping.Pops (pop.Takes read slot)) left) =
     IsUsed o.port slot x.desks
 GetsBackUsed x local = Unit {0}
 
--- What a seat leaves to a loan stays so: it is between calls, and may lend.
+-- what may be counted still may
+abbrev pub StaysCountable : Placed → Placed → Type 0
+StaysCountable x y = (port : ℕ) → MayCount port x.seat.desks → MayCount port y.seat.desks
+
+-- What a seat leaves to a loan stays so: it is between calls, may lend, and may count.
 pub record LeavesSeat (x y : Placed) : Type 0 where
   pub accesses : y.seat.accesses ≡ x.seat.accesses
   pub room : KeepsRoom x y
   pub rests : is_busy y.seat.local ≡ false
   pub may : (number port : ℕ) → MayLend x number port → MayLend y number port
+  pub counts : StaysCountable x y
 
 -- ---- a step
 

@@ -183,7 +183,8 @@ impl Lending {
         requires busy { is_busy self.old.local ≡ true }
         requires rests { is_busy seat.old.seat.local ≡ false }
         requires accesses { seat.old.seat.accesses + 1 < 2 ^ 64 }
-        requires may { MayLend seat.old self.old.order.number self.old.order.port }
+        requires may { is_storing self.old.local ≡ true
+            → MayLend seat.old self.old.order.number self.old.order.port }
         requires used { GetsBackUsed seat.old.seat self.old.local }
         ensures next { GoesOn seat.old self.old seen seat.new self.new }
         ensures over { Answers seat.old self.old seen result }
@@ -192,7 +193,10 @@ impl Lending {
         ensures accesses { seat.new.seat.accesses ≡ seat.old.seat.accesses + 1 }
         ensures room { KeepsRoom seat.old seat.new }
         ensures rests { is_busy seat.new.seat.local ≡ false }
-        ensures may { result ≡ None → MayLend seat.new self.new.order.number self.new.order.port }
+        ensures may { result ≡ None
+            → MayLend seat.old self.old.order.number self.old.order.port
+            → MayLend seat.new self.new.order.number self.new.order.port }
+        ensures counts { result ≡ None → StaysCountable seat.old seat.new }
         ensures same { IsSameLoan self.old self.new }
     {
         match self.at {

@@ -1,8 +1,9 @@
 -- What a node may add at the end of a call that it begins beside its seat.
 use Rattle.std.proofs.Common.{◌≡◌, ℕ, false, refl, sym, subst, ◌∙◌}
-use Rattle.iox_wire_begins.specs.Copiers.{MayBeMade}
+use Rattle.iox_wire_begins.specs.Copiers.{MayBeCounted, MayBeMade}
 use Rattle.iox_wire_begins.specs.CopyCalls.{CopyCall}
 use Rattle.iox_wire_begins.specs.Dispatches.{Dispatch}
+use Rattle.iox_wire_begins.specs.Desks.{MayCount}
 use Rattle.iox_wire_begins.specs.Lendings.{next_handle}
 use Rattle.iox_wire_begins.specs.Lends.{MayLend}
 use Rattle.iox_wire_begins.specs.Loans.{Loaned}
@@ -26,7 +27,7 @@ module _ (p : Setting) (n : Node) where
   ready_to_lend s y number port leaves ordered next = record {
     accesses = leaves.accesses;
     room = leaves.room;
-    may = λ lends. still_lends s y.order.number y.order.port leaves (ordered.0 ∙ next) (lends tt);
+    may = λ counts lends. still_lends s y.order.number y.order.port leaves (ordered.0 ∙ next) (lends tt);
   }
 
   pub ready_to_copy_request : (s : Placed) (y : CopyCall) (number port : ℕ) → LeavesSeat n.seat s
@@ -35,24 +36,24 @@ module _ (p : Setting) (n : Node) where
   ready_to_copy_request s y number port leaves made next = record {
     accesses = leaves.accesses;
     room = leaves.room;
-    may = λ lends. made s (still_lends s number port leaves next (lends tt));
+    may = λ counts lends. made s (still_lends s number port leaves next (lends tt));
   }
 
-  pub ready_to_copy_response : (s : Placed) (y : ResponseCopy) (number port : ℕ) → LeavesSeat n.seat s
-      → ((x : Placed) → MayLend x number port → MayBeMade x y.at y.lends.lending.order y.sends.loan) → number ≡ next_handle p n.seat.seat
+  pub ready_to_copy_response : (s : Placed) (y : ResponseCopy) (port : ℕ) → LeavesSeat n.seat s
+      → ((x : Placed) → MayCount port x.seat.desks → MayBeCounted x y.at y.lends.lending.order y.sends.loan)
       → IsReady p n (record n { at = at.CopiesResponse; seat = s; copies_response = y })
-  ready_to_copy_response s y number port leaves made next = record {
+  ready_to_copy_response s y port leaves made = record {
     accesses = leaves.accesses;
     room = leaves.room;
-    may = λ lends. made s (still_lends s number port leaves next (lends tt));
+    may = λ counts lends. made s (leaves.counts port (counts port));
   }
 
   -- a loan that is a handle adds none
   pub ready_to_send_request : (y : RequestDispatch) → y.copied ≡ false → IsReady p n (record n { at = at.SendsRequest; requests = y })
-  ready_to_send_request y own = record { accesses = refl; room = record { handles = refl; rooms = record { ways = refl; words = refl } }; may = λ lends. own }
+  ready_to_send_request y own = record { accesses = refl; room = record { handles = refl; rooms = record { ways = refl; words = refl } }; may = λ counts lends. own }
 
   pub ready_to_send_response : (y : Dispatch) → y.copied ≡ false → IsReady p n (record n { at = at.SendsResponse; responds = y })
-  ready_to_send_response y own = record { accesses = refl; room = record { handles = refl; rooms = record { ways = refl; words = refl } }; may = λ lends. own }
+  ready_to_send_response y own = record { accesses = refl; room = record { handles = refl; rooms = record { ways = refl; words = refl } }; may = λ counts lends. own }
 
 -- the node is told as its own code has it
 pub sent_so : (p : Setting) {n old : Node} {new : Node} → n ≡ old → IsReady p n new → IsReady p old new

@@ -67,7 +67,7 @@ begun_in p call {n} y same own rests by accesses room rooms =
       ready = record {
         accesses = accesses;
         room = record { handles = ap₂ (λ (k : ℕ) (es : List Entry). k + length es) room (ap (λ (x : Seat). x.table) by.begun ∙ (begins_alike p n.seat.seat call).table); rooms = rooms };
-        may = λ lends. tt;
+        may = λ counts lends. tt;
       };
     })
 
@@ -87,7 +87,7 @@ pub ready_to_receive : (p : Setting) (n : Node) (y : Receipt) → y.terms.number
 ready_to_receive p n y number counts = record {
   accesses = refl;
   room = record { handles = refl; rooms = record { ways = refl; words = refl } };
-  may = λ lends. (
+  may = λ counts lends. (
     subst (λ (k : ℕ). receives.MayReceive n.seat k) (sym number)
         (record { room = (lends tt 0).room; newer = (lends tt 0).newer; handles = (lends tt 0).handles }),
     counts,

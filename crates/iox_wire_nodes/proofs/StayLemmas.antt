@@ -1,8 +1,9 @@
 -- What a node may add at the end of its call stays so, as long as that is not over.
 use Rattle.std.proofs.Common.{◌≡◌, ℕ, Option, None, sym, subst, ◌∙◌}
-use Rattle.iox_wire_begins.proofs.CountLemmas.{CountsAlike, counts_beside, lends_at_work, lends_still, made_still}
+use Rattle.iox_wire_begins.proofs.CountLemmas.{CountsAlike, counted_still, counts_at_work, counts_beside, lends_at_work, lends_still, made_still}
 use Rattle.iox_wire_begins.specs.Aims.{KeepsRoom}
-use Rattle.iox_wire_begins.specs.Copiers.{IsAtWork, MayBeMade}
+use Rattle.iox_wire_begins.specs.Copiers.{IsAtWork, MayBeCounted, MayBeMade}
+use Rattle.iox_wire_begins.specs.Desks.{MayCount}
 use Rattle.iox_wire_begins.specs.CopyCalls as request_copies
 use Rattle.iox_wire_begins.specs.CopyCalls.{CopyCall}
 use Rattle.iox_wire_begins.specs.Courses.{placed}
@@ -39,8 +40,8 @@ module _ (p : Setting) (x y : Placed) (l k : Local) (seen : ℕ) (led : placed y
       (lends_still x y r.lends.lending.order.number r.lends.lending.order.port alike room (lends_at_work x r.at r.lends.lending.order r.sends.loan works may)))
 
   pub response_copy_ready : (r s : ResponseCopy) → response_copies.IsSameCall r s → response_copies.SendsItsLoan s → IsAtWork r.at → KeepsRoom x y
-      → MayBeMade x r.at r.lends.lending.order r.sends.loan → MayBeMade y s.at s.lends.lending.order s.sends.loan
+      → MayBeCounted x r.at r.lends.lending.order r.sends.loan → MayBeCounted y s.at s.lends.lending.order s.sends.loan
   response_copy_ready r s same loan works room may =
-      made_still y s.at s.lends.lending.order s.sends.loan loan
-      (subst (λ o. MayLend y o.number o.port) (sym same.lends.order)
-      (lends_still x y r.lends.lending.order.number r.lends.lending.order.port alike room (lends_at_work x r.at r.lends.lending.order r.sends.loan works may)))
+      counted_still y s.at s.lends.lending.order s.sends.loan loan
+      (subst (λ o. MayCount o.port y.seat.desks) (sym same.lends.order)
+      (alike.loans r.lends.lending.order.port (counts_at_work x r.at r.lends.lending.order r.sends.loan works may)))

@@ -13,7 +13,7 @@ use Rattle.iox_wire_begins.specs.LoansAims.{GetsBackUsed, TellsOfSlot}
 use Rattle.iox_wire_begins.specs.RequestSendsAims as requests
 use Rattle.iox_wire_begins.specs.SendsAims as responses
 use Rattle.iox_wire_begins.specs.SendsAims.{MayCountMade}
-use Rattle.iox_wire_begins.specs.Copiers.{MayBeMade}
+use Rattle.iox_wire_begins.specs.Copiers.{MayBeCounted, MayBeMade}
 use Rattle.iox_wire_begins.specs.CopyCalls as request_copies
 use Rattle.iox_wire_begins.specs.ResponseCopies as response_copies
 use Rattle.iox_wire_nodes.specs.declared.call_at.CallAt.{CallAt}
@@ -92,7 +92,7 @@ MayAdd at.CopiesRequest n =
     MayBeMade n.seat n.copies_request.at n.copies_request.lends.lending.order
     n.copies_request.sends.loan
 MayAdd at.CopiesResponse n =
-    MayBeMade n.seat n.copies_response.at n.copies_response.lends.lending.order
+    MayBeCounted n.seat n.copies_response.at n.copies_response.lends.lending.order
     n.copies_response.sends.loan
 MayAdd call n = Unit {0}
 

@@ -11,6 +11,7 @@ use Rattle.iox_wire_begins.specs.WireTerms.{WireTerms}
 use Rattle.iox_wire_begins.specs.Seat.{Seat}
 use Rattle.iox_wire_begins.specs.Lendings.{next_handle}
 use Rattle.iox_wire_begins.specs.Aims.{KeepsRoom}
+use Rattle.iox_wire_begins.specs.Desks.{MayCount}
 use Rattle.iox_wire_begins.specs.Lends.{MayLend}
 use Rattle.iox_wire_begins.specs.Begins.{begin, is_busy, refusal_at}
 use Rattle.iox_wire_begins.specs.Tables.{Setting, entry_at}
@@ -32,15 +33,18 @@ abbrev pub AddsHandle : CallAt → Type 0
 AddsHandle at.Seats = ⊥
 AddsHandle at.SendsRequest = ⊥
 AddsHandle at.SendsResponse = ⊥
+AddsHandle at.CopiesResponse = ⊥
 AddsHandle call = Unit {0}
 
--- With a begin the node makes no access, and gets no handle. If it may have one handle more, with
--- its next number, where the call adds one, it may add what the call adds at its end.
+-- With a begin the node makes no access, and gets no handle. If it may count one loan more, and have
+-- one handle more, with its next number, where the call adds one, it may add what the call adds at its
+-- end.
 pub record IsReady (p : Setting) (old new : Node) : Type 0 where
   pub accesses : new.seat.seat.accesses ≡ old.seat.seat.accesses
   pub room : KeepsRoom old.seat new.seat
-  pub may : (AddsHandle new.at → (port : ℕ)
-      → MayLend old.seat (next_handle p old.seat.seat) port) → MayAdd new.at new
+  pub may : ((port : ℕ) → MayCount port old.seat.seat.desks)
+      → (AddsHandle new.at → (port : ℕ) → MayLend old.seat (next_handle p old.seat.seat) port)
+      → MayAdd new.at new
 
 -- The call is not refused: the node begins it, and knows the places of the words that it accesses.
 pub record IsBegun (p : Setting) (old : Node) (call : WireCall) (new : Node) : Type 0 where

@@ -4,7 +4,7 @@ use Rattle.iox_model.specs.declared.call.Call as the_call
 use Rattle.iox_model.specs.declared.call.Call.TheVariants as calls
 use Rattle.iox_model.specs.declared.kind.Role.{Role}
 use Rattle.iox_model.specs.Commands.{Call, Payload}
-use Rattle.iox_model.specs.Settings.{shape_of}
+use Rattle.iox_model.specs.Settings.{is_client, shape_of}
 use Rattle.iox_model.specs.WireCalls.{in_words}
 use Rattle.iox_wire_begins.specs.WirePlan.{WirePlan}
 use Rattle.iox_wire_begins.specs.Plans.{details_of}
@@ -113,10 +113,11 @@ asked_in (node_calls.Receive n) = asked.Receive
 asked_in (node_calls.HasRequests n) = asked.HasRequests
 asked_in (node_calls.Handle n call) = asked_by call
 
--- whether a node that makes the call may have a handle more at its end
+-- whether a node that makes the call may have a handle more at its end: a copy of a response becomes
+-- none
 abbrev pub may_add_handle : NodeCall → Bool
 may_add_handle (node_calls.Loan n k) = true
-may_add_handle (node_calls.SendCopy n y) = true
+may_add_handle (node_calls.SendCopy n y) = is_client y.role
 may_add_handle (node_calls.Receive n) = true
 may_add_handle call = false
 

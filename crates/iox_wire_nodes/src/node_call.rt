@@ -63,13 +63,14 @@ impl<'a> NodeCall<'a> {
         }
     }
 
-    /// Whether a node that makes the call may have a handle more at its end.
+    /// Whether a node that makes the call may have a handle more at its end. A copy of a response
+    /// becomes none.
     pub fn may_add_handle(self) -> bool
         ensures { result ≡ may_add_handle self.entry }
     {
         match self {
             NodeCall::Loan { .. } => true,
-            NodeCall::SendCopy { .. } => true,
+            NodeCall::SendCopy { payload, .. } => matches!(payload.role, Role::Client),
             NodeCall::Receive { .. } => true,
             NodeCall::Write { .. } => false,
             NodeCall::Send { .. } => false,

@@ -4,6 +4,7 @@ ghost use Rattle.std.specs.Bool.{OnFalse, OnTrue};
 ghost use Rattle.iox_wire_weaves.specs.Begins.{is_busy};
 ghost use Rattle.iox_wire_weaves.specs.Calls.{may_add_handle};
 ghost use Rattle.iox_wire_weaves.specs.Lendings.{next_handle};
+ghost use Rattle.iox_wire_weaves.specs.Desks.{MayCount};
 ghost use Rattle.iox_wire_weaves.specs.Lends.{MayLend};
 ghost use Rattle.iox_wire_weaves.specs.Nodes.{seat_in};
 ghost use Rattle.iox_wire_weaves.specs.NodesBegins.{MayBegin};
@@ -69,6 +70,8 @@ impl Member {
         requires setting { (p : Setting) × IsSettingWith map.now terms.now p }
         requires may { is_busy (seat_in self.old.node).local ≡ false
             → MayBegin map.now terms.now self.old.node.seat.seat }
+        requires counts { is_busy (seat_in self.old.node).local ≡ false
+            → (port : ℕ) → MayCount port self.old.node.seat.seat.desks }
         requires lends { is_busy (seat_in self.old.node).local ≡ false
             → 0 < self.old.node.seat.room → (p : Setting) → IsSettingWith map.now terms.now p
             → (port : ℕ)

@@ -13,7 +13,7 @@ impl CopyLending {
     ghost use Rattle.iox_wire_request_sends.specs.WireLoansAims.{GetsBackUsed, IsLoanAt, is_storing};
     ghost use Rattle.iox_wire_copies.specs.CopyAims.{GoesOn, HoldsMade, IsLending, IsMade};
     ghost use Rattle.iox_wire_copies.specs.CopyAims.{IsMadeAt, IsSameCopy, KeepsPeers, MayLendMade};
-    ghost use Rattle.iox_wire_copies.specs.CopyAims.{StaysAimed};
+    ghost use Rattle.iox_wire_copies.specs.CopyAims.{StaysAimed, StaysCountableMade};
 
     /// An access of the loan before it stores. If the loan is over it is refused.
     #[inline(always)]
@@ -23,8 +23,6 @@ impl CopyLending {
         requires loan { IsLoanAt self.old.lending.order self.old.lending.local }
         requires rests { is_busy seat.old.seat.local ≡ false }
         requires accesses { seat.old.seat.accesses + 1 < 2 ^ 64 }
-        requires may { MayLend seat.old self.old.lending.order.number
-            self.old.lending.order.port }
         requires used { GetsBackUsed seat.old.seat self.old.local }
         ensures next { GoesOn seat.old self.old seen seat.new self.new result }
         ensures aimed { StaysAimed seat.old self.old seat.new self.new }
@@ -35,7 +33,9 @@ impl CopyLending {
         ensures accesses { seat.new.seat.accesses ≡ seat.old.seat.accesses + 1 }
         ensures room { KeepsRoom seat.old seat.new }
         ensures rests { is_busy seat.new.seat.local ≡ false }
-        ensures may { MayLendMade seat.new self.new.lending.order result }
+        ensures may { MayLend seat.old self.old.lending.order.number
+            self.old.lending.order.port → MayLendMade seat.new self.new.lending.order result }
+        ensures counts { StaysCountableMade seat.old seat.new result }
         ensures peers { KeepsPeers seat.old self.old seat.new }
         ensures same { IsSameCopy self.old self.new }
     {

@@ -19,12 +19,12 @@ impl CopyingServer {
     ghost use Rattle.iox_wire_locals.specs.Lendings.{copies_response, next_handle};
     ghost use Rattle.iox_wire_locals.specs.Tables.{Setting, state_in};
     ghost use Rattle.iox_wire_seats.specs.Aims.{IsInMemory, QueuesInMemory};
-    ghost use Rattle.iox_wire_seats.specs.Lends.{MayLend};
+    ghost use Rattle.iox_wire_seats.specs.Desks.{MayCount};
     ghost use Rattle.iox_wire_seats.specs.Seats.{Placed, ways_of};
     ghost use Rattle.iox_wire_request_sends.specs.WireLoansAims.{IsOrdered, LeavesSeat, TellsOfSlot};
     ghost use Rattle.iox_wire_request_sends.specs.Lenders.{AreReturning, IsLender, IsServer, IsWhole};
     ghost use Rattle.iox_wire_request_sends.specs.Orders.{IsResponse};
-    ghost use Rattle.iox_wire_copies.specs.Copiers.{MayBeMade};
+    ghost use Rattle.iox_wire_copies.specs.Copiers.{MayBeCounted};
     ghost use Rattle.iox_wire_copies.specs.Copies.{ArePayloads};
     ghost use Rattle.iox_wire_copies.specs.CopyAims.{HasSameRooms};
     ghost use Rattle.iox_wire_copies.specs.ResponseCopies.{IsAimed, KnowsWay};
@@ -74,8 +74,8 @@ impl CopyingServer {
             → IsOrdered self.new.lends.lending number lender.now.port }
         ensures response { (k : ℕ) → elements ≡ Some k
             → IsResponse self.new.lends.lending.order request }
-        ensures may { (x : Placed) → MayLend x number lender.now.port
-            → MayBeMade x self.new.at self.new.lends.lending.order self.new.sends.loan }
+        ensures may { (x : Placed) → MayCount lender.now.port x.seat.desks
+            → MayBeCounted x self.new.at self.new.lends.lending.order self.new.sends.loan }
         ensures busy { is_busy self.new.local ≡ true }
         ensures told { (k : ℕ) → elements ≡ Some k → self.new.sends.terms ≡ terms }
         ensures leaves { LeavesSeat seat.old seat.new }

@@ -20,7 +20,8 @@ impl Lending {
     ghost use Rattle.iox_wire_seats.specs.Seats.{ways_of};
     ghost use Rattle.iox_wire_loans.specs.Aims.{Answers, FitsSlots, GetsBackUsed, GoesOn, IsAimed};
     ghost use Rattle.iox_wire_loans.specs.Aims.{IsEmptying, IsSameLoan, IsStoring, Knows};
-    ghost use Rattle.iox_wire_loans.specs.Aims.{LeavesSeat, StaysAimed, TellsOfSlot, after, answered};
+    ghost use Rattle.iox_wire_loans.specs.Aims.{LeavesSeat, StaysAimed, StaysCountable, TellsOfSlot};
+    ghost use Rattle.iox_wire_loans.specs.Aims.{after, answered};
     ghost use Rattle.iox_wire_loans.specs.Lenders.{AreReturning};
     ghost use Rattle.iox_wire_loans.specs.Loans.{reply_in};
     ghost use Rattle.iox_wire_loans.specs.Orders.{loan_of};
@@ -98,7 +99,6 @@ impl Lending {
         requires there { IsEmptying self.old.local }
         requires rests { is_busy seat.old.seat.local ≡ false }
         requires accesses { seat.old.seat.accesses + 1 < 2 ^ 64 }
-        requires may { MayLend seat.old self.old.order.number self.old.order.port }
         requires used { GetsBackUsed seat.old.seat self.old.local }
         ensures next { GoesOn seat.old self.old seen seat.new self.new }
         ensures over { Answers seat.old self.old seen result }
@@ -107,7 +107,9 @@ impl Lending {
         ensures accesses { seat.new.seat.accesses ≡ seat.old.seat.accesses + 1 }
         ensures room { KeepsRoom seat.old seat.new }
         ensures rests { is_busy seat.new.seat.local ≡ false }
-        ensures may { MayLend seat.new self.new.order.number self.new.order.port }
+        ensures may { MayLend seat.old self.old.order.number self.old.order.port
+            → MayLend seat.new self.new.order.number self.new.order.port }
+        ensures counts { StaysCountable seat.old seat.new }
         ensures same { IsSameLoan self.old self.new }
     {
         seat.count_access();

@@ -16,7 +16,7 @@ impl Lending {
     ghost use Rattle.iox_wire_seats.specs.Lends.{MayLend};
     ghost use Rattle.iox_wire_loans.specs.Aims.{Answers, GoesOn, IsAimed, IsSameLoan, IsStoring};
     ghost use Rattle.iox_wire_loans.specs.Aims.{HasNextWord, IsLoanAt, StaysAimed, StoresAhead};
-    ghost use Rattle.iox_wire_loans.specs.Aims.{is_storing};
+    ghost use Rattle.iox_wire_loans.specs.Aims.{StaysCountable, is_storing};
 
     /// A word of the message is stored. With the last the loan is made.
     #[inline(always)]
@@ -33,6 +33,7 @@ impl Lending {
         ensures room { KeepsRoom seat.old seat.new }
         ensures rests { is_busy seat.new.seat.local ≡ false }
         ensures may { result ≡ None → MayLend seat.new self.new.order.number self.new.order.port }
+        ensures counts { result ≡ None → StaysCountable seat.old seat.new }
         ensures same { IsSameLoan self.old self.new }
     {
         seat.count_access();

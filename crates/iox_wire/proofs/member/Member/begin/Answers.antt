@@ -26,7 +26,7 @@ returns-clause-begun c =
     c.keep.new.self c.requires.setting
     (λ p setting. subst (λ (k : Node). IsUnderWay p k (Port (call_in p (seat_in k) c.args.call)) c.begin.new.self)
     (ap (λ (m : WireNode). m.node) c.self.view_is) (c.in_default.ensures.begun p setting))
-    c.in_default.ensures.adds c.in_default.ensures.at c.if-lacks_room.ensures.room c.requires.lends
+    c.in_default.ensures.adds c.in_default.ensures.at c.if-lacks_room.ensures.room c.requires.counts c.requires.lends
     (subst (λ (k : Node). KeepsRooms k c.begin.new.self) (ap (λ (m : WireNode). m.node) c.self.view_is) c.in_default.ensures.rooms)
     (ap (λ (m : WireNode). m.number) c.self.view_is)
     (record { alive = ap (λ (m : WireNode). m.alive) c.self.view_is; died = ap (λ (m : WireNode). m.died) c.self.view_is; longest = ap (λ (m : WireNode). m.longest) c.self.view_is })

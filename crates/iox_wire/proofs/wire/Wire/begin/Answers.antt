@@ -3,7 +3,7 @@ use Rattle.std.proofs.Common.{◌≡◌, ◌==◌, None, ap, length, subst, sym,
 use Rattle.iox_wire_weaves.specs.Asking.{BeginsCall, IsBeginRefusal, asked_of}
 use Rattle.iox_wire_weaves.specs.Wires.{Shows, WireData, living_refusal, read_of}
 use Rattle.iox_wire.specs.Kept.{IsShown}
-use Rattle.iox_wire.proofs.Begun.{as_it_was, begun, lacks_room, may_begin, may_lend_there, reads_stay, refused, set_there, shown_begun}
+use Rattle.iox_wire.proofs.Begun.{as_it_was, begun, lacks_room, may_begin, may_count_there, may_lend_there, reads_stay, refused, set_there, shown_begun}
 use Rattle.iox_wire.proofs.Recorded.{count, events_by}
 use Rattle.iox_wire.proofs.WireSteps.{there}
 use Rattle.iox_wire.proofs.wire.Wire.begin.Goals as goal
@@ -20,6 +20,13 @@ begin-told-requires-clause-may c rests =
     let w : WireData = record { plan = c.self.inside.places; terms = c.self.inside.terms; words = c.self.inside.words.items; nodes = c.self.inside.members.items; replies = c.self.inside.replies.finished; events = events_by c.self.inside.events.items; room = c.self.inside.room } in
     let alive : living_refusal w.nodes c.args.node ≡ None = ap (λ (v : WireData). living_refusal v.nodes c.args.node) c.self.view_is ∙ c.in_ok-place.ensures.alive in
     may_begin w c.args.node c.in_ok-place.place c.index_mut-member.result.now first c.index_mut-member.ensures.value c.self.invariant.1 alive rests
+
+pub begin-told-requires-clause-counts : goal.begin-told-requires-clause-counts
+begin-told-requires-clause-counts c rests port =
+    let first = ap (λ (v : WireData). position (λ x. x.number == c.args.node) v.nodes) c.self.view_is ∙ c.in_ok-place.ensures.first in
+    let w : WireData = record { plan = c.self.inside.places; terms = c.self.inside.terms; words = c.self.inside.words.items; nodes = c.self.inside.members.items; replies = c.self.inside.replies.finished; events = events_by c.self.inside.events.items; room = c.self.inside.room } in
+    let alive : living_refusal w.nodes c.args.node ≡ None = ap (λ (v : WireData). living_refusal v.nodes c.args.node) c.self.view_is ∙ c.in_ok-place.ensures.alive in
+    may_count_there w c.args.node c.in_ok-place.place c.index_mut-member.result.now first c.index_mut-member.ensures.value c.self.invariant.1 alive rests port
 
 pub begin-told-requires-clause-lends : goal.begin-told-requires-clause-lends
 begin-told-requires-clause-lends c rests room p setting =

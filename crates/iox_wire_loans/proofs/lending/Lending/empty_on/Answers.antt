@@ -5,6 +5,7 @@ use Rattle.iox_wire_locals.specs.declared.local.Local.{Local}
 use Rattle.iox_wire_locals.specs.declared.local.Local.TheVariants.{LendEmpties}
 use Rattle.iox_wire_locals.specs.Courses.{loaning, placed}
 use Rattle.iox_wire_locals.specs.Steps.{next, tells}
+use Rattle.iox_wire_seats.specs.Desks.{MayCount}
 use Rattle.iox_wire_seats.specs.Lends.{MayLend}
 use Rattle.iox_wire_seats.specs.Seats.{Placed, ways_of}
 use Rattle.iox_wire_loans.specs.declared.order.Order.{Order}
@@ -13,22 +14,22 @@ use Rattle.iox_wire_loans.specs.Aims.{AreAimed, IsAimed, IsEmptying, after, answ
 use Rattle.iox_wire_loans.specs.Loans.{Loaned}
 use Rattle.iox_wire_loans.specs.Orders.{loan_of}
 use Rattle.iox_wire_loans.proofs.EmptyLemmas.{it_empties, emptied_next, emptied_tells}
-use Rattle.iox_wire_loans.proofs.LoanLemmas.{lends_after_got_back, lends_counted}
+use Rattle.iox_wire_loans.proofs.LoanLemmas.{counts_after_got_back, counts_counted, lends_after_got_back, lends_counted}
 use Rattle.iox_wire_loans.proofs.lending.Lending.empty_on.Goals as goal
 
 pub returns-in-HandOut-clause-may : goal.returns-in-HandOut-clause-may
-returns-in-HandOut-clause-may c =
+returns-in-HandOut-clause-may c lends =
     let may : MayLend c.args.seat.now c.self.inside.order.number c.self.inside.order.port =
-    subst (λ (r : Loaned). MayLend c.args.seat.now r.order.number r.order.port) (sym c.self.view_is) c.requires.may in
+    subst (λ (r : Loaned). MayLend c.args.seat.now r.order.number r.order.port) (sym c.self.view_is) lends in
     subst (λ (y : Placed). MayLend y c.self.inside.order.number c.self.inside.order.port) (sym c.get_back.ensures)
     (lends_after_got_back c.count_access.new.self c.self.inside.order.port c.self.inside.way c.in-HandOut.slot c.self.inside.order.number c.self.inside.order.port
     (subst (λ (y : Placed). MayLend y c.self.inside.order.number c.self.inside.order.port) (sym c.count_access.ensures)
     (lends_counted c.args.seat.now c.self.inside.order.number c.self.inside.order.port may)))
 
 pub returns-in-SeesEmpty-clause-may : goal.returns-in-SeesEmpty-clause-may
-returns-in-SeesEmpty-clause-may c =
+returns-in-SeesEmpty-clause-may c lends =
     let may : MayLend c.args.seat.now c.self.inside.order.number c.self.inside.order.port =
-    subst (λ (r : Loaned). MayLend c.args.seat.now r.order.number r.order.port) (sym c.self.view_is) c.requires.may in
+    subst (λ (r : Loaned). MayLend c.args.seat.now r.order.number r.order.port) (sym c.self.view_is) lends in
     subst (λ (o : Order). MayLend c.empty_next.new.seat o.number o.port) (sym c.empty_next.ensures.same.order)
     (c.empty_next.ensures.leaves.may c.self.inside.order.number c.self.inside.order.port
     (subst (λ (y : Placed). MayLend y c.self.inside.order.number c.self.inside.order.port) (sym c.count_access.ensures)
@@ -61,8 +62,23 @@ returns-in-SeesEmpty-clause-over c p aim =
     ∙ c.empty_next.ensures.over p
 
 pub returns-in_default-clause-may : goal.returns-in_default-clause-may
-returns-in_default-clause-may c =
+returns-in_default-clause-may c lends =
     let may : MayLend c.args.seat.now c.self.inside.order.number c.self.inside.order.port =
-    subst (λ (r : Loaned). MayLend c.args.seat.now r.order.number r.order.port) (sym c.self.view_is) c.requires.may in
+    subst (λ (r : Loaned). MayLend c.args.seat.now r.order.number r.order.port) (sym c.self.view_is) lends in
     subst (λ (y : Placed). MayLend y c.self.inside.order.number c.self.inside.order.port) (sym c.count_access.ensures)
     (lends_counted c.args.seat.now c.self.inside.order.number c.self.inside.order.port may)
+
+pub returns-in-HandOut-clause-counts : goal.returns-in-HandOut-clause-counts
+returns-in-HandOut-clause-counts c port may =
+    subst (λ (y : Placed). MayCount port y.seat.desks) (sym c.get_back.ensures)
+    (counts_after_got_back c.count_access.new.self c.self.inside.order.port c.self.inside.way c.in-HandOut.slot port
+    (subst (λ (y : Placed). MayCount port y.seat.desks) (sym c.count_access.ensures) (counts_counted c.args.seat.now port may)))
+
+pub returns-in-SeesEmpty-clause-counts : goal.returns-in-SeesEmpty-clause-counts
+returns-in-SeesEmpty-clause-counts c port may =
+    c.empty_next.ensures.leaves.counts port
+    (subst (λ (y : Placed). MayCount port y.seat.desks) (sym c.count_access.ensures) (counts_counted c.args.seat.now port may))
+
+pub returns-in_default-clause-counts : goal.returns-in_default-clause-counts
+returns-in_default-clause-counts c port may =
+    subst (λ (y : Placed). MayCount port y.seat.desks) (sym c.count_access.ensures) (counts_counted c.args.seat.now port may)

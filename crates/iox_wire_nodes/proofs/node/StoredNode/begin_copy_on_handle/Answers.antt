@@ -66,8 +66,8 @@ returns-clause-begun c p with =
     ∙ ap (λ e. copies_response p c.self.inside.seat.seat c.in_ok-request.request e c.args.words.now)
     (c.elements_in-elements.ensures.elements ∙ elements_planned c.args.map.now c.args.terms.now p with c.args.role c.args.words.now))
     (λ of_slot. c.begin_response_copy.ensures.aimed p with (c.next_number-next.ensures ∙ next_number_is c.args.terms.now p c.self.view_is with.first_number) of_slot)
-    (ready_to_copy_response p _ c.begin_response_copy.new.seat c.begin_response_copy.new.copying c.next_number-next.result (number_at c.args.map.now c.server_place-server.result)
-    c.begin_response_copy.ensures.leaves c.begin_response_copy.ensures.may (c.next_number-next.ensures ∙ next_number_is c.args.terms.now p c.self.view_is with.first_number))
+    (ready_to_copy_response p _ c.begin_response_copy.new.seat c.begin_response_copy.new.copying (number_at c.args.map.now c.server_place-server.result)
+    c.begin_response_copy.ensures.leaves c.begin_response_copy.ensures.may)
 
 pub returns-clause-rooms : goal.returns-clause-rooms
 returns-clause-rooms c = keeps_response_copies c.self.view_is c.begin_response_copy.new.seat c.begin_response_copy.new.copying c.begin_response_copy.ensures.leaves.room.rooms c.begin_response_copy.ensures.rooms

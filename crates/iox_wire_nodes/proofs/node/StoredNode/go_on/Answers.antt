@@ -91,7 +91,7 @@ returns-after-go_on-3-clause-ready c =
       | in-Some-go_on-2 w ↦ absurd (none-some _ (sym none ∙ w.result-is))
       | in-None-go_on-2 w ↦ w.in-None-go_on-2.is
     ] in
-    c.go_on-in-Lends.ensures.may quiet))
+    c.go_on-in-Lends.ensures.may quiet may))
 
 pub returns-after-go_on-4-clause-ready : goal.returns-after-go_on-4-clause-ready
 returns-after-go_on-4-clause-ready c =
