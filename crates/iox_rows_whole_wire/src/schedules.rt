@@ -149,3 +149,27 @@ fn call_without_room_for_its_handle_is_refused(rt: HostRuntime) -> Result<(), Fa
     plays(&rt, &mut wire, &table);
     Ok(())
 }
+
+#[test]
+fn words_that_were_read_stay_until_the_next_read_is_over(rt: HostRuntime) -> Result<(), Fail> {
+    let before = [
+        Act::Whole(0, Ask::CopyRequest(0, 7), 19, Told::Handle(2)),
+        Act::Whole(1, Ask::Receive(1), 11, Told::Handle(2)),
+        Act::Whole(1, Ask::Read(2), 1, Told::Word(7)),
+        Act::Whole(1, Ask::Loan(2), 14, Told::Handle(3)),
+        Act::Whole(1, Ask::WriteResponse(3, 9), 1, Told::Done),
+        Act::Begins(1, Ask::Read(3)),
+    ];
+    let mut wire = open(rt.alloc(), NO_OVERFLOW)?;
+    assert_eq!(rt; wire.words_read(1), Some(&[][..]));
+    plays(&rt, &mut wire, &before);
+    assert_eq!(rt; wire.words_read(1), Some(&[7u64][..]));
+    plays(
+        &rt,
+        &mut wire,
+        &[Act::Ends(1, 1, Told::Word(9)), Act::Dies(1)],
+    );
+    assert_eq!(rt; wire.words_read(1), Some(&[9u64][..]));
+    assert_eq!(rt; wire.words_read(0), Some(&[][..]));
+    Ok(())
+}
