@@ -173,3 +173,18 @@ fn words_that_were_read_stay_until_the_next_read_is_over(rt: HostRuntime) -> Res
     assert_eq!(rt; wire.words_read(0), Some(&[][..]));
     Ok(())
 }
+
+#[test]
+fn copy_of_a_response_wants_no_room_for_a_handle(rt: HostRuntime) -> Result<(), Fail> {
+    let table = [
+        Act::Whole(0, Ask::CopyRequest(0, 7), 19, Told::Handle(2)),
+        Act::Whole(1, Ask::Receive(1), 11, Told::Handle(2)),
+        // the server has room for no other handle
+        Act::RefusedCall(1, Ask::Loan(2), WireRefusal::WantOfMemory),
+        Act::Whole(1, Ask::CopyResponse(2, 9), 24, Told::Done),
+        Act::RefusedCall(0, Ask::Receive(2), WireRefusal::WantOfMemory),
+    ];
+    let mut wire = open_with(rt.alloc(), NO_OVERFLOW, 1)?;
+    plays(&rt, &mut wire, &table);
+    Ok(())
+}
