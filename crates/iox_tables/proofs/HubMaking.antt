@@ -1,6 +1,7 @@
 pub mod Firsts
 pub mod Distinct
 pub mod PipesLeft
+pub mod PortsLeft
 pub mod Disconnecting
 pub mod Testing
 pub mod Keeping

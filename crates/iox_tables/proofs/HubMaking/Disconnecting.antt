@@ -3,9 +3,6 @@ use Rattle.std.specs.Prelude.{◌≡◌, ℕ, zero, suc, ◌+◌, Bool, true, fa
 use Rattle.std.specs.List.{list_any, range_with_len}
 use Rattle.std.specs.Option.{option_map, option_map_or}
 use Rattle.std.proofs.Common.{sym, ap, ap₂, ◌∙◌, arith, true≢false, eqb-true}
-use Rattle.std.proofs.lemmas.Bool.{le-ltb}
-use Rattle.std.proofs.lemmas.Option.{none-some}
-use Rattle.iox_laws.proofs.WeaveLaws.MapLemmas.{eqb-refl}
 use Rattle.iox_model.specs.declared.kind.Role.{Role}
 use Rattle.iox_model.specs.declared.kind.Role.TheVariants.{Client, Server}
 use Rattle.iox_model.specs.declared.way.Way.{Way}
@@ -15,7 +12,6 @@ use Rattle.iox_model.specs.Maps.{AreDistinct, has_number, is_empty, or_else}
 use Rattle.iox_model.specs.Peers.{is_connected_port, role_at}
 use Rattle.iox_model.specs.Settings.{is_client, other_role, same_role}
 use Rattle.iox_model.specs.States as m
-use Rattle.iox_lanes.specs.Incomings.{IncomingState, with_kept}
 use Rattle.iox_lanes.specs.Lanes.{LaneState, has_waiting}
 use Rattle.iox_lanes.specs.Pipes.{PipeState, has_waiting_on_any}
 use Rattle.iox_tables.specs.HubStates.Tables.{HubTables, PortState, numbers_of, pipe_from, pipes_of, pipes_to, port_in, senders_of}
@@ -23,7 +19,6 @@ use Rattle.iox_tables.specs.HubStates.Ways.{lane_on, lanes_from, state_on}
 use Rattle.iox_tables.specs.HubStates.Shown.{is_out_in, returned_in, waiting_in}
 use Rattle.iox_tables.specs.HubStates.States.{Given, expired_in, fixed_of, loans_in, message_of, port_of, state_shown}
 use Rattle.iox_tables.specs.HubStates.Steps.{is_there}
-use Rattle.iox_tables.specs.HubStates.Wirings.{numbers_of_role, role_in}
 use Rattle.iox_tables.specs.HubMaking.Disconnections.{DisconnectionsAreShown, MayGo, cut_from, is_left, ports_without, with_disconnected}
 use Rattle.iox_tables.specs.HubMaking.Expirings.{with_expired}
 use Rattle.iox_tables.specs.HubMaking.NewPorts.{room_for_gone, width_of}
@@ -33,75 +28,7 @@ use Rattle.iox_tables.proofs.HubStates.Steps.{connected_is}
 use Rattle.iox_tables.proofs.HubMaking.Connecting.{other_twice, same_roles, there_is}
 use Rattle.iox_tables.proofs.HubMaking.Firsts.{first_among, first_kept, first_mapped, has_first}
 use Rattle.iox_tables.proofs.HubMaking.PipesLeft.{pipe_cut, senders_kept}
-
--- ---- which ports are left
-
-module _ (n : ℕ) (ports : List PortState) where
-  pub port_left : (k : ℕ) → port_in (ports_without n ports) k ≡ (if k == n then None else option_map (cut_from n) (port_in ports k))
-  port_left k =
-      first_mapped (λ (p : PortState). p.number) (cut_from n) (λ p. refl) (filter (λ p. not (p.number == n)) ports) k
-      ∙ ap (option_map (cut_from n)) (first_kept (λ p. p.number) n ports k) ∙ step (k == n)
-    where
-      step : (b : Bool) → option_map (cut_from n) (if b then None else port_in ports k) ≡ (if b then None else option_map (cut_from n) (port_in ports k))
-      step true = refl
-      step false = refl
-
-  -- whatever a port shows but for its pipes is still there, if the port is
-  pub part_left : {B : Type 0} (show : PortState → B) (none : B) → ((p : PortState) → show (cut_from n p) ≡ show p) → (k : ℕ)
-      → option_map_or show (port_in (ports_without n ports) k) none ≡ (if k == n then none else option_map_or show (port_in ports k) none)
-  part_left show none same k = ap (λ o. option_map_or show o none) (port_left k) ∙ step (k == n) (port_in ports k)
-    where
-      step : (b : Bool) (o : Option PortState) → option_map_or show (if b then None else option_map (cut_from n) o) none ≡ (if b then none else option_map_or show o none)
-      step true o = refl
-      step false (Some p) = same p
-      step false None = refl
-
-  pub there_left : (k : ℕ) → is_there (ports_without n ports) k ≡ (if k == n then false else is_there ports k)
-  there_left k = ap (λ (o : Option PortState). is_some o) (port_left k) ∙ step (k == n) (port_in ports k)
-    where
-      step : (b : Bool) (o : Option PortState) → is_some (if b then None else option_map (cut_from n) o) ≡ (if b then false else is_some o)
-      step true o = refl
-      step false (Some p) = refl
-      step false None = refl
-
-  module _ (apart : (k : ℕ) (p : PortState) → port_in ports k ≡ Some p → AreDistinct (senders_of (pipes_of p))) where
-    pub pipe_left : (to from : ℕ) → pipe_from (pipes_to (ports_without n ports) to) from ≡ (if is_left n ports to from then pipe_from (pipes_to ports to) from else None)
-    pipe_left to from =
-        ap (λ o. pipe_from (option_map_or pipes_of o []) from) (port_left to)
-        ∙ step (to == n) (port_in ports to) refl
-        ∙ ap (λ ks. if (if to == n then false else (if (from == n) || has_number from (expired_in ports to) then has_number from ks else true)) then pipe_from (pipes_to ports to) from else None)
-        (sym (ap (λ o. option_map_or (λ p. senders_of p.expired.pipes) o []) (port_left to)))
-      where
-        nothing : Option PipeState
-        nothing = None
-
-        either : (b : Bool) → nothing ≡ (if b then nothing else nothing)
-        either true = refl
-        either false = refl
-
-        step : (b : Bool) (o : Option PortState) → port_in ports to ≡ o
-            → pipe_from (option_map_or pipes_of (if b then None else option_map (cut_from n) o) []) from
-            ≡ (if (if b then false else (if (from == n) || has_number from (option_map_or (λ p. senders_of p.expired.pipes) o [])
-            then has_number from (option_map_or (λ p. senders_of p.expired.pipes) (if b then None else option_map (cut_from n) o) []) else true))
-            then pipe_from (option_map_or pipes_of o []) from else None)
-        step true o at = refl
-        step false None at = either (if (from == n) || false then false else true)
-        step false (Some p) at = pipe_cut n p (apart to p at) from
-
-    in_pipe : {B : Type 0} (part : PipeState → List B) (b : Bool) (o : Option PipeState) (j : ℕ)
-        → slice_get (option_map_or part (if b then o else None) []) j ≡ (if b then slice_get (option_map_or part o []) j else None)
-    in_pipe part true o j = refl
-    in_pipe part false o j = refl
-
-    pub lane_left : (w : Way) → lane_on (ports_without n ports) w ≡ (if is_left n ports w.receiver w.sender then lane_on ports w else None)
-    lane_left w =
-        ap (λ o. slice_get (option_map_or (λ p. p.lanes) o []) w.lane) (pipe_left w.receiver w.sender)
-        ∙ in_pipe (λ p. p.lanes) (is_left n ports w.receiver w.sender) (pipe_from (pipes_to ports w.receiver) w.sender) w.lane
-
-    pub state_left : (w : Way) → state_on (ports_without n ports) w ≡ (if is_left n ports w.sender w.receiver then state_on ports w else None)
-    state_left w =
-        ap (λ o. slice_get (option_map_or (λ p. p.states) o []) w.lane) (pipe_left w.sender w.receiver)
-        ∙ in_pipe (λ p. p.states) (is_left n ports w.sender w.receiver) (pipe_from (pipes_to ports w.sender) w.receiver) w.lane
+pub use Rattle.iox_tables.proofs.HubMaking.PortsLeft.{lane_left, part_left, pipe_left, port_left, state_left, there_left}
 
 -- ---- what waits on some lane
 
