@@ -91,8 +91,6 @@ module _ (t : HubTables) (new : PortState) (pools : List (Option PoolState)) (or
     connected : AreConnected u
     connected = (new_ports_are_connected t new pools (are_connected t order) fresh new_unkept may.none).1
 
-    -- ---- ports
-
     pub old_port : (k : ℕ) (p : PortState) → port_in t.ports k ≡ Some p → port_in u.ports k ≡ Some (C p)
     old_port k p at = old_there t.settings t.ports new k p at
 
@@ -144,8 +142,6 @@ module _ (t : HubTables) (new : PortState) (pools : List (Option PoolState)) (or
         step : (o : Option PortState) → option_map_or (λ (p : PortState). p.role) (option_map (connected_to t.settings new) o) Client ≡ option_map_or (λ (p : PortState). p.role) o Client
         step (Some p) = shows (λ q. q.role) (λ q ps. refl) p
         step None = refl
-
-    -- ---- slots
 
     pub slot_else : (q k : ℕ) → (q == new.pool) ≡ false → slot_at t.pools q k ≡ slot_at pools q k
     slot_else q k other = ap (λ o. option_map_or (λ (s : SlotState). s) (slice_get (option_map_or (λ (p : PoolState). p.slots) o []) k) no_slot) (put.others q other)
@@ -257,8 +253,6 @@ module _ (t : HubTables) (new : PortState) (pools : List (Option PoolState)) (or
             step (inr x) (inl y) = let low = order.numbers.owners j b y.0 in let high = x.1 in absurd (omega (arith, low, high, e))
             step (inr x) (inr y) = x.0 ∙ sym y.0
 
-    -- ---- lanes
-
     pipe_else : (r s : ℕ) → (r == new.number) ≡ false → (s == new.number) ≡ false → pipe_from (pipes_to u.ports r) s ≡ pipe_from (pipes_to t.ports r) s
     pipe_else r s other sender = ap (λ o. pipe_from (option_map_or pipes_of o []) s) (port_else r other) ∙ of (port_in t.ports r)
       where
@@ -338,8 +332,6 @@ module _ (t : HubTables) (new : PortState) (pools : List (Option PoolState)) (or
 
     pub once : OfAllLanes HasEachPlaceOnce u.ports
     once = new_lanes_are t.settings t.ports new bare HasEachPlaceOnce (λ a b c k. omega arith) order.once
-
-    -- ---- pipes
 
     pub wired : AreWired u
     wired = record { each = connected.wired; kept = connected.kept; limits = connected.limits }
