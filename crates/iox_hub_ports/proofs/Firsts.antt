@@ -5,17 +5,15 @@ use Rattle.std.specs.Option.{option_map_or}
 use Rattle.std.proofs.Common.{sym, ap, ◌∙◌, cond, arith}
 use Rattle.std.proofs.lemmas.Bool.{false≢true}
 use Rattle.std.proofs.lemmas.Option.{none-some}
-use Rattle.iox_model.specs.declared.way.RequestState.TheVariants.{Closed}
 use Rattle.iox_model.specs.Maps.{has_number, or_else}
-use Rattle.iox_tables.specs.Incomings.{IncomingState, disconnected, on_lane_of, on_pipe, rank_from, with_pipe}
+use Rattle.iox_tables.specs.Incomings.{IncomingState, disconnected, on_lane_of, on_pipe_by, rank_from, with_pipe, with_pipe_by}
 use Rattle.iox_tables.specs.Lanes.{LaneState}
 use Rattle.iox_tables.specs.Pipes.{PipeState, on_lane}
-use Rattle.iox_tables.specs.Searches.{state_on}
 use Rattle.iox_tables.specs.HubStates.Tables.{PortState, first_by, pipe_from, pipes_of, senders_of, with_first_by}
 use Rattle.iox_tables.specs.HubStates.Ways.{with_pipe_of, with_pipe_from, with_pipes}
 use Rattle.iox_tables.proofs.HubStates.Keys.{first_append, has_some}
 use Rattle.iox_tables.proofs.HubStates.Placing.{ranks_are_of_senders}
-use Rattle.iox_hub_ports.specs.Ports.{on_lane_from, state_from, without_pipe_from}
+use Rattle.iox_hub_ports.specs.Ports.{on_lane_from, without_pipe_from}
 use Rattle.iox_tables.specs.HubMaking.OneByOne.{without_first_by}
 
 -- ---- the first of a number
@@ -105,7 +103,7 @@ from_expired p s r e =
     first None h = absurd (false≢true h)
 
 -- there is none among those, but one among the others
-pub from_incoming : (p : PortState) (s r : ℕ) → rank_from p.expired.pipes s ≡ None → rank_from p.incoming.pipes s ≡ Some r
+from_incoming : (p : PortState) (s r : ℕ) → rank_from p.expired.pipes s ≡ None → rank_from p.incoming.pipes s ≡ Some r
     → slice_get p.incoming.pipes r ≡ pipe_from (pipes_of p) s
 from_incoming p s r none e =
     (ranks_are_of_senders p.incoming s r e).pipe
@@ -113,7 +111,7 @@ from_incoming p s r none e =
     ∙ sym (first_append (λ q. q.sender) p.expired.pipes p.incoming.pipes s)
 
 -- there is none
-pub from_nobody : (p : PortState) (s : ℕ) → rank_from p.expired.pipes s ≡ None → rank_from p.incoming.pipes s ≡ None
+from_nobody : (p : PortState) (s : ℕ) → rank_from p.expired.pipes s ≡ None → rank_from p.incoming.pipes s ≡ None
     → None ≡ pipe_from (pipes_of p) s
 from_nobody p s none neither =
     sym (none_first (λ q. q.sender) p.incoming.pipes s 0 neither)
@@ -125,36 +123,30 @@ lane_there : {A : Type 0} (f : LaneState → A) (none : A) (lane : ℕ) (o : Opt
 lane_there f none lane (Some q) = refl
 lane_there f none lane None = refl
 
-state_there : (lane : ℕ) (o : Option PipeState)
-    → option_map_or (λ q. state_on q.states lane) o Closed ≡ option_map_or (λ r. r) (slice_get (option_map_or (λ q. q.states) o []) lane) Closed
-state_there lane (Some q) = refl
-state_there lane None = refl
+module _ (p : PortState) (s : ℕ) where
+  -- there is none among the expired: what is asked of the pipe from a connected sender is asked of the one from this sender
+  pub asked_other : {A : Type 0} (f : PipeState → A) (none : A) → rank_from p.expired.pipes s ≡ None
+      → on_pipe_by f none p.incoming s ≡ option_map_or f (pipe_from (pipes_of p) s) none
+  asked_other {A} f none off = step (rank_from p.incoming.pipes s) refl
+    where
+      step : (o : Option ℕ) → rank_from p.incoming.pipes s ≡ o
+          → option_map_or (λ r. option_map_or f (slice_get p.incoming.pipes r) none) o none ≡ option_map_or f (pipe_from (pipes_of p) s) none
+      step (Some r) e = ap (λ (o : Option PipeState). option_map_or f o none) (from_incoming p s r off e)
+      step None e = ap (λ (o : Option PipeState). option_map_or f o none) (from_nobody p s off e)
+
+  pub from_other : rank_from p.expired.pipes s ≡ None → on_pipe_by (λ q. Some q) None p.incoming s ≡ pipe_from (pipes_of p) s
+  from_other off = asked_other (λ q. Some q) None off ∙ same (pipe_from (pipes_of p) s)
+    where
+      same : (o : Option PipeState) → option_map_or (λ q. Some q) o None ≡ o
+      same (Some q) = refl
+      same None = refl
 
 module _ {A : Type 0} (f : LaneState → A) (none : A) (p : PortState) (s lane : ℕ) where
   pub told_expired : (r : ℕ) → rank_from p.expired.pipes s ≡ Some r → on_lane_of f none p.expired r lane ≡ on_lane_from f none p s lane
   told_expired r e = ap (λ o. option_map_or (λ q. on_lane f none q lane) o none) (from_expired p s r e) ∙ lane_there f none lane (pipe_from (pipes_of p) s)
 
-  pub told_incoming : (r : ℕ) → rank_from p.expired.pipes s ≡ None → rank_from p.incoming.pipes s ≡ Some r
-      → on_lane_of f none p.incoming r lane ≡ on_lane_from f none p s lane
-  told_incoming r off e =
-      ap (λ o. option_map_or (λ q. on_lane f none q lane) o none) (from_incoming p s r off e) ∙ lane_there f none lane (pipe_from (pipes_of p) s)
-
-  pub told_nobody : rank_from p.expired.pipes s ≡ None → rank_from p.incoming.pipes s ≡ None → none ≡ on_lane_from f none p s lane
-  told_nobody off e =
-      ap (λ o. option_map_or (λ q. on_lane f none q lane) o none) (from_nobody p s off e) ∙ lane_there f none lane (pipe_from (pipes_of p) s)
-
-module _ (p : PortState) (s lane : ℕ) where
-  pub state_expired : (r : ℕ) → rank_from p.expired.pipes s ≡ Some r → on_pipe (λ q. state_on q.states lane) Closed p.expired r ≡ state_from p s lane
-  state_expired r e = ap (λ o. option_map_or (λ q. state_on q.states lane) o Closed) (from_expired p s r e) ∙ state_there lane (pipe_from (pipes_of p) s)
-
-  pub state_incoming : (r : ℕ) → rank_from p.expired.pipes s ≡ None → rank_from p.incoming.pipes s ≡ Some r
-      → on_pipe (λ q. state_on q.states lane) Closed p.incoming r ≡ state_from p s lane
-  state_incoming r off e =
-      ap (λ o. option_map_or (λ q. state_on q.states lane) o Closed) (from_incoming p s r off e) ∙ state_there lane (pipe_from (pipes_of p) s)
-
-  pub state_nobody : rank_from p.expired.pipes s ≡ None → rank_from p.incoming.pipes s ≡ None → Closed ≡ state_from p s lane
-  state_nobody off e =
-      ap (λ o. option_map_or (λ q. state_on q.states lane) o Closed) (from_nobody p s off e) ∙ state_there lane (pipe_from (pipes_of p) s)
+  pub told_other : rank_from p.expired.pipes s ≡ None → on_pipe_by (λ q. on_lane f none q lane) none p.incoming s ≡ on_lane_from f none p s lane
+  told_other off = asked_other p s (λ q. on_lane f none q lane) none off ∙ lane_there f none lane (pipe_from (pipes_of p) s)
 
 module _ (h : PipeState → PipeState) (p : PortState) (s : ℕ) where
   abbrev either : Bool → PortState
@@ -170,16 +162,13 @@ module _ (h : PipeState → PipeState) (p : PortState) (s : ℕ) where
   none_there : rank_from p.expired.pipes s ≡ None → has_number s (senders_of p.expired.pipes) ≡ false
   none_there off = has_some p.expired.pipes s ∙ ap (λ (o : Option PipeState). is_some o) (none_first (λ q. q.sender) p.expired.pipes s 0 off)
 
-  pub changed_incoming : (r : ℕ) → rank_from p.expired.pipes s ≡ None → rank_from p.incoming.pipes s ≡ Some r
-      → record p { incoming = with_pipe h p.incoming r } ≡ with_pipe_of h p s
-  changed_incoming r off e =
-      ap (λ (c : IncomingState). record p { incoming = c }) ((ranks_are_of_senders p.incoming s r e).changes h)
-      ∙ ap either (sym (none_there off))
-
-  pub changed_nobody : rank_from p.expired.pipes s ≡ None → rank_from p.incoming.pipes s ≡ None → p ≡ with_pipe_of h p s
-  changed_nobody off e =
-      ap (λ (qs : List PipeState). record p { incoming = with_pipes p.incoming qs }) (sym (none_changed (λ q. q.sender) h p.incoming.pipes s 0 e))
-      ∙ ap either (sym (none_there off))
+  pub changed_other : rank_from p.expired.pipes s ≡ None → record p { incoming = with_pipe_by h p.incoming s } ≡ with_pipe_of h p s
+  changed_other off = step (rank_from p.incoming.pipes s) refl ∙ ap either (sym (none_there off))
+    where
+      step : (o : Option ℕ) → rank_from p.incoming.pipes s ≡ o
+          → record p { incoming = option_map_or (λ r. with_pipe h p.incoming r) o p.incoming } ≡ either false
+      step (Some r) e = ap (λ (c : IncomingState). record p { incoming = c }) ((ranks_are_of_senders p.incoming s r e).changes h)
+      step None e = ap (λ (qs : List PipeState). record p { incoming = with_pipes p.incoming qs }) (sym (none_changed (λ q. q.sender) h p.incoming.pipes s 0 e))
 
 -- ---- the pipe from a connected sender goes
 

@@ -10,7 +10,7 @@ use Rattle.iox_tables.specs.Pipes.{PipeState, lane_to_get, with_lane}
 use Rattle.iox_tables.specs.HubStates.Tables.{PortState, numbers_of, pipe_from, pipes_of, port_in}
 use Rattle.iox_tables.proofs.HubStates.Keys.{lane_sender, pipe_changed, set_there}
 use Rattle.iox_hub_ports.specs.Ports.{lane_to_get_at, lane_to_get_on, with_lane_from}
-use Rattle.iox_hub_ports.proofs.Firsts.{from_expired, from_incoming}
+use Rattle.iox_hub_ports.proofs.Firsts.{from_expired}
 use Rattle.iox_hub_ports.proofs.Keeping.{set_number}
 use Rattle.iox_hub_ports.proofs.Seats.{first_at}
 
@@ -43,10 +43,6 @@ module _ (g : LaneState → LaneState) (lane : ℕ) where
   pub left_expired : (p : PortState) (s r : ℕ) → rank_from p.expired.pipes s ≡ Some r
       → on_pipe lane_to_get None (with_lane_of g p.expired r lane) r ≡ lane_to_get_on (pipes_of (with_lane_from g p s lane)) s
   left_expired p s r e = in_rank p.expired r ∙ ap left_in (from_expired p s r e) ∙ sym (from_sender p s)
-
-  pub left_incoming : (p : PortState) (s r : ℕ) → rank_from p.expired.pipes s ≡ None → rank_from p.incoming.pipes s ≡ Some r
-      → on_pipe lane_to_get None (with_lane_of g p.incoming r lane) r ≡ lane_to_get_on (pipes_of (with_lane_from g p s lane)) s
-  left_incoming p s r off e = in_rank p.incoming r ∙ ap left_in (from_incoming p s r off e) ∙ sym (from_sender p s)
 
 -- ---- the port in a place
 

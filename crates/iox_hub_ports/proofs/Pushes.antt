@@ -2,7 +2,6 @@
 use Rattle.std.specs.Prelude.{◌≡◌, ℕ, zero, suc, ◌≤◌, Bool, true, false, if◌then◌else◌, List, [], ◌∷◌, Option, Some, None, slice_get, slice_set, refl}
 use Rattle.std.specs.Option.{option_map_or}
 use Rattle.std.proofs.Common.{sym, ap, ◌∙◌}
-use Rattle.iox_tables.specs.Incomings.{IncomingState, on_lane_of, with_lane_of}
 use Rattle.iox_tables.specs.Lanes.{LaneState, delivered, has_room, is_full, offered, without_oldest}
 use Rattle.iox_tables.specs.Pipes.{PipeState, on_lane, with_lane}
 use Rattle.iox_tables.specs.HubStates.Changes.{pushed_lane}
@@ -30,44 +29,24 @@ lane_twice f g p lane = step (slice_get p.lanes lane) refl
         ∙ ap (λ (ls : List LaneState). record p { lanes = ls }) (set_set p.lanes lane (f l) (g (f l)))
     step None e = ap (λ (o : Option LaneState). option_map_or (λ l. record p { lanes = slice_set p.lanes lane (g l) }) o p) e
 
-pub lane_of_twice : (f g : LaneState → LaneState) (c : IncomingState) (r lane : ℕ)
-    → with_lane_of g (with_lane_of f c r lane) r lane ≡ with_lane_of (λ l. g (f l)) c r lane
-lane_of_twice f g c r lane = step (slice_get c.pipes r) refl
-  where
-    step : (o : Option PipeState) → slice_get c.pipes r ≡ o
-        → with_lane_of g (option_map_or (λ p. record c { pipes = slice_set c.pipes r (with_lane f p lane) }) o c) r lane
-        ≡ option_map_or (λ p. record c { pipes = slice_set c.pipes r (with_lane (λ l. g (f l)) p lane) }) o c
-    step (Some p) e =
-        ap (λ (o : Option PipeState). option_map_or (λ q. record c { pipes = slice_set (slice_set c.pipes r (with_lane f p lane)) r (with_lane g q lane) }) o (record c { pipes = slice_set c.pipes r (with_lane f p lane) }))
-        (set_there c.pipes r p (with_lane f p lane) e)
-        ∙ ap (λ (ps : List PipeState). record c { pipes = ps }) (set_set c.pipes r (with_lane f p lane) (with_lane g (with_lane f p lane) lane))
-        ∙ ap (λ q. record c { pipes = slice_set c.pipes r q }) (lane_twice f g p lane)
-    step None e = ap (λ (o : Option PipeState). option_map_or (λ p. record c { pipes = slice_set c.pipes r (with_lane g p lane) }) o c) e
-
 -- ---- where it is known whether the lane is full
 
 -- a change of a lane is another where it does the same to the lane that is there
-same_lane : (f g : LaneState → LaneState) (b : Bool) → ((l : LaneState) → is_full l ≡ b → f l ≡ g l) → (c : IncomingState) (r lane : ℕ)
-    → on_lane_of is_full true c r lane ≡ b → with_lane_of f c r lane ≡ with_lane_of g c r lane
-same_lane f g b same c r lane full = pipe (slice_get c.pipes r) full
+same_lane : (f g : LaneState → LaneState) (b : Bool) → ((l : LaneState) → is_full l ≡ b → f l ≡ g l) → (p : PipeState) (lane : ℕ)
+    → on_lane is_full true p lane ≡ b → with_lane f p lane ≡ with_lane g p lane
+same_lane f g b same p lane full = there (slice_get p.lanes lane) full
   where
-    there : (p : PipeState) (o : Option LaneState) → option_map_or is_full o true ≡ b
+    there : (o : Option LaneState) → option_map_or is_full o true ≡ b
         → option_map_or (λ l. record p { lanes = slice_set p.lanes lane (f l) }) o p ≡ option_map_or (λ l. record p { lanes = slice_set p.lanes lane (g l) }) o p
-    there p (Some l) e = ap (λ (m : LaneState). record p { lanes = slice_set p.lanes lane m }) (same l e)
-    there p None e = refl
+    there (Some l) e = ap (λ (m : LaneState). record p { lanes = slice_set p.lanes lane m }) (same l e)
+    there None e = refl
 
-    pipe : (o : Option PipeState) → option_map_or (λ p. on_lane is_full true p lane) o true ≡ b
-        → option_map_or (λ p. record c { pipes = slice_set c.pipes r (with_lane f p lane) }) o c ≡ option_map_or (λ p. record c { pipes = slice_set c.pipes r (with_lane g p lane) }) o c
-    pipe (Some p) e = ap (λ q. record c { pipes = slice_set c.pipes r q }) (there p (slice_get p.lanes lane) e)
-    pipe None e = refl
-
-module _ (c : IncomingState) (r lane k : ℕ) where
-  pub pushes_full : on_lane_of is_full true c r lane ≡ true
-      → with_lane_of (λ l. offered l k) (with_lane_of without_oldest c r lane) r lane ≡ with_lane_of (λ l. pushed l k) c r lane
-  pushes_full full =
-      lane_of_twice without_oldest (λ l. offered l k) c r lane
-      ∙ same_lane (λ l. offered (without_oldest l) k) (λ l. pushed l k) true
-      (λ l e. ap (λ (b : Bool). offered (if b then without_oldest l else l) k) (sym e)) c r lane full
+pub pushes_full : (p : PipeState) (lane k : ℕ) → on_lane is_full true p lane ≡ true
+    → with_lane (λ l. offered l k) (with_lane without_oldest p lane) lane ≡ with_lane (λ l. pushed l k) p lane
+pushes_full p lane k full =
+    lane_twice without_oldest (λ l. offered l k) p lane
+    ∙ same_lane (λ l. offered (without_oldest l) k) (λ l. pushed l k) true
+    (λ l e. ap (λ (b : Bool). offered (if b then without_oldest l else l) k) (sym e)) p lane full
 
 -- ---- a push is the machine's
 

@@ -5,35 +5,15 @@ use Rattle.std.proofs.Common.{sym, ap, subst, ◌∙◌, get_or}
 use Rattle.std.proofs.lemmas.Option.{none-some}
 use Rattle.iox_model.specs.declared.way.Way.{Way}
 use Rattle.iox_model.specs.Maps.{AreDistinct}
-use Rattle.iox_tables.specs.Incomings.{rank_from}
 use Rattle.iox_tables.specs.Lanes.{IsSound, LaneState}
-use Rattle.iox_tables.specs.Pipes.{IsSoundAt, PipeState}
-use Rattle.iox_tables.specs.HubStates.Tables.{PortState, numbers_of, pipe_from, pipes_of, pipes_to, port_in}
+use Rattle.iox_tables.specs.Pipes.{IsSoundAt}
+use Rattle.iox_tables.specs.HubStates.Tables.{PortState, numbers_of, pipes_of, pipes_to, port_in}
 use Rattle.iox_tables.specs.HubStates.Ways.{lane_on, lanes_from}
 use Rattle.iox_tables.proofs.HubStates.Placing.{places_are_of_numbers}
 use Rattle.iox_hub_ports.specs.Ports.{place_in, way_from}
-use Rattle.iox_hub_ports.proofs.Firsts.{from_expired, from_incoming, from_nobody, none_first}
+use Rattle.iox_hub_ports.proofs.Firsts.{none_first}
 use Rattle.iox_hub_ports.proofs.Places.{found}
 use Rattle.iox_hub_ports.proofs.Seats.{first_at, get_in, none_at}
-
--- ---- one port
-
-of_pipe : (lane : ℕ) (o : Option PipeState) → ((q : PipeState) → o ≡ Some q → IsSoundAt q.lanes lane)
-    → IsSoundAt (option_map_or (λ q. q.lanes) o []) lane
-of_pipe lane (Some q) f = f q refl
-of_pipe lane None f = λ l is. absurd (none-some l is)
-
-module _ (p : PortState) (s lane : ℕ) where
-  pub sound_expired : (r : ℕ) → rank_from p.expired.pipes s ≡ Some r
-      → ((q : PipeState) → slice_get p.expired.pipes r ≡ Some q → IsSoundAt q.lanes lane) → IsSoundAt (lanes_from (pipes_of p) s) lane
-  sound_expired r e f = of_pipe lane (pipe_from (pipes_of p) s) (λ q is. f q (from_expired p s r e ∙ is))
-
-  pub sound_incoming : (r : ℕ) → rank_from p.expired.pipes s ≡ None → rank_from p.incoming.pipes s ≡ Some r
-      → ((q : PipeState) → slice_get p.incoming.pipes r ≡ Some q → IsSoundAt q.lanes lane) → IsSoundAt (lanes_from (pipes_of p) s) lane
-  sound_incoming r none e f = of_pipe lane (pipe_from (pipes_of p) s) (λ q is. f q (from_incoming p s r none e ∙ is))
-
-  pub sound_nobody : rank_from p.expired.pipes s ≡ None → rank_from p.incoming.pipes s ≡ None → IsSoundAt (lanes_from (pipes_of p) s) lane
-  sound_nobody none neither = of_pipe lane (pipe_from (pipes_of p) s) (λ q is. absurd (none-some q (from_nobody p s none neither ∙ is)))
 
 -- ---- all ports
 

@@ -1,6 +1,6 @@
 //! A connected port, and what comes to it.
 ghost use Rattle.std.specs.Option.{option_map};
-ghost use Rattle.std.specs.Prelude.{◌≡◌, ◌<◌, ◌+◌, ◌^◌, ◌-◌, IfSome, None, Some, List, is_some, length, slice_get, ℕ, true};
+ghost use Rattle.std.specs.Prelude.{◌≡◌, ◌<◌, ◌+◌, ◌^◌, ◌-◌, IfSome, None, Some, List, is_some, length, option_copied, slice_get, ℕ, true};
 ghost use Rattle.iox_tables.specs.HubStates.Asks.{waits_for};
 ghost use Rattle.iox_tables.specs.HubStates.Receives.{both_visits, visited_port};
 ghost use Rattle.iox_tables.specs.Visits.TheVariants.{AtLimit};
@@ -15,11 +15,12 @@ ghost use Rattle.iox_hub_ports.specs.Ports.{gone_from, info_of, lane_to_get_on, 
 ghost use Rattle.iox_hub_ports.specs.Ports.{with_lane_from, with_loan_counted, with_state_from, without_pipe_from, without_value};
 
 use crate::info::PortInfo;
-use crate::steps::{LaneStep, StateStep};
 use iox_model::kind::Role;
 use iox_model::way::RequestState;
+use iox_tables::expired::Expired;
 use iox_tables::incoming::{Incoming, Visits};
 use iox_tables::pipe::{Next, Pipe};
+use iox_tables::steps::{LaneStep, StateStep};
 use iox_tables::wanted::{Labels, Wanted};
 use std::marker::Model;
 
@@ -28,7 +29,7 @@ use std::marker::Model;
 #[derive(Drop)]
 pub struct Port {
     info: PortInfo,
-    expired: Incoming,
+    expired: Expired,
     incoming: Incoming,
 }
 
@@ -54,7 +55,7 @@ fn after_limit(visits: Visits) -> Visits
 
 impl Port {
     /// A port to which these pipes lead.
-    pub fn new(info: PortInfo, expired: Incoming, incoming: Incoming) -> Port
+    pub fn new(info: PortInfo, expired: Expired, incoming: Incoming) -> Port
         ensures { result ≡ port_of info expired incoming }
     {
         Port {
@@ -114,6 +115,17 @@ impl Port {
 
     // ---- one lane, or one request state
 
+    /// The pipe from this sender, if there is one.
+    #[inline]
+    fn pipe_from(&self, sender: u64) -> Option<&Pipe>
+        ensures { option_copied result ≡ pipe_from (pipes_of self.now) sender }
+    {
+        match self.expired.rank(sender) {
+            Some(rank) => self.expired.pipe(rank),
+            None => self.incoming.pipe(sender),
+        }
+    }
+
     /// Takes a step on the lane of that number, of the pipe from this sender.
     #[inline]
     pub fn on_lane<S: LaneStep>(&mut self, sender: u64, lane: usize, step: &S) -> S::Answer
@@ -122,11 +134,8 @@ impl Port {
         ensures changed { self.new ≡ with_lane_from (S.changed step.now) self.old sender lane }
     {
         match self.expired.rank(sender) {
-            Some(rank) => step.step(&mut self.expired, rank, lane),
-            None => match self.incoming.rank(sender) {
-                Some(rank) => step.step(&mut self.incoming, rank, lane),
-                None => step.nothing(),
-            },
+            Some(rank) => self.expired.on_lane(rank, lane, step),
+            None => self.incoming.on_lane(sender, lane, step),
         }
     }
 
@@ -136,11 +145,8 @@ impl Port {
         ensures { self.new ≡ with_state_from (S.changed step.now) self.old sender lane }
     {
         match self.expired.rank(sender) {
-            Some(rank) => step.step(&mut self.expired, rank, lane),
-            None => match self.incoming.rank(sender) {
-                Some(rank) => step.step(&mut self.incoming, rank, lane),
-                None => {}
-            },
+            Some(rank) => self.expired.on_state(rank, lane, step),
+            None => self.incoming.on_state(sender, lane, step),
         }
     }
 
@@ -150,12 +156,9 @@ impl Port {
         ensures full { result ≡ on_lane_from is_full true self.now sender lane }
         ensures sound { IsSoundAt (lanes_from (pipes_of self.now) sender) lane }
     {
-        match self.expired.rank(sender) {
-            Some(rank) => self.expired.is_full(rank, lane),
-            None => match self.incoming.rank(sender) {
-                Some(rank) => self.incoming.is_full(rank, lane),
-                None => true,
-            },
+        match self.pipe_from(sender) {
+            Some(pipe) => pipe.is_full(lane),
+            None => true,
         }
     }
 
@@ -164,12 +167,9 @@ impl Port {
     pub fn returned_times(&self, sender: u64, lane: usize, place: u64) -> usize
         ensures { result ≡ on_lane_from (λ l. returned_times l place) 0 self.now sender lane }
     {
-        match self.expired.rank(sender) {
-            Some(rank) => self.expired.returned_times(rank, lane, place),
-            None => match self.incoming.rank(sender) {
-                Some(rank) => self.incoming.returned_times(rank, lane, place),
-                None => 0,
-            },
+        match self.pipe_from(sender) {
+            Some(pipe) => pipe.returned_times(lane, place),
+            None => 0,
         }
     }
 
@@ -179,12 +179,9 @@ impl Port {
     pub fn state(&self, sender: u64, lane: u64) -> RequestState
         ensures { result ≡ state_from self.now sender lane }
     {
-        match self.expired.rank(sender) {
-            Some(rank) => self.expired.state(rank, lane),
-            None => match self.incoming.rank(sender) {
-                Some(rank) => self.incoming.state(rank, lane),
-                None => RequestState::Closed,
-            },
+        match self.pipe_from(sender) {
+            Some(pipe) => pipe.state(lane),
+            None => RequestState::Closed,
         }
     }
 
@@ -196,10 +193,7 @@ impl Port {
     {
         match self.expired.rank(sender) {
             Some(rank) => self.expired.lane_to_get(rank),
-            None => match self.incoming.rank(sender) {
-                Some(rank) => self.incoming.lane_to_get(rank),
-                None => None,
-            },
+            None => self.incoming.lane_to_get(sender),
         }
     }
 
@@ -221,10 +215,7 @@ impl Port {
     {
         match self.expired.rank(sender) {
             Some(rank) => self.expired.get_next(rank),
-            None => match self.incoming.rank(sender) {
-                Some(rank) => self.incoming.get_next(rank),
-                None => None,
-            },
+            None => self.incoming.get_next(sender),
         }
     }
 
@@ -305,7 +296,7 @@ impl Port {
     }
 
     /// The pipes from ports that are gone, and those from connected ports, of a port that goes.
-    pub fn into_pipes(self) -> (Incoming, Incoming)
+    pub fn into_pipes(self) -> (Expired, Incoming)
         ensures expired { result.0 ≡ self.expired }
         ensures incoming { result.1 ≡ self.incoming }
     {

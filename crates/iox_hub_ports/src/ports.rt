@@ -20,11 +20,12 @@ mod states;
 
 use crate::info::PortInfo;
 use crate::port::Port;
-use crate::steps::{LaneStep, Release, StateStep};
+use crate::steps::Release;
 use crate::walks::{is_at, place_of};
 use iox_model::way::Way;
 use iox_tables::incoming::Visits;
 use iox_tables::pipe::Pipe;
+use iox_tables::steps::{LaneStep, StateStep};
 use iox_tables::wanted::{Labels, Wanted};
 use std::alloc::{AllocError, Global};
 use std::marker::Model;

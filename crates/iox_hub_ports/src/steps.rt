@@ -1,32 +1,12 @@
-//! What is done to one lane, or to one request state, of what comes to a port.
-ghost use Rattle.std.specs.Prelude.{◌≡◌, None, Option, false, slice_get, ℕ, Bool};
-ghost use Rattle.iox_model.specs.declared.way.RequestState.{RequestState};
+//! What senders and receivers do to one lane, or to one request state.
+ghost use Rattle.std.specs.Prelude.{None, false, slice_get};
 ghost use Rattle.iox_model.specs.declared.way.RequestState.TheVariants.{Named};
 ghost use Rattle.iox_model.specs.Messages.{closed_for, hinted_for};
-ghost use Rattle.iox_tables.specs.Incomings.{on_lane_of, with_lane_of, with_pipe};
-ghost use Rattle.iox_tables.specs.Lanes.{LaneState, has_room, is_taken, offered, oldest, released, without_oldest, without_returned};
-ghost use Rattle.iox_tables.specs.Pipes.{with_state};
+ghost use Rattle.iox_tables.specs.Lanes.{has_room, is_taken, offered, oldest, released, without_oldest, without_returned};
 ghost use Rattle.iox_hub_ports.specs.Ports.{pushed, pushed_out};
 
-use iox_tables::incoming::Incoming;
-
-/// A step of a sender or a receiver on one lane, and what it is told.
-pub trait LaneStep {
-    type Answer: Drop;
-
-    ghost changed: { Self → LaneState → LaneState };
-
-    ghost told: { Self → LaneState → Self.Answer };
-    // what is told where there is no such lane
-    ghost none: { Self → Self.Answer };
-
-    fn nothing(&self) -> Self::Answer
-        ensures { result ≡ none self.now };
-
-    fn step(&self, incoming: &mut Incoming, rank: usize, lane: usize) -> Self::Answer
-        ensures told { result ≡ on_lane_of (told self.now) (none self.now) incoming.old rank lane }
-        ensures changed { incoming.new ≡ with_lane_of (changed self.now) incoming.old rank lane };
-}
+use iox_tables::pipe::Pipe;
+use iox_tables::steps::{LaneStep, StateStep};
 
 /// The message in this place is put last in line, where there is room.
 #[derive(Clone, Copy, Drop)]
@@ -49,8 +29,8 @@ impl LaneStep for Deliver {
     }
 
     #[inline]
-    fn step(&self, incoming: &mut Incoming, rank: usize, lane: usize) -> bool {
-        incoming.deliver(rank, lane, self.place)
+    fn step(&self, pipe: &mut Pipe, lane: usize) -> bool {
+        pipe.deliver(lane, self.place)
     }
 }
 
@@ -75,8 +55,8 @@ impl LaneStep for Release {
     }
 
     #[inline]
-    fn step(&self, incoming: &mut Incoming, rank: usize, lane: usize) -> bool {
-        incoming.release(rank, lane, self.place)
+    fn step(&self, pipe: &mut Pipe, lane: usize) -> bool {
+        pipe.release(lane, self.place)
     }
 }
 
@@ -99,8 +79,8 @@ impl LaneStep for Evict {
     }
 
     #[inline]
-    fn step(&self, incoming: &mut Incoming, rank: usize, lane: usize) -> Option<u64> {
-        incoming.evict(rank, lane)
+    fn step(&self, pipe: &mut Pipe, lane: usize) -> Option<u64> {
+        pipe.evict(lane)
     }
 }
 
@@ -126,14 +106,14 @@ impl LaneStep for Push {
     }
 
     #[inline]
-    fn step(&self, incoming: &mut Incoming, rank: usize, lane: usize) -> Option<u64> {
+    fn step(&self, pipe: &mut Pipe, lane: usize) -> Option<u64> {
         let place = self.place;
-        if incoming.is_full(rank, lane) {
-            let oldest = incoming.evict(rank, lane);
-            incoming.deliver(rank, lane, place);
+        if pipe.is_full(lane) {
+            let oldest = pipe.evict(lane);
+            pipe.deliver(lane, place);
             return oldest;
         }
-        incoming.deliver(rank, lane, place);
+        pipe.deliver(lane, place);
         None
     }
 }
@@ -157,18 +137,9 @@ impl LaneStep for GetBack {
     }
 
     #[inline]
-    fn step(&self, incoming: &mut Incoming, rank: usize, lane: usize) -> Option<u64> {
-        incoming.get_back(rank, lane)
+    fn step(&self, pipe: &mut Pipe, lane: usize) -> Option<u64> {
+        pipe.get_back(lane)
     }
-}
-
-/// A step of a client or a server on one request state.
-pub trait StateStep {
-    ghost changed: { Self → RequestState → RequestState };
-
-    fn step(&self, incoming: &mut Incoming, rank: usize, lane: usize)
-        ensures { incoming.new
-            ≡ with_pipe (λ p. with_state (changed self.now) p lane) incoming.old rank };
 }
 
 /// The request is open.
@@ -181,8 +152,8 @@ impl StateStep for Open {
     ghost changed = { λ s r. Named s.id false };
 
     #[inline]
-    fn step(&self, incoming: &mut Incoming, rank: usize, lane: usize) {
-        incoming.open_request(rank, lane, self.id);
+    fn step(&self, pipe: &mut Pipe, lane: usize) {
+        pipe.open_request(lane, self.id);
     }
 }
 
@@ -196,8 +167,8 @@ impl StateStep for Close {
     ghost changed = { λ s r. closed_for r s.id };
 
     #[inline]
-    fn step(&self, incoming: &mut Incoming, rank: usize, lane: usize) {
-        incoming.close_request(rank, lane, self.id);
+    fn step(&self, pipe: &mut Pipe, lane: usize) {
+        pipe.close_request(lane, self.id);
     }
 }
 
@@ -211,7 +182,7 @@ impl StateStep for Hint {
     ghost changed = { λ s r. hinted_for r s.id };
 
     #[inline]
-    fn step(&self, incoming: &mut Incoming, rank: usize, lane: usize) {
-        incoming.hint_request(rank, lane, self.id);
+    fn step(&self, pipe: &mut Pipe, lane: usize) {
+        pipe.hint_request(lane, self.id);
     }
 }

@@ -11,6 +11,7 @@ use crate::port::Port;
 use crate::ports::Ports;
 use iox_model::kind::Role;
 use iox_model::way::{RequestState, Way};
+use iox_tables::expired::Expired;
 use iox_tables::incoming::{Incoming, Visits};
 use iox_tables::pipe::Pipe;
 use iox_tables::wanted::{Label, Labels, Wanted};
@@ -52,7 +53,7 @@ pub fn one_server(alloc: Global, id: UniqueSystemId) -> Result<Port, AllocError>
         held: true,
         loans: 0,
     };
-    let mut port = Port::new(info, Incoming::new(alloc, 0)?, Incoming::new(alloc, 1)?);
+    let mut port = Port::new(info, Expired::new(alloc, 0)?, Incoming::new(alloc, 1)?);
     port.connect(Pipe::new(alloc, 1, 0, 1, 1, 1, 1)?);
     Ok(port)
 }
@@ -133,7 +134,7 @@ pub fn one_client(alloc: Global, id: UniqueSystemId, room: usize) -> Result<Port
         held: true,
         loans: 0,
     };
-    Ok(Port::new(info, Incoming::new(alloc, room)?, Incoming::new(alloc, 2)?))
+    Ok(Port::new(info, Expired::new(alloc, room)?, Incoming::new(alloc, 2)?))
 }
 
 /// The way of responses from that server to client 1.

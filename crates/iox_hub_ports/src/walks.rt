@@ -9,8 +9,8 @@ ghost use Rattle.iox_hub_ports.specs.Ports.{if_role, is_at, on_way_at, place_in,
 ghost use Rattle.iox_hub_ports.specs.Ports.{ways_from, with_lane_at, with_lane_from, with_state_from};
 
 use crate::port::Port;
-use crate::steps::{LaneStep, StateStep};
 use iox_model::kind::Role;
+use iox_tables::steps::{LaneStep, StateStep};
 
 /// The place of the port of that number.
 pub fn place_of(ports: &[Port], number: u64) -> Option<usize>

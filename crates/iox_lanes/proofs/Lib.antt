@@ -3,3 +3,5 @@ pub mod Returns
 pub mod Visiting
 pub mod Sound
 pub mod Counting
+pub mod Kept
+pub mod Senders

@@ -83,6 +83,21 @@ goes_on wanted labels lane first now i waits after p c h e passed is =
     } in
     subst (λ (n : ℕ). Comes wanted labels lane first (slice_set now i p') n after) (sym (add-one i)) done
 
+-- a lane at its limit waits, and a lane with nothing does not
+module _ (wanted : Wanted) (labels : LabelsByPlace) (lane : ℕ) (first now : List PipeState) (i : ℕ) (waits : Bool) (p : PipeState)
+    (c : Comes wanted labels lane first now i waits) (h : i < length now) (e : p ≡ get_or now i p) where
+  pub goes_on_at_limit : pipe_visit wanted labels lane p ≡ one.TheVariants.AtLimit
+      → Comes wanted labels lane first (slice_set now i (pipe_visited wanted labels lane p)) (i + 1) true
+  goes_on_at_limit is =
+      goes_on wanted labels lane first now i waits true p c h e (ap (λ v. is_got v) is)
+      (ap (λ v. after_visit v p lane (visits_from wanted labels lane (drop (suc i) now) true) (visits_from wanted labels lane (drop (suc i) now) waits)) is)
+
+  pub goes_on_past : pipe_visit wanted labels lane p ≡ one.TheVariants.Nothing
+      → Comes wanted labels lane first (slice_set now i (pipe_visited wanted labels lane p)) (i + 1) waits
+  goes_on_past is =
+      goes_on wanted labels lane first now i waits waits p c h e (ap (λ v. is_got v) is)
+      (ap (λ v. after_visit v p lane (visits_from wanted labels lane (drop (suc i) now) true) (visits_from wanted labels lane (drop (suc i) now) waits)) is)
+
 pub ends : (wanted : Wanted) (labels : LabelsByPlace) (lane : ℕ) (first now : List PipeState) (i : ℕ) (waits : Bool)
     → Comes wanted labels lane first now i waits → length now ≤ i
     → ((if waits then AtLimit else Nothing) ≡ all_visits wanted labels lane first) × (now ≡ all_visited wanted labels lane first)

@@ -68,6 +68,20 @@ on_lane_of f none c rank lane = on_pipe (λ p. on_lane f none p lane) none c ran
 abbrev pub with_lane_of : (LaneState → LaneState) → IncomingState → ℕ → ℕ → IncomingState
 with_lane_of f c rank lane = with_pipe (λ p. with_lane f p lane) c rank
 
+-- ---- the first pipe from a sender
+
+-- what it says; `none` where there is no such pipe
+abbrev pub on_pipe_by : {A : Type 0} → (PipeState → A) → A → IncomingState → ℕ → A
+on_pipe_by f none c sender =
+    option_map_or (λ rank. on_pipe f none c rank) (rank_from c.pipes sender) none
+
+-- what comes in after a change of it; the same where there is no such pipe
+abbrev pub with_pipe_by : (PipeState → PipeState) → IncomingState → ℕ → IncomingState
+with_pipe_by f c sender =
+    option_map_or (λ rank. with_pipe f c rank) (rank_from c.pipes sender) c
+
+-- ---- all pipes
+
 -- something waits on the lane of that number, from some sender
 abbrev pub has_waiting_from_any : IncomingState → ℕ → Bool
 has_waiting_from_any c lane = list_any (λ p. on_lane has_waiting false p lane) c.pipes

@@ -1,18 +1,16 @@
 //! What comes to one port, from each port that is connected to it.
 ghost use Rattle.std.specs.Option.{option_map};
-ghost use Rattle.std.specs.Prelude.{◌≡◌, ◌-◌, IfOk, IfSome, None, Some, ◌<◌, false, is_some, length, slice_get, take, true};
+ghost use Rattle.std.specs.Prelude.{◌≡◌, ◌-◌, ◌<◌, IfOk, IfSome, None, Some, is_some, length, option_copied, slice_get, take};
 ghost use Rattle.std.specs.Vec.{vec_capacity};
-ghost use Rattle.iox_model.specs.declared.way.RequestState.TheVariants.{Closed};
-ghost use Rattle.iox_lanes.specs.Lanes.{offered, has_room, is_full, is_taken, oldest, released, returned_times, without_oldest, without_returned};
-ghost use Rattle.iox_lanes.specs.Pipes.{IsSoundAt, PipeState, closed, hinted, lane_to_get, opened};
-ghost use Rattle.iox_lanes.specs.Searches.{state_on};
+ghost use Rattle.iox_lanes.specs.Lanes.{without_returned};
+ghost use Rattle.iox_lanes.specs.Pipes.{lane_to_get, on_lane, with_lane, with_state};
 ghost use Rattle.iox_lanes.specs.Visited.{all_visited, all_visits};
-ghost use Rattle.iox_lanes.specs.Incomings.{IncomingState, all_visited_of, connected, disconnected, given_up_for, has_room_for, has_waiting_from_any, no_pipes, on_lane_of, on_pipe, rank_from, with_kept, with_lane_of, with_pipe};
+ghost use Rattle.iox_lanes.specs.Incomings.{IncomingState, all_visited_of, connected, disconnected, has_room_for, has_waiting_from_any, no_pipes, on_pipe_by, rank_from, with_pipe_by};
 
 use crate::pipe::{Next, Pipe};
 use crate::search::LaneVisit;
+use crate::steps::{LaneStep, StateStep};
 use crate::wanted::{Labels, Wanted};
-use iox_model::way::RequestState;
 use std::alloc::{AllocError, Global};
 use std::marker::Model;
 
@@ -100,17 +98,6 @@ impl Incoming {
         self.pipes.iter().position(|pipe| pipe.sender() == sender)
     }
 
-    /// The sender of the pipe of that rank.
-    #[inline]
-    pub fn sender(&self, rank: usize) -> Option<u64>
-        ensures { result ≡ on_pipe (λ p. Some p.sender) None self.now rank }
-    {
-        if rank < self.pipes.len() {
-            return Some(self.pipes[rank].sender());
-        }
-        None
-    }
-
     /// Connects one more port, and says whether there was room.
     pub fn connect(&mut self, pipe: Pipe) -> bool
         ensures room { result ≡ has_room_for self.old }
@@ -136,24 +123,6 @@ impl Incoming {
         None
     }
 
-    /// Keeps one more pipe, as the last. Where there is no room the oldest is given up for it, and
-    /// where there is room for none the new one is. It tells which is given up. It takes no memory.
-    pub fn keep(&mut self, pipe: Pipe) -> Option<Pipe>
-        ensures given_up { result ≡ given_up_for self.old pipe }
-        ensures kept { self.new ≡ with_kept self.old pipe }
-    {
-        if self.pipes.len() < self.most {
-            self.pipes.push_reserved(pipe);
-            return None;
-        }
-        if self.most == 0 {
-            return Some(pipe);
-        }
-        let oldest = self.pipes.remove(0);
-        self.pipes.push_reserved(pipe);
-        Some(oldest)
-    }
-
     /// Takes the last pipe out, if there is one.
     pub fn take_pipe(&mut self) -> Option<Pipe>
         ensures last { result ≡ slice_get self.old.pipes (length self.old.pipes - 1) }
@@ -163,101 +132,80 @@ impl Incoming {
         self.pipes.pop()
     }
 
-    // ---- a sender
+    // ---- the pipe from a sender
 
-    /// Whether as many messages wait on that lane as may.
+    /// The pipe from this sender, if it is connected.
     #[inline]
-    #[tactic(auto, using(crate::proofs::Sound::sound))]
-    pub fn is_full(&self, rank: usize, lane: usize) -> bool
-        ensures full { result ≡ on_lane_of is_full true self.now rank lane }
-        ensures sound { (p : PipeState) → slice_get self.now.pipes rank ≡ Some p
-            → IsSoundAt p.lanes lane }
+    pub fn pipe(&self, sender: u64) -> Option<&Pipe>
+        ensures { option_copied result ≡ on_pipe_by (λ p. Some p) None self.now sender }
     {
-        if rank < self.pipes.len() {
-            return self.pipes[rank].is_full(lane);
+        match self.rank(sender) {
+            Some(rank) => Some(&self.pipes[rank]),
+            None => None,
         }
-        true
     }
 
-    /// Puts a message last in line on that lane, and says whether there was room.
+    /// Takes a step on that lane of the pipe from this sender.
     #[inline]
-    pub fn deliver(&mut self, rank: usize, lane: usize, place: u64) -> bool
-        ensures room { result ≡ on_lane_of has_room false self.old rank lane }
-        ensures delivered { self.new ≡ with_lane_of (λ l. offered l place) self.old rank lane }
+    pub fn on_lane<S: LaneStep>(&mut self, sender: u64, lane: usize, step: &S) -> S::Answer
+        ensures told { result ≡ on_pipe_by (λ p. on_lane (S.told step.now) (S.none step.now) p lane)
+            (S.none step.now) self.old sender }
+        ensures changed { self.new
+            ≡ with_pipe_by (λ p. with_lane (S.changed step.now) p lane) self.old sender }
     {
-        if rank < self.pipes.len() {
-            return self.pipes[rank].deliver(lane, place);
+        match self.rank(sender) {
+            Some(rank) => step.step(&mut self.pipes[rank], lane),
+            None => step.nothing(),
         }
-        false
     }
 
-    /// Pushes the oldest message of that lane out, if any waits: it is its sender's again.
+    /// Takes a step on that request state of the pipe from this sender.
     #[inline]
-    pub fn evict(&mut self, rank: usize, lane: usize) -> Option<u64>
-        ensures oldest { result ≡ on_lane_of oldest None self.old rank lane }
-        ensures evicted { self.new ≡ with_lane_of without_oldest self.old rank lane }
+    pub fn on_state<S: StateStep>(&mut self, sender: u64, lane: usize, step: &S)
+        ensures { self.new
+            ≡ with_pipe_by (λ p. with_state (S.changed step.now) p lane) self.old sender }
     {
-        if rank < self.pipes.len() {
-            return self.pipes[rank].evict(lane);
+        match self.rank(sender) {
+            Some(rank) => step.step(&mut self.pipes[rank], lane),
+            None => {}
         }
-        None
     }
 
-    /// Gets back the oldest message of those that were given back on that lane, if there is one.
+    /// The lowest lane from this sender on which something that was given back is left to get back,
+    /// if there is one.
     #[inline]
-    pub fn get_back(&mut self, rank: usize, lane: usize) -> Option<u64>
-        ensures oldest { result ≡ on_lane_of (λ l. slice_get l.returned 0) None self.old rank lane }
-        ensures got_back { self.new ≡ with_lane_of without_returned self.old rank lane }
-    {
-        if rank < self.pipes.len() {
-            return self.pipes[rank].get_back(lane);
-        }
-        None
-    }
-
-    /// The lowest lane of that pipe on which something that was given back is left to get back, if
-    /// there is one.
-    #[inline]
-    pub fn lane_to_get(&mut self, rank: usize) -> Option<usize>
-        ensures lowest { result ≡ on_pipe lane_to_get None self.old rank }
+    pub fn lane_to_get(&mut self, sender: u64) -> Option<usize>
+        ensures lowest { result ≡ on_pipe_by lane_to_get None self.old sender }
         ensures unchanged { self.new ≡ self.old }
     {
-        if rank < self.pipes.len() {
-            return self.pipes[rank].lane_to_get();
+        match self.rank(sender) {
+            Some(rank) => self.pipes[rank].lane_to_get(),
+            None => None,
         }
-        None
     }
 
-    /// Gets back the oldest message of those that were given back on the lowest lane of that pipe
-    /// on which something is left to get back, if there is one.
+    /// Gets back the oldest message of those that were given back on the lowest lane from this
+    /// sender on which something is left to get back, if there is one.
     #[inline(always)]
-    pub fn get_next(&mut self, rank: usize) -> Option<Next>
-        ensures lowest { option_map (λ n. n.lane) result ≡ on_pipe lane_to_get None self.old rank }
+    pub fn get_next(&mut self, sender: u64) -> Option<Next>
+        ensures lowest { option_map (λ n. n.lane) result
+            ≡ on_pipe_by lane_to_get None self.old sender }
         ensures oldest { IfSome result (λ n.
-            on_lane_of (λ l. slice_get l.returned 0) None self.old rank n.lane ≡ Some n.place) }
+            on_pipe_by (λ p. on_lane (λ l. slice_get l.returned 0) None p n.lane) None self.old sender
+            ≡ Some n.place) }
         ensures got_back { IfSome result (λ n.
-            self.new ≡ with_lane_of without_returned self.old rank n.lane) }
+            self.new ≡ with_pipe_by (λ p. with_lane without_returned p n.lane) self.old sender) }
         ensures more { IfSome result (λ n.
-            n.more ≡ is_some (on_pipe lane_to_get None self.new rank)) }
+            n.more ≡ is_some (on_pipe_by lane_to_get None self.new sender)) }
         ensures unchanged { result ≡ None → self.new ≡ self.old }
     {
-        if rank < self.pipes.len() {
-            return self.pipes[rank].get_next();
+        match self.rank(sender) {
+            Some(rank) => self.pipes[rank].get_next(),
+            None => None,
         }
-        None
     }
 
-    /// How often the message in this place was given back on that lane, and is left to get back.
-    pub fn returned_times(&self, rank: usize, lane: usize, place: u64) -> usize
-        ensures { result ≡ on_lane_of (λ l. returned_times l place) 0 self.now rank lane }
-    {
-        if rank < self.pipes.len() {
-            return self.pipes[rank].returned_times(lane, place);
-        }
-        0
-    }
-
-    // ---- the receiver
+    // ---- all pipes
 
     /// Whether something waits on the lane of that number, from some sender.
     pub fn has_waiting_from_any(&self, lane: usize) -> bool
@@ -277,56 +225,5 @@ impl Incoming {
             return Visits::Nothing;
         }
         visit_pipes(&mut self.pipes, lane, wanted, labels)
-    }
-
-    /// Gives a message of that lane back that the receiver has, and says whether it had it.
-    pub fn release(&mut self, rank: usize, lane: usize, place: u64) -> bool
-        ensures taken { result ≡ on_lane_of (λ l. is_taken l place) false self.old rank lane }
-        ensures released { self.new ≡ with_lane_of (λ l. released l place) self.old rank lane }
-    {
-        if rank < self.pipes.len() {
-            return self.pipes[rank].release(lane, place);
-        }
-        false
-    }
-
-    // ---- the states of requests
-
-    /// The request state of that lane; closed where there is none.
-    #[inline]
-    pub fn state(&self, rank: usize, lane: u64) -> RequestState
-        ensures { result ≡ on_pipe (λ p. state_on p.states lane) Closed self.now rank }
-    {
-        if rank < self.pipes.len() {
-            return self.pipes[rank].state(lane);
-        }
-        RequestState::Closed
-    }
-
-    /// Opens a request on that lane.
-    pub fn open_request(&mut self, rank: usize, lane: usize, id: u64)
-        ensures { self.new ≡ with_pipe (λ p. opened p lane id) self.old rank }
-    {
-        if rank < self.pipes.len() {
-            self.pipes[rank].open_request(lane, id);
-        }
-    }
-
-    /// Closes the request on that lane, if it is the open one.
-    pub fn close_request(&mut self, rank: usize, lane: usize, id: u64)
-        ensures { self.new ≡ with_pipe (λ p. closed p lane id) self.old rank }
-    {
-        if rank < self.pipes.len() {
-            self.pipes[rank].close_request(lane, id);
-        }
-    }
-
-    /// Says of the request on that lane that its client lost interest, if it is the open one.
-    pub fn hint_request(&mut self, rank: usize, lane: usize, id: u64)
-        ensures { self.new ≡ with_pipe (λ p. hinted p lane id) self.old rank }
-    {
-        if rank < self.pipes.len() {
-            self.pipes[rank].hint_request(lane, id);
-        }
     }
 }

@@ -215,8 +215,8 @@ impl Lane {
         false
     }
 
-    /// Takes a message from its receiver whose sender is gone, and says whether it had it.
-    pub fn let_go(&mut self, place: u64) -> bool
+    /// Takes a message from its receiver, and says whether it had it.
+    fn let_go(&mut self, place: u64) -> bool
         ensures taken { result ≡ is_taken self.old place }
         ensures left { self.new ≡ without_taken self.old place }
         ensures hand { OnSome (rank_in self.old.taken place) (HasOneInHand self.new) }

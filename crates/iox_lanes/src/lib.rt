@@ -2,10 +2,12 @@
 //! A lane takes its memory when it is made, and never again.
 #![tactic(auto)]
 
+pub mod expired;
 pub mod incoming;
 pub mod lane;
 pub mod pipe;
 pub mod search;
 pub mod states;
+pub mod steps;
 pub mod uses;
 pub mod wanted;

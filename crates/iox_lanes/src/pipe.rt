@@ -1,7 +1,7 @@
 //! All lanes from one port to another.
 ghost use Rattle.std.specs.Option.{option_map};
 ghost use Rattle.std.specs.Prelude.{◌≡◌, ◌+◌, ◌-◌, ◌^◌, ◌<◌, ◌≤◌, IfOk, IfSome, None, Some, false, is_some, length, replicate, slice_get, take, true};
-ghost use Rattle.iox_lanes.specs.Lanes.{offered, empty_lane, has_room, has_waiting, is_full, is_taken, oldest, released, without_oldest, without_returned, without_taken, returned_times};
+ghost use Rattle.iox_lanes.specs.Lanes.{offered, empty_lane, has_room, has_waiting, is_full, is_taken, oldest, released, without_oldest, without_returned, returned_times};
 ghost use Rattle.iox_lanes.specs.Pipes.{IsSoundAt, NoneToGetBelow, PipeState, closed, has_returned_at, has_waiting_on_any, hinted, lane_to_get, new_pipe, on_lane, opened, with_lane};
 ghost use Rattle.iox_lanes.specs.Searches.{state_on};
 ghost use Rattle.iox_lanes.specs.Visited.{pipe_visit, pipe_visited, pool_on};
@@ -277,6 +277,7 @@ impl Pipe {
 
     /// Takes the oldest message on that lane that is wanted, unless the receiver has as many as it
     /// may.
+    #[inline(always)]
     #[tactic(auto, using(crate::proofs::Returns::kept))]
     pub fn visit<L: Labels>(&mut self, lane: usize, wanted: Wanted, labels: &L) -> LaneVisit
         ensures visit { result ≡ pipe_visit wanted (L.label_of labels.now) lane self.old }
@@ -303,19 +304,6 @@ impl Pipe {
             self.none_below = lower;
             self.none_from = upper;
             return self.lanes[lane].release(place);
-        }
-        false
-    }
-
-    /// Takes a message of that lane from its receiver whose sender is gone, and says whether it had
-    /// it.
-    #[tactic(auto, using(crate::proofs::Returns::kept))]
-    pub fn let_go(&mut self, lane: usize, place: u64) -> bool
-        ensures taken { result ≡ on_lane (λ l. is_taken l place) false self.old lane }
-        ensures left { self.new ≡ with_lane (λ l. without_taken l place) self.old lane }
-    {
-        if lane < self.lanes.len() {
-            return self.lanes[lane].let_go(place);
         }
         false
     }

@@ -39,6 +39,7 @@ fn wants<L: Labels>(
 }
 
 /// Puts the oldest that is wanted into its receiver's hand. Those before it are given back.
+#[inline(always)]
 fn search<L: Labels>(
     lane: &mut Lane,
     wanted: Wanted,
@@ -60,6 +61,7 @@ fn search<L: Labels>(
 
 /// Takes the oldest message that is wanted, unless the receiver has as many as it may. Those before
 /// it are given back unread.
+#[inline(always)]
 pub fn visit_lane<L: Labels>(
     lane: &mut Lane,
     wanted: Wanted,

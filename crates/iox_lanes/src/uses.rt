@@ -1,8 +1,11 @@
 //! Callers, proved from the clauses alone.
-ghost use Rattle.std.specs.Prelude.{◌≡◌, IfOk, Some, false, true};
+ghost use Rattle.std.specs.Option.{option_map};
+ghost use Rattle.std.specs.Prelude.{◌≡◌, IfOk, None, Some, false, true};
 ghost use Rattle.iox_lanes.specs.declared.search.LaneVisit.TheVariants.{Got, Nothing};
 ghost use Rattle.iox_lanes.specs.Lanes.{is_full};
+ghost use Rattle.iox_lanes.specs.Pipes.{new_pipe};
 
+use crate::expired::Expired;
 use crate::lane::Lane;
 use crate::pipe::Pipe;
 use crate::search::LaneVisit;
@@ -86,4 +89,39 @@ pub fn open_is_taken(alloc: Global, request: u64, place: u64) -> Result<LaneVisi
         label: Label { lane: 0, request },
     };
     Ok(pipe.visit(0, Wanted::Named, &labels))
+}
+
+/// A pipe of one lane from that sender.
+fn pipe_from(alloc: Global, sender: u64) -> Result<Pipe, AllocError>
+    ensures { IfOk result (λ p. p ≡ new_pipe sender 0 1 1 1 0) }
+{
+    Pipe::new(alloc, sender, 0, 1, 1, 1, 0)
+}
+
+/// From whom the pipe comes, if there is one.
+fn sender_of(pipe: Option<Pipe>) -> Option<u64>
+    ensures { result ≡ option_map (λ p. p.sender) pipe }
+{
+    Some(pipe?.sender())
+}
+
+/// Where there is room for one, the older of two is given up.
+pub fn older_is_given_up(
+    alloc: Global,
+) -> Result<(Option<u64>, Option<u64>, Option<usize>), AllocError>
+    ensures { IfOk result (λ r. r ≡ (None, Some 1, Some 0)) }
+{
+    let mut expired = Expired::new(alloc, 1)?;
+    let none = sender_of(expired.keep(pipe_from(alloc, 1)?));
+    let older = sender_of(expired.keep(pipe_from(alloc, 2)?));
+    Ok((none, older, expired.rank(2)))
+}
+
+/// Where there is room for none, what comes is given up.
+pub fn none_is_kept(alloc: Global) -> Result<(Option<u64>, usize), AllocError>
+    ensures { IfOk result (λ r. r ≡ (Some 1, 0)) }
+{
+    let mut expired = Expired::new(alloc, 0)?;
+    let given_up = sender_of(expired.keep(pipe_from(alloc, 1)?));
+    Ok((given_up, expired.len()))
 }

@@ -9,7 +9,7 @@ use Rattle.iox_types.specs.declared.backpressure.BackpressureStrategy.{Backpress
 use Rattle.iox_types.specs.declared.backpressure.AllocationStrategy.{AllocationStrategy}
 use Rattle.iox_model.specs.declared.reply.Refusal.TheVariants.{UnableToCreatePortTag, UnableToCreateDataSegment, ExceedsMaxSupportedClients, ExceedsMaxSupportedServers}
 use Rattle.iox_model.specs.declared.reply.Reply.TheVariants as replies
-use Rattle.iox_model.specs.Settings.{message_size, has_layout, shape_of, is_static, Shape, Limits}
+use Rattle.iox_model.specs.Settings.{message_size, has_layout, shape_of, is_static, Shape, Limits, max_slots}
 use Rattle.iox_model.specs.States.{Port, Fixed, State}
 use Rattle.iox_model.specs.WholeCalls.{UnlessRefused, IsWholeCall}
 use Rattle.iox_model.specs.Maps.{or_else, refused_if}
@@ -70,7 +70,7 @@ allocation_of l Server = l.server_allocation
 abbrev pub is_large : Limits → Role → Options → Bool
 is_large l role o =
     let x : Shape = shape_of l role in
-    (nat_le (2 ^ 64) (worst_pool l role o) || nat_lt (2 ^ 24 - 2) (chosen_pool l role o))
+    (nat_le (2 ^ 64) (worst_pool l role o) || nat_lt max_slots (chosen_pool l role o))
     || (not (has_layout x (longest_of x o))
     || nat_le (2 ^ 64) (chosen_pool l role o * message_size x (longest_of x o)))
 

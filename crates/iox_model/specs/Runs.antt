@@ -7,7 +7,7 @@ use Rattle.iox_model.specs.declared.reply.Refusal.TheVariants.{WantOfMemory, Inv
 use Rattle.iox_model.specs.declared.reply.Reply.TheVariants.{Refused}
 use Rattle.iox_model.specs.declared.reply.Reply.TheVariants as replies
 use Rattle.iox_model.specs.Makings.{IsHubCommand}
-use Rattle.iox_model.specs.Settings.{IsShape, Limits}
+use Rattle.iox_model.specs.Settings.{IsShape, Limits, max_slots}
 use Rattle.iox_model.specs.States.{Members, Fixed, State}
 use Rattle.iox_model.specs.Maps.{or_else, refused_if}
 use Rattle.iox_types.specs.Identifiers.{is_node_id}
@@ -30,10 +30,10 @@ raised l = record l {
   loaned_responses = max 1 l.loaned_responses;
 }
 
--- whether a limit of clients, servers or nodes is greater than 2^24 - 2
+-- whether a limit of clients, servers or nodes is greater than max_slots
 abbrev pub is_too_large : Limits → Bool
 is_too_large l =
-    nat_lt (2 ^ 24 - 2) l.clients || (nat_lt (2 ^ 24 - 2) l.servers || nat_lt (2 ^ 24 - 2) l.nodes)
+    nat_lt max_slots l.clients || (nat_lt max_slots l.servers || nat_lt max_slots l.nodes)
 
 -- why a creation is refused: the first test that fails; `asked` is the first refusal by types, if
 -- one applies

@@ -1,5 +1,5 @@
 -- The settings of a service: shapes of messages, limits, and what a sender does at a full receiver.
-use Rattle.std.specs.Prelude.{◌≡◌, ℕ, ◌^◌, Bool, true, false, ◌||◌, ◌==◌, nat_lt, List, length, Option, IfSome}
+use Rattle.std.specs.Prelude.{◌≡◌, ℕ, ◌-◌, ◌^◌, Bool, true, false, ◌||◌, ◌==◌, nat_lt, List, length, Option, IfSome}
 use Rattle.std.specs.Int.{IsPowerOfTwo}
 use Rattle.std.specs.Bool.{beq}
 use Rattle.iox_types.specs.Parts.{Part, size_of_parts}
@@ -11,6 +11,10 @@ use Rattle.iox_model.specs.declared.backpressure.BackpressureAction.{Backpressur
 use Rattle.iox_model.specs.declared.backpressure.BackpressureAction.TheVariants as actions
 use Rattle.iox_types.specs.declared.backpressure.AllocationStrategy.{AllocationStrategy}
 use Rattle.iox_types.specs.declared.backpressure.AllocationStrategy.TheVariants as allocations
+
+-- the most slots that a table of a service has: for clients, servers, nodes, or messages of a pool
+abbrev pub max_slots : ℕ
+max_slots = 2 ^ 24 - 2
 
 -- whether the role is a client's
 abbrev pub is_client : Role → Bool

@@ -10,7 +10,7 @@ use Rattle.iox_registry.specs.declared.roles.Role.{Role}
 use Rattle.iox_registry.specs.declared.refusals.AddFailure.{AddFailure}
 use Rattle.iox_registry.specs.declared.refusals.AddFailure.TheVariants.{Locked, Full}
 use Rattle.iox_registry.specs.declared.refusals.ReleaseError.TheVariants.{Foreign, Spent}
-use Rattle.iox_registry.specs.Registers.{Adds, Handle, KeepsOrLoses, Registration, Registrations, Removes, add_refusal, details_of, is_own, left_with, listed, locked_after, max_ticket, registration_of, release_refusal, under_ticket}
+use Rattle.iox_registry.specs.Registers.{Adds, Handle, KeepsOrLoses, Registration, Registrations, Removes, add_refusal, details_of, is_own, left_with, listed, locked_after, most_tickets, registration_of, release_refusal, under_ticket}
 use Rattle.iox_registry.specs.Standing.{IsEntryOf, handle_in, kept_in, shown, shown_slots}
 use Rattle.iox_registry.proofs.HandleLemmas.{KeepsOrLoses-add, KeepsOrLoses-free}
 use Rattle.iox_registry.proofs.IdLemmas.{same_role-is, same_role-of}
@@ -22,7 +22,7 @@ none_since (Some x) not = absurd (not x refl)
 module _ {D : Type 0} where
   -- a register that refuses nothing is open, has a ticket left, and room
   pub open_parts : (register : Registrations D) → add_refusal register ≡ None
-      → (register.locked ≡ false) × ((register.used_tickets == max_ticket) ≡ false)
+      → (register.locked ≡ false) × ((register.used_tickets == most_tickets) ≡ false)
       × ((length (listed register) == length register.slots) ≡ false)
   open_parts register none = parts _ _ _ none
     where

@@ -127,15 +127,15 @@ details_of register handle =
 
 -- ---- something comes
 
--- the ticket that is never given
-abbrev pub max_ticket : ℕ
-max_ticket = 2 ^ 64 - 1
+-- how many tickets a register gives at most
+abbrev pub most_tickets : ℕ
+most_tickets = 2 ^ 64 - 1
 
 -- why nothing is added
 abbrev pub add_refusal : {D : Type 0} → Registrations D → Option AddFailure
 add_refusal register =
     if register.locked then Some Locked
-    else if register.used_tickets == max_ticket then Some Full
+    else if register.used_tickets == most_tickets then Some Full
     else if length (listed register) == length register.slots then Some Full
     else None
 

@@ -7,10 +7,10 @@ use Rattle.std.proofs.lemmas.Bool.{eq-eqb, lt-ltb}
 use Rattle.std.proofs.lemmas.Option.{slice_get_within}
 use Rattle.iox_tables.specs.Label.{Label}
 use Rattle.iox_tables.specs.HubStates.Ends.{DifferInHolders}
-use Rattle.iox_tables.specs.HubStates.Tables.{PoolState, SlotState, labels_of, no_slot, slot_at, slots_of}
+use Rattle.iox_tables.specs.HubStates.Tables.{PoolState, SlotState, labels_of, no_slot, slot_at, slots_of, is_free}
 use Rattle.iox_slots.specs.FreeLists.{has_free_slot}
 use Rattle.iox_slots.specs.Pools.{Acquires, has_slot, with_slot}
-use Rattle.iox_slots.specs.Slots.{held, is_free, let_go, slot_in, written}
+use Rattle.iox_slots.specs.Slots.{held, let_go, slot_in, written}
 use Rattle.iox_slots.proofs.SlotLemmas.{node_ids_stay, owners_stay, port_ids_stay, slot_after}
 
 -- 1 at that slot, else 0

@@ -3,10 +3,10 @@ use Rattle.std.specs.Prelude.{◌≡◌, ◌<◌, ℕ, ◌+◌, ◌-◌, Bool, t
 use Rattle.std.specs.Option.{option_map_or}
 use Rattle.std.proofs.Common.{sym, ap, ◌∙◌, arith, eqb-true, true≢false}
 use Rattle.std.proofs.lemmas.Bool.{eq-eqb, eqb-false}
-use Rattle.iox_tables.specs.HubStates.Tables.{PoolState, SlotState, no_slot, slot_at, slots_of}
+use Rattle.iox_tables.specs.HubStates.Tables.{PoolState, SlotState, no_slot, slot_at, slots_of, is_free}
 use Rattle.iox_slots.specs.FreeLists.{has_free_slot, one_if_free}
 use Rattle.iox_slots.specs.Pools.{free_count, freed_by_one, with_slot}
-use Rattle.iox_slots.specs.Slots.{held, is_free, let_go, slot_in}
+use Rattle.iox_slots.specs.Slots.{held, let_go, slot_in}
 use Rattle.iox_slots.proofs.FreeListLemmas.{count_moves, held_is_taken, not_free, weight}
 use Rattle.iox_slots.proofs.SlotLemmas.{changed_slots, slots_after}
 

@@ -9,9 +9,9 @@ use Rattle.std.proofs.lemmas.List.{length-replicate, length-set, length_push}
 use Rattle.std.proofs.lemmas.List.Folds.{sum_by-replicate}
 use Rattle.std.proofs.lemmas.List.Sums.{count_by-le-length, sum_by-cons, sum_by-set}
 use Rattle.iox_types.specs.declared.identifiers.system_id.UniqueSystemId.{UniqueSystemId}
-use Rattle.iox_tables.specs.HubStates.Tables.{SlotState, PoolState, no_slot, slots_of}
+use Rattle.iox_tables.specs.HubStates.Tables.{SlotState, PoolState, no_slot, slots_of, is_free}
 use Rattle.iox_tables.proofs.HubStates.Pipes.{set_same}
-use Rattle.iox_slots.specs.Slots.{held, is_free, is_taken, let_go, slot_in, with_slot_of}
+use Rattle.iox_slots.specs.Slots.{held, is_taken, let_go, slot_in, with_slot_of}
 use Rattle.iox_slots.specs.FreeLists.{AreNumbersBelow, IsFreeList, freedom, one_if_free}
 use Rattle.iox_slots.proofs.ListLemmas.{get_set, item_is, often-append, one_if, one_if_same}
 use Rattle.iox_tables.specs.HubBooks.Counts.{how_often}

@@ -3,9 +3,8 @@ use Rattle.std.specs.Prelude.{◌≡◌, ℕ, suc, ◌<◌, Bool, true, false, i
 use Rattle.std.specs.Option.{option_map_or}
 use Rattle.std.proofs.Common.{sym, subst, arith, eqb-true}
 use Rattle.std.proofs.lemmas.List.Sums.{length-filter}
-use Rattle.iox_tables.specs.HubStates.Tables.{PoolState, SlotState, no_slot, slot_at, slots_of}
+use Rattle.iox_tables.specs.HubStates.Tables.{PoolState, SlotState, no_slot, slot_at, slots_of, is_free}
 use Rattle.iox_slots.specs.Pools.{free_count}
-use Rattle.iox_slots.specs.Slots.{is_free}
 
 -- A slot of that list is free.
 abbrev SomeFree : List SlotState → Type 0

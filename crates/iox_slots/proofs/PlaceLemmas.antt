@@ -6,9 +6,9 @@ use Rattle.std.proofs.Common.{sym, ap, ◌∙◌, arith, eqb-true, true≢false}
 use Rattle.std.proofs.lemmas.List.Quantifiers.{position-Some}
 use Rattle.std.proofs.lemmas.Option.{slice_get_past}
 use Rattle.iox_types.specs.declared.identifiers.system_id.UniqueSystemId.{UniqueSystemId}
-use Rattle.iox_tables.specs.HubStates.Tables.{PoolState, SlotState, no_slot, pool_at, slot_at, slots_of}
+use Rattle.iox_tables.specs.HubStates.Tables.{PoolState, SlotState, no_slot, pool_at, slot_at, slots_of, is_free}
 use Rattle.iox_slots.specs.Pools.{is_idle, place_for_one, with_one_more, without_pool}
-use Rattle.iox_slots.specs.Slots.{is_free, new_pool, slot_in}
+use Rattle.iox_slots.specs.Slots.{new_pool, slot_in}
 use Rattle.iox_slots.proofs.ListLemmas.{get_push, get_set, get_set_past}
 
 -- what is in a place, if anything

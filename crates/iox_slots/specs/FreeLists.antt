@@ -1,8 +1,7 @@
 -- How a pool lists its free slots.
 use Rattle.std.specs.Prelude.{◌≡◌, ◌≤◌, ℕ, ◌+◌, ◌==◌, Bool, false, if◌then◌else◌, Option, List, [], ◌∷◌, length, nat_lt, slice_get, count_by}
 use Rattle.std.specs.Option.{option_map_or}
-use Rattle.iox_tables.specs.HubStates.Tables.{SlotState, PoolState, slots_of}
-use Rattle.iox_slots.specs.Slots.{is_free}
+use Rattle.iox_tables.specs.HubStates.Tables.{SlotState, PoolState, slots_of, is_free}
 use Rattle.iox_tables.specs.HubBooks.Counts.{how_often}
 
 -- 1 if nobody has the slot, else 0

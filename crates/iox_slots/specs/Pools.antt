@@ -2,8 +2,8 @@
 use Rattle.std.specs.Prelude.{◌≡◌, ℕ, Bool, true, if◌then◌else◌, ◌==◌, List, [], ◌∷◌, ◌++◌, length, nat_lt, Option, Some, None, is_none, option_map, position, slice_get, slice_set, count_by}
 use Rattle.std.specs.List.{list_all}
 use Rattle.std.specs.Option.{option_map_or}
-use Rattle.iox_tables.specs.HubStates.Tables.{SlotState, PoolState, slots_of, slot_at}
-use Rattle.iox_slots.specs.Slots.{is_free, is_taken, held, with_slot_of}
+use Rattle.iox_tables.specs.HubStates.Tables.{SlotState, PoolState, slots_of, slot_at, is_free}
+use Rattle.iox_slots.specs.Slots.{is_taken, held, with_slot_of}
 
 -- ---- what there is
 

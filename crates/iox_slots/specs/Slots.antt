@@ -2,13 +2,9 @@
 use Rattle.std.specs.Prelude.{ℕ, ◌+◌, ◌-◌, Bool, not, ◌==◌, List, slice_get, slice_set, replicate}
 use Rattle.std.specs.Option.{option_map_or}
 use Rattle.iox_types.specs.declared.identifiers.system_id.UniqueSystemId.{UniqueSystemId}
-use Rattle.iox_tables.specs.HubStates.Tables.{SlotState, PoolState, no_slot}
+use Rattle.iox_tables.specs.HubStates.Tables.{SlotState, PoolState, no_slot, is_free}
 
 -- ---- one slot
-
--- nobody has the message
-abbrev pub is_free : SlotState → Bool
-is_free s = s.holders == 0
 
 -- one more has it
 abbrev pub held : SlotState → SlotState

@@ -2,7 +2,8 @@
 ghost use Rattle.std.specs.Prelude.{◌≡◌, ◌<◌, ◌^◌, ◌-◌, ◌↔◌, IfSome, None, [], count_by, false, length, nat_lt, option_map, slice_get, true};
 ghost use Rattle.std.specs.Bool.{OnFalse};
 ghost use Rattle.std.specs.Option.{option_map_or};
-ghost use Rattle.iox_slots.specs.Slots.{held, is_free, is_taken, let_go, slot_in, with_slot_of, written};
+ghost use Rattle.iox_slots.specs.Slots.{held, is_taken, let_go, slot_in, with_slot_of, written};
+ghost use Rattle.iox_tables.specs.HubStates.Tables.{is_free};
 
 use crate::pool::Pool;
 use crate::slot::Slot;

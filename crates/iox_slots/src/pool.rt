@@ -4,7 +4,8 @@ ghost use Rattle.std.specs.Bool.{OnFalse};
 ghost use Rattle.std.specs.Option.{option_map_or};
 ghost use Rattle.std.specs.Vec.{vec_capacity};
 ghost use Rattle.iox_slots.specs.FreeLists.{AreNumbersBelow};
-ghost use Rattle.iox_slots.specs.Slots.{held, is_free, is_taken, let_go, new_pool, slot_in, with_slot_of, written};
+ghost use Rattle.iox_slots.specs.Slots.{held, is_taken, let_go, new_pool, slot_in, with_slot_of, written};
+ghost use Rattle.iox_tables.specs.HubStates.Tables.{is_free};
 
 use crate::slot::Slot;
 use iox_types::identifiers::UniqueSystemId;

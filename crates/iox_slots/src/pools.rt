@@ -5,11 +5,11 @@ ghost use Rattle.std.specs.List.{list_all};
 ghost use Rattle.std.specs.Bool.{OnFalse};
 ghost use Rattle.std.specs.Option.{option_map_or};
 ghost use Rattle.iox_tables.specs.HubStates.States.{no_id, node_id_of, port_id_of};
-ghost use Rattle.iox_tables.specs.HubStates.Tables.{labels_of, owner_of, pool_at, slot_at, slots_of};
+ghost use Rattle.iox_tables.specs.HubStates.Tables.{labels_of, owner_of, pool_at, slot_at, slots_of, is_free};
 ghost use Rattle.iox_slots.specs.FreeLists.{has_free_slot};
 ghost use Rattle.iox_slots.specs.Pools.{Acquires, free_count, freed_by_one, has_slot, is_idle};
 ghost use Rattle.iox_slots.specs.Pools.{is_taken_at, place_for_one, with_one_more, with_slot, without_pool};
-ghost use Rattle.iox_slots.specs.Slots.{held, is_free, is_taken, let_go, new_pool, slot_in, with_slot_of, written};
+ghost use Rattle.iox_slots.specs.Slots.{held, is_taken, let_go, new_pool, slot_in, with_slot_of, written};
 
 use crate::place::{
     acquire_in, free_len_of, hold_in, ids_of, len_of, let_go_in, port_of, slot_of, write_in,

@@ -1,7 +1,7 @@
 //! A message in its place of a pool, but for its words.
 ghost use Rattle.std.specs.Prelude.{◌≡◌, ◌<◌, ◌^◌, ◌-◌};
-ghost use Rattle.iox_tables.specs.HubStates.Tables.{no_slot};
-ghost use Rattle.iox_slots.specs.Slots.{held, is_free, let_go, written};
+ghost use Rattle.iox_tables.specs.HubStates.Tables.{no_slot, is_free};
+ghost use Rattle.iox_slots.specs.Slots.{held, let_go, written};
 
 use std::marker::Model;
 

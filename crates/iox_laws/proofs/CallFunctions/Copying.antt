@@ -17,7 +17,7 @@ use Rattle.iox_model.specs.Responses.{sends, copies}
 use Rattle.iox_model.specs.Settings.{overflow_of}
 use Rattle.iox_model.specs.States.{Handle, Fixed, State}
 use Rattle.iox_laws.specs.CallFunctions.Answers.{NoneInHand}
-use Rattle.iox_laws.specs.CallFunctions.Copies.{sent_at_once, to_copy, copied_from, MayCopy, EachCopyIsWhole}
+use Rattle.iox_laws.specs.CallFunctions.Copies.{sent_at_once, copied_from, MayCopy, EachCopyIsWhole, copied_order}
 use Rattle.iox_laws.specs.CallFunctions.LoanSends.{sending_ways, MaySend}
 use Rattle.iox_laws.specs.CallFunctions.Loans.{request_loan, response_loan}
 use Rattle.iox_laws.specs.CallFunctions.Overflows.{NotOver}
@@ -53,14 +53,14 @@ goes_on f s node h hand may =
 -- ---- the whole call
 
 copies_lead : (s : State) (node n : ℕ) (c : Choice) (words : List ℕ) (k : Option ℕ) (x : Option Subject) → NoneInHand s
-    → ((j : ℕ) → k ≡ Some j → MayCopy s c x (to_copy j words))
+    → ((j : ℕ) → k ≡ Some j → MayCopy s c x (copied_order j words))
     → Leads (NoPayload s.fixed) s node (option_map_or (λ y. copies s c y k words) x (refused UnknownNumber)) (copied_from s c x k words)
 copies_lead s node n c words (Some k) (Some (ThePort p)) hand may =
-    lends_leads (NoPayload s.fixed) s node c sent_at_once (ThePort p) (to_copy k words) (λ r. tt) hand
-    (goes_on s.fixed s node (request_loan s.fixed c p (to_copy k words)) hand (may k refl))
+    lends_leads (NoPayload s.fixed) s node c sent_at_once (ThePort p) (copied_order k words) (λ r. tt) hand
+    (goes_on s.fixed s node (request_loan s.fixed c p (copied_order k words)) hand (may k refl))
 copies_lead s node n c words (Some k) (Some (TheHandle h)) hand may =
-    lends_leads (NoPayload s.fixed) s node c sent_at_once (TheHandle h) (to_copy k words) (λ r. tt) hand
-    (λ p e. goes_on s.fixed s node (response_loan s.fixed h p (to_copy k words)) hand (may k refl p e))
+    lends_leads (NoPayload s.fixed) s node c sent_at_once (TheHandle h) (copied_order k words) (λ r. tt) hand
+    (λ p e. goes_on s.fixed s node (response_loan s.fixed h p (copied_order k words)) hand (may k refl p e))
 copies_lead s node n c words (Some k) None hand may = at_end (NoPayload s.fixed) s node (Tells (Refused UnknownNumber)) tt
 copies_lead s node n c words None (Some x) hand may = at_end (NoPayload s.fixed) s node (Tells (Refused WrongLength)) tt
 copies_lead s node n c words None None hand may = at_end (NoPayload s.fixed) s node (Tells (Refused UnknownNumber)) tt

@@ -26,8 +26,9 @@ use Rattle.iox_laws.proofs.WeaveLaws.MapLemmas.{either}
 use Rattle.iox_laws.specs.RunLaws.Traces as traces
 use Rattle.iox_laws.specs.MessageLaws.Deliveries.{messages_put_on}
 use Rattle.iox_laws.specs.MessageLaws.Lists.{IsOneOf}
-use Rattle.iox_laws.specs.MessageLaws.Sendings.{own_message, copied_order, copied_message, sent_message, DeliversWhatIsSent}
+use Rattle.iox_laws.specs.MessageLaws.Sendings.{own_message, copied_message, sent_message, DeliversWhatIsSent}
 use Rattle.iox_laws.proofs.MessageLaws.Carries.{Carries, IfCopies, sends_carries, loaning_carries, visiting_carries, closing_carries, checking_carries, hinting_carries, seeking_carries, moments_put}
+use Rattle.iox_laws.specs.CallFunctions.Copies.{copied_order}
 
 -- ---- loans
 

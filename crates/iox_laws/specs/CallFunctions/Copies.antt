@@ -20,14 +20,14 @@ abbrev pub sent_at_once : Following
 sent_at_once s h = sent_of s h true
 
 -- a loan of so many elements that holds these words, to be sent in the same call
-abbrev pub to_copy : ℕ → List ℕ → Order
-to_copy k words =
+abbrev pub copied_order : ℕ → List ℕ → Order
+copied_order k words =
     record { elements = k; filled = k; payload = words; copies = true; uninit = false }
 
 -- what a copy comes to, of that port or active request: refused unless its elements are whole
 abbrev pub copied_of : State → Choice → Subject → Option ℕ → List ℕ → Outcome × State
 copied_of s c x elements words =
-    option_map_or (λ k. lent_of_length sent_at_once s c x (to_copy k words)) elements
+    option_map_or (λ k. lent_of_length sent_at_once s c x (copied_order k words)) elements
     (refusing WrongLength s)
 
 -- the same where the number names that
@@ -56,5 +56,5 @@ abbrev pub EachCopyIsWhole : Type 0
 EachCopyIsWhole =
     (s : State) (node n : ℕ) (c : Choice) (p : Payload) → MayChoose s.fixed node c (SendCopy n p)
     → NoneInHand s
-    → ((k : ℕ) → p.elements ≡ Some k → MayCopy s c (subject s.fixed node n) (to_copy k p.words))
+    → ((k : ℕ) → p.elements ≡ Some k → MayCopy s c (subject s.fixed node n) (copied_order k p.words))
     → IsWholeCall s node (SendCopy n p) (copied_by s node n c p).0 (copied_by s node n c p).1

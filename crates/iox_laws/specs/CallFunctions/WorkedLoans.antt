@@ -17,7 +17,7 @@ use Rattle.iox_model.specs.WholeCalls.{MayHold}
 use Rattle.iox_model.specs.Defaults.{defaults}
 use Rattle.iox_laws.specs.WorkedExamples.Examples.{service, request_saying, set_up, is_set_up}
 use Rattle.iox_laws.specs.CallFunctions.Answers.{NoneInHand}
-use Rattle.iox_laws.specs.CallFunctions.Copies.{to_copy, MayCopy, copied_by}
+use Rattle.iox_laws.specs.CallFunctions.Copies.{MayCopy, copied_by, copied_order}
 use Rattle.iox_laws.specs.CallFunctions.Loans.{loaned_from, loaned_by, loaned_uninit_by}
 use Rattle.iox_laws.specs.CallFunctions.Looks.{has_requests_by}
 use Rattle.iox_laws.specs.CallFunctions.WorkedPlain.{words_of}
@@ -67,7 +67,7 @@ abbrev pub ClientCopies : Type 0
 ClientCopies =
     (s : State) × Leaves defaults [] [] s × NoneInHand s
     × MayChoose s.fixed 0 first_lane (SendCopy 0 (request_saying 5))
-    × MayCopy s first_lane (subject s.fixed 0 0) (to_copy 1 (5 ∷ []))
+    × MayCopy s first_lane (subject s.fixed 0 0) (copied_order 1 (5 ∷ []))
     × ((copied_by s 0 0 first_lane (request_saying 5)).0 ≡ replies.Handle 2)
     × ((has_requests_by s 1 1).0 ≡ Answer false)
     × ((has_requests_by (copied_by s 0 0 first_lane (request_saying 5)).1 1 1).0 ≡ Answer true)

@@ -13,16 +13,12 @@ use Rattle.iox_model.specs.WholeCalls.{IsWholeCall}
 use Rattle.iox_laws.specs.RunLaws.Traces.{beats_of_call}
 use Rattle.iox_laws.specs.MessageLaws.Deliveries.{messages_put_on}
 use Rattle.iox_laws.specs.MessageLaws.Lists.{IsOneOf}
+use Rattle.iox_laws.specs.CallFunctions.Copies.{copied_order}
 
 -- the message of a loan, as it was filled
 abbrev pub own_message : Subject → Option Message
 own_message (ThePort p) = None
 own_message (TheHandle h) = Some h.message
-
--- what a send that copies is asked for: these words, as so many elements
-abbrev pub copied_order : ℕ → List ℕ → Order
-copied_order k words =
-    record { elements = k; filled = k; payload = words; copies = true; uninit = false }
 
 -- the message that these words become: a client's next request, on an open lane, or a server's next
 -- response to the request that it received

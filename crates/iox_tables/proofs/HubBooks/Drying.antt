@@ -17,7 +17,7 @@ use Rattle.iox_model.specs.States as m
 use Rattle.iox_laws.proofs.WeaveLaws.MapLemmas.{eqb-refl, same_way-refl}
 use Rattle.iox_laws.proofs.WeaveLedger.Lists.{IsAmong, among-any, among-filter, among-map, any-among, filter-among, flat-among, map-among, number-among, among-number}
 use Rattle.iox_lanes.specs.Lanes.{LaneState}
-use Rattle.iox_tables.specs.HubStates.Tables.{HandleState, HubTables, PoolState, PortState, SlotState, labels_of, no_slot, owner_of, port_in, slot_at, slots_of}
+use Rattle.iox_tables.specs.HubStates.Tables.{HandleState, HubTables, PoolState, PortState, SlotState, labels_of, no_slot, owner_of, port_in, slot_at, slots_of, is_free}
 use Rattle.iox_tables.specs.HubStates.Ways.{lane_on}
 use Rattle.iox_tables.specs.HubStates.Shown.{MessagesByPlace, is_out_in}
 use Rattle.iox_tables.specs.HubStates.States.{Given, fixed_of, handle_of, message_of, port_of, state_shown}
@@ -26,7 +26,7 @@ use Rattle.iox_tables.proofs.HubStates.Fixing.{find_port, first_key}
 use Rattle.iox_tables.specs.HubBooks.Counts.{how_often, is_at, lane_count, handle_uses}
 use Rattle.iox_tables.specs.HubBooks.Handles.{IsFromLane, IsOfPoolOrGone, IsOfPort, is_from, way_in}
 use Rattle.iox_tables.specs.HubBooks.Hubs.{AreInOrder, HasPool, IsUsed}
-use Rattle.iox_tables.specs.HubBooks.Premises.{DryPoolsAreUsedUp, KeptAreUsed, is_unused}
+use Rattle.iox_tables.specs.HubBooks.Premises.{DryPoolsAreUsedUp, KeptAreUsed}
 use Rattle.iox_tables.proofs.HubBooks.Dry.{counted_by, each_among, get_among, keys_apart, out_is, way_from}
 use Rattle.iox_tables.proofs.HubBooks.Frames.{length_map}
 use Rattle.iox_tables.proofs.HubBooks.Held.{IsCountedIn, each_counts, used_by_counted}
@@ -232,14 +232,14 @@ module _ (x : Given) (t : HubTables) (order : AreInOrder t) (n : ℕ) (p : PortS
   slot_is : (j : ℕ) (s : SlotState) → slice_get (slots_of t.pools p.pool) j ≡ Some s → slot_at t.pools p.pool j ≡ s
   slot_is j s e = ap (λ o. option_map_or (λ (y : SlotState). y) o no_slot) e
 
-  is_used : (s : SlotState) → not (is_unused s) ≡ true → 1 ≤ s.holders
+  is_used : (s : SlotState) → not (is_free s) ≡ true → 1 ≤ s.holders
   is_used s e = some s.holders e
     where
       some : (c : ℕ) → not (c == 0) ≡ true → 1 ≤ c
       some zero e = absurd (true≢false (sym e))
       some (suc c) e = omega arith
 
-  used_at : (j : ℕ) (s : SlotState) → slice_get (slots_of t.pools p.pool) j ≡ Some s → not (is_unused s) ≡ true → IsUsed t p.pool j
+  used_at : (j : ℕ) (s : SlotState) → slice_get (slots_of t.pools p.pool) j ≡ Some s → not (is_free s) ≡ true → IsUsed t p.pool j
   used_at j s e used = subst (λ (y : SlotState). 1 ≤ y.holders) (sym (slot_is j s e)) (is_used s used)
 
   not_zero : (c : ℕ) → 1 ≤ c → not (c == 0) ≡ true
@@ -256,13 +256,13 @@ module _ (x : Given) (t : HubTables) (order : AreInOrder t) (n : ℕ) (p : PortS
       step (Some s) e = (s, e)
       step None e = let none : (slot_at t.pools p.pool j).holders ≡ 0 = ap (λ o. (option_map_or (λ (y : SlotState). y) o no_slot).holders) e in absurd (omega (arith, none, used))
 
-  pub kept_count : length (kept (state_shown x t) n []) ≡ length (filter (λ s. not (is_unused s)) (slots_of t.pools p.pool))
+  pub kept_count : length (kept (state_shown x t) n []) ≡ length (filter (λ s. not (is_free s)) (slots_of t.pools p.pool))
   kept_count =
-      counted_by (is_kept (state_shown x t) n []) (map (λ (s : SlotState). s.serial) (filter (λ s. not (is_unused s)) (slots_of t.pools p.pool))) ((state_shown x t).fixed.loans n + 1)
-      (keys_apart (λ (s : SlotState). s.serial) (λ s. not (is_unused s)) (slots_of t.pools p.pool)
+      counted_by (is_kept (state_shown x t) n []) (map (λ (s : SlotState). s.serial) (filter (λ s. not (is_free s)) (slots_of t.pools p.pool))) ((state_shown x t).fixed.loans n + 1)
+      (keys_apart (λ (s : SlotState). s.serial) (λ s. not (is_free s)) (slots_of t.pools p.pool)
       (λ i j a b e f u v same. order.serials.apart p.pool i j (used_at i a e u) (used_at j b f v) (ap (λ (y : SlotState). y.serial) (slot_is i a e) ∙ same ∙ sym (ap (λ (y : SlotState). y.serial) (slot_is j b f)))))
       low in_list
-      ∙ length_map (λ (s : SlotState). s.serial) (filter (λ s. not (is_unused s)) (slots_of t.pools p.pool))
+      ∙ length_map (λ (s : SlotState). s.serial) (filter (λ s. not (is_free s)) (slots_of t.pools p.pool))
     where
       loans : (state_shown x t).fixed.loans n ≡ p.loans
       loans = ap (λ o. option_map_or (λ (y : PortState). y.loans) o 0) there
@@ -270,11 +270,11 @@ module _ (x : Given) (t : HubTables) (order : AreInOrder t) (n : ℕ) (p : PortS
       below : (k b c : ℕ) → k < b → c ≡ b → k < c + 1
       below k b c l e = omega (arith, l, e)
 
-      low : (k : ℕ) → IsAmong k (map (λ (s : SlotState). s.serial) (filter (λ s. not (is_unused s)) (slots_of t.pools p.pool)))
+      low : (k : ℕ) → IsAmong k (map (λ (s : SlotState). s.serial) (filter (λ s. not (is_free s)) (slots_of t.pools p.pool)))
           → (k < (state_shown x t).fixed.loans n + 1) × (is_kept (state_shown x t) n [] k ≡ true)
       low k among =
-          let a = map-among (λ (s : SlotState). s.serial) k (filter (λ s. not (is_unused s)) (slots_of t.pools p.pool)) among in
-          let b = filter-among (λ (s : SlotState). not (is_unused s)) a.0 (slots_of t.pools p.pool) a.1 in
+          let a = map-among (λ (s : SlotState). s.serial) k (filter (λ s. not (is_free s)) (slots_of t.pools p.pool)) among in
+          let b = filter-among (λ (s : SlotState). not (is_free s)) a.0 (slots_of t.pools p.pool) a.1 in
           let c = among_get a.0 (slots_of t.pools p.pool) b.0 in
           let used = used_at c.0 a.0 c.1 b.1 in
           let serial : (slot_at t.pools p.pool c.0).serial ≡ k = ap (λ (y : SlotState). y.serial) (slot_is c.0 a.0 c.1) ∙ sym a.2 in (
@@ -282,13 +282,13 @@ module _ (x : Given) (t : HubTables) (order : AreInOrder t) (n : ℕ) (p : PortS
             subst (λ i. is_kept (state_shown x t) n [] i ≡ true) serial (used_kept c.0 used),
           )
 
-      in_list : (k : ℕ) → is_kept (state_shown x t) n [] k ≡ true → IsAmong k (map (λ (s : SlotState). s.serial) (filter (λ s. not (is_unused s)) (slots_of t.pools p.pool)))
+      in_list : (k : ℕ) → is_kept (state_shown x t) n [] k ≡ true → IsAmong k (map (λ (s : SlotState). s.serial) (filter (λ s. not (is_free s)) (slots_of t.pools p.pool)))
       in_list k e =
           let a = kept_used k e in
           let s = there_if_used a.0 a.1 in
-          subst (λ i. IsAmong i (map (λ (y : SlotState). y.serial) (filter (λ y. not (is_unused y)) (slots_of t.pools p.pool)))) (sym (ap (λ (y : SlotState). y.serial) (slot_is a.0 s.0 s.1)) ∙ a.2)
-          (among-map (λ (y : SlotState). y.serial) s.0 (filter (λ y. not (is_unused y)) (slots_of t.pools p.pool))
-          (among-filter (λ (y : SlotState). not (is_unused y)) s.0 (slots_of t.pools p.pool) (get_among (slots_of t.pools p.pool) a.0 s.0 s.1)
+          subst (λ i. IsAmong i (map (λ (y : SlotState). y.serial) (filter (λ y. not (is_free y)) (slots_of t.pools p.pool)))) (sym (ap (λ (y : SlotState). y.serial) (slot_is a.0 s.0 s.1)) ∙ a.2)
+          (among-map (λ (y : SlotState). y.serial) s.0 (filter (λ y. not (is_free y)) (slots_of t.pools p.pool))
+          (among-filter (λ (y : SlotState). not (is_free y)) s.0 (slots_of t.pools p.pool) (get_among (slots_of t.pools p.pool) a.0 s.0 s.1)
           (not_zero s.0.holders (subst (λ (y : SlotState). 1 ≤ y.holders) (slot_is a.0 s.0 s.1) a.1))))
 
 -- ---- a pool is used up
@@ -324,4 +324,4 @@ dry_pools_are_used_up x t n p order there =
     let has = order.pools.each n p there in
     ap (λ (o : Option m.Port). option_map_or (λ q. nat_le q.pool (length (kept (state_shown x t) n []))) o true) (find_port x t.ports n ∙ ap (option_map (port_of x)) there)
     ∙ ap₂ (λ (a b : ℕ). nat_le a b) (sym has.size ∙ sym (ap (λ o. length (option_map_or (λ (y : PoolState). y.slots) o [])) has.there)) (kept_count x t order n p there)
-    ∙ full_is is_unused (slots_of t.pools p.pool)
+    ∙ full_is is_free (slots_of t.pools p.pool)

@@ -17,7 +17,7 @@ use Rattle.iox_model.specs.Settings.{is_client}
 use Rattle.iox_model.specs.States as m
 use Rattle.iox_laws.specs.CallFunctions.Answers.{answered, refusing, unless}
 use Rattle.iox_laws.specs.CallFunctions.Calls.{call_by}
-use Rattle.iox_laws.specs.CallFunctions.Copies.{copied_from, sent_at_once, to_copy}
+use Rattle.iox_laws.specs.CallFunctions.Copies.{copied_from, sent_at_once, copied_order}
 use Rattle.iox_laws.specs.CallFunctions.Loans.{lent_unless}
 use Rattle.iox_laws.specs.CallFunctions.LoanSends.{sent_of}
 use Rattle.iox_tables.specs.HubStates.Tables.{HubTables}
@@ -57,7 +57,7 @@ module _ (x : Given) (t : HubTables) (node n : ℕ) (p : Payload) (c : Choice) (
 
   module _ (k : ℕ) (whole : p.elements ≡ Some k) where
     abbrev loan : m.Handle
-    loan = loan_shown x t y (to_copy k p.words)
+    loan = loan_shown x t y (copied_order k p.words)
 
     abbrev v : Outcome × m.State
     v = lent_tested sent_at_once s c y.port.number loan
@@ -66,7 +66,7 @@ module _ (x : Given) (t : HubTables) (node n : ℕ) (p : Payload) (c : Choice) (
     whole_is =
         copy_is
         ∙ ap (λ (o : Option ℕ). unless (calls_refusal t) s (answered s node (copied_from s c (subject (fixed_of x t) node n) o p.words))) whole
-        ∙ ap (λ (w : Outcome × m.State). unless (calls_refusal t) s (answered s node w)) (is.lends sent_at_once (to_copy k p.words))
+        ∙ ap (λ (w : Outcome × m.State). unless (calls_refusal t) s (answered s node w)) (is.lends sent_at_once (copied_order k p.words))
 
     pub copy_refused : (r : Refusal) → loan_refusal x t y k ≡ Some r → call_by s node (SendCopy n p) c payload ≡ tells (Refused r) s
     copy_refused r e = whole_is ∙ refused_so s node [] v (calls_refusal t) (tests_of x t y k) r e
@@ -77,7 +77,7 @@ module _ (x : Given) (t : HubTables) (node n : ℕ) (p : Payload) (c : Choice) (
     pub copy_wants_memory : loan_refusal x t y k ≡ None → c.memory ≡ false → is_pool_to_be_dry x t y.port ≡ false
         → call_by s node (SendCopy n p) c payload ≡ tells (Refused WantOfMemory) s
     copy_wants_memory e none dry =
-        copy_passes e ∙ ap (answered s node) (without_memory x t y is.there sent_at_once c (to_copy k p.words) none dry)
+        copy_passes e ∙ ap (answered s node) (without_memory x t y is.there sent_at_once c (copied_order k p.words) none dry)
 
     -- the pool decides, and then the loan is sent
     pub copy_lends : loan_refusal x t y k ≡ None → c.memory ≡ true → OfEachLane (HasEachOnce (message_of x t.pools)) (lane_on t.ports) → (b : Bool) → is_pool_dry x t y.port ≡ b
@@ -86,8 +86,8 @@ module _ (x : Given) (t : HubTables) (node n : ℕ) (p : Payload) (c : Choice) (
     copy_lends e has once b dry =
         copy_passes e
         ∙ ap (answered s node)
-        (with_memory x t y is.there sent_at_once c (to_copy k p.words) has
-        ∙ lent_is x t y is.there sent_at_once (to_copy k p.words) once
+        (with_memory x t y is.there sent_at_once c (copied_order k p.words) has
+        ∙ lent_is x t y is.there sent_at_once (copied_order k p.words) once
         ∙ ap (λ b. if b then refusing OutOfMemory (state_shown x (with_got_back t y.port)) else sent_of (state_shown x (with_got_back t y.port)) loan true) dry)
 
 pub copies_are_refused : CopiesAreRefused

@@ -5,10 +5,7 @@ use Rattle.std.proofs.Common.{sym, ap, ◌∙◌, true≢false, eqb-true, eq-eqb
 use Rattle.std.proofs.lemmas.Option.{none-some}
 use Rattle.iox_model.specs.Maps.{AreDistinct, has_number}
 use Rattle.iox_tables.specs.HubStates.Tables.{first_by}
-
--- two that are one with a third are one
-pub joined : (a b c : ℕ) → (a == b) ≡ true → (a == c) ≡ true → (c == b) ≡ true
-joined a b c e h = eq-eqb c b (sym (eqb-true a c h) ∙ eqb-true a b e)
+use Rattle.iox_tables.proofs.HubStates.Keys.{joined}
 
 -- what is so either way
 pub either_way : {A : Type 0} (b : Bool) (o : Option A) → o ≡ (if b then o else o)

@@ -25,7 +25,7 @@ flip a b = by_case (a == b) (b == a) refl refl
     by_case false true e h = absurd (true≢false (sym (eq-eqb a b (sym (eqb-true b a h))) ∙ e))
 
 -- two that are one with a third are one
-joined : (a b c : ℕ) → (a == b) ≡ true → (a == c) ≡ true → (c == b) ≡ true
+pub joined : (a b c : ℕ) → (a == b) ≡ true → (a == c) ≡ true → (c == b) ≡ true
 joined a b c e h = eq-eqb c b (sym (eqb-true a c h) ∙ eqb-true a b e)
 
 pub first_changed : {A : Type 0} (key : A → ℕ) (f : A → A) → ((x : A) → key (f x) ≡ key x) → (xs : List A) (s n : ℕ)

@@ -4,7 +4,7 @@ use Rattle.std.specs.List.{list_any}
 use Rattle.iox_model.specs.Outstandings.{is_dry, kept}
 use Rattle.iox_model.specs.Handles.{is_received, is_request_loan, is_response_loan, way_of}
 use Rattle.iox_laws.specs.CallFunctions.Responses.{is_awaited}
-use Rattle.iox_tables.specs.HubStates.Tables.{HandleState, HubTables, PoolState, PortState, SlotState, port_in, slots_of}
+use Rattle.iox_tables.specs.HubStates.Tables.{HandleState, HubTables, PoolState, PortState, SlotState, port_in, slots_of, is_free}
 use Rattle.iox_tables.specs.HubStates.Ways.{lane_on}
 use Rattle.iox_tables.specs.HubStates.States.{Given, fixed_of, message_of, state_shown}
 use Rattle.iox_tables.specs.HubStates.Changes.{HasEachOnce, OfEachLane}
@@ -60,17 +60,13 @@ FreeSlotsAreNotShown =
     → OfEachLane (HasSameMessages (message_of x t.pools) (message_of x' pools)) (lane_on t.ports)
     × OfEachHandle (ShowsSame x (message_of x t.pools) x' (message_of x' pools)) t.handles
 
--- nobody has the message in the slot
-abbrev pub is_unused : SlotState → Bool
-is_unused s = s.holders == 0
-
 -- A port keeps as many messages as slots of its pool are used.
 abbrev pub KeptAreUsed : Type 0
 KeptAreUsed =
     (x : Given) (t : HubTables) (n : ℕ) (p : PortState) → AreInOrder t
     → port_in t.ports n ≡ Some p
     → length (kept (state_shown x t) n [])
-    ≡ length (filter (λ s. not (is_unused s)) (slots_of t.pools p.pool))
+    ≡ length (filter (λ s. not (is_free s)) (slots_of t.pools p.pool))
 
 -- So its pool is dry exactly if no slot is unused.
 abbrev pub DryPoolsAreUsedUp : Type 0
@@ -78,4 +74,4 @@ DryPoolsAreUsedUp =
     (x : Given) (t : HubTables) (n : ℕ) (p : PortState) → AreInOrder t
     → port_in t.ports n ≡ Some p
     → is_dry (fixed_of x t) n (kept (state_shown x t) n [])
-    ≡ not (list_any is_unused (slots_of t.pools p.pool))
+    ≡ not (list_any is_free (slots_of t.pools p.pool))

@@ -29,6 +29,11 @@ lane_of t h = (labels_of t.pools h.pool h.slot).lane
 abbrev pub request_of : HubTables → HandleState → ℕ
 request_of t h = (labels_of t.pools h.pool h.slot).request
 
+-- The way of responses to the client of the handle's request. Beside it stands the state of that
+-- request.
+abbrev pub way_to_client : HubTables → HandleState → Way
+way_to_client t h = response_way h.client (lane_of t h) h.port
+
 -- the handle of the machine
 abbrev pub handle_shown : Given → HubTables → HandleState → m.Handle
 handle_shown x t h = handle_of x (message_of x t.pools) h

@@ -21,6 +21,10 @@ pub record SlotState : Type 0 where
   -- how many lanes and handles have it; it is free where that is 0
   pub holders : ℕ
 
+-- nobody has the message in the slot
+abbrev pub is_free : SlotState → Bool
+is_free s = s.holders == 0
+
 -- The messages of one port. They stay where their port is gone, while anybody has one.
 pub record PoolState : Type 0 where
   pub port : ℕ

@@ -7,8 +7,8 @@ use Rattle.iox_tables.specs.Incomings.{IncomingState, on_pipe}
 use Rattle.iox_tables.specs.HubStates.Tables.{PortState, pipes_of}
 use Rattle.iox_tables.specs.Pipes.{lane_to_get, with_lane}
 use Rattle.iox_hub_ports.specs.Ports.{lane_to_get_on, port_of}
-use Rattle.iox_hub_ports.proofs.Firsts.{changed_expired, changed_incoming, from_expired, from_incoming, from_nobody, told_expired, told_incoming}
-use Rattle.iox_hub_ports.proofs.Nexts.{both_of, left_expired, left_incoming}
+use Rattle.iox_hub_ports.proofs.Firsts.{asked_other, changed_expired, changed_other, from_expired, told_expired, told_other}
+use Rattle.iox_hub_ports.proofs.Nexts.{both_of, left_expired}
 use Rattle.iox_hub_ports.proofs.port.Port.get_next.Goals as goal
 
 pub returns-in-Some-clause-lowest : goal.returns-in-Some-clause-lowest
@@ -17,20 +17,6 @@ returns-in-Some-clause-lowest c =
     (c.get_next.ensures.lowest ∙ ap (λ o. option_map_or lane_to_get o None)
     (from_expired (port_of c.self.inside.info c.self.inside.expired c.self.inside.incoming) c.args.sender c.in-Some.rank
     (sym c.rank.ensures.first ∙ c.in-Some.is)))
-
-pub returns-in-Some-rank-clause-lowest : goal.returns-in-Some-rank-clause-lowest
-returns-in-Some-rank-clause-lowest c =
-    rw (← c.self.view_is)
-    (c.get_next-in-Some-rank.ensures.lowest ∙ ap (λ o. option_map_or lane_to_get o None)
-    (from_incoming (port_of c.self.inside.info c.self.inside.expired c.self.inside.incoming) c.args.sender c.in-Some-rank.rank
-    (sym c.rank.ensures.first ∙ c.in-None.is) (sym c.rank-in-None.ensures.first ∙ c.in-Some-rank.is)))
-
-pub returns-in-None-rank-clause-lowest : goal.returns-in-None-rank-clause-lowest
-returns-in-None-rank-clause-lowest c =
-    rw (← c.self.view_is)
-    (ap (λ o. option_map_or lane_to_get o None)
-    (from_nobody (port_of c.self.inside.info c.self.inside.expired c.self.inside.incoming) c.args.sender
-    (sym c.rank.ensures.first ∙ c.in-None.is) (sym c.rank-in-None.ensures.first ∙ c.in-None-rank.is)))
 
 pub returns-in-Some-clause-oldest : goal.returns-in-Some-clause-oldest
 returns-in-Some-clause-oldest c =
@@ -55,25 +41,26 @@ returns-in-Some-clause-more c =
     (sym (ap (λ (e : IncomingState). port_of c.self.inside.info e c.self.inside.incoming) is
     ∙ changed_expired (λ q. with_lane without_returned q n.lane) (port_of c.self.inside.info c.self.inside.expired c.self.inside.incoming) c.args.sender c.in-Some.rank (sym c.rank.ensures.first ∙ c.in-Some.is)))))
 
-pub returns-in-Some-rank-clause-oldest : goal.returns-in-Some-rank-clause-oldest
-returns-in-Some-rank-clause-oldest c =
+pub returns-in-None-clause-lowest : goal.returns-in-None-clause-lowest
+returns-in-None-clause-lowest c =
     rw (← c.self.view_is)
-    (IfSome_then c.get_next-in-Some-rank.result c.get_next-in-Some-rank.ensures.oldest
-    (λ n is. sym (told_incoming (λ (l : LaneState). slice_get l.returned 0) None (port_of c.self.inside.info c.self.inside.expired c.self.inside.incoming) c.args.sender n.lane c.in-Some-rank.rank (sym c.rank.ensures.first ∙ c.in-None.is) (sym c.rank-in-None.ensures.first ∙ c.in-Some-rank.is)) ∙ is))
+    (c.get_next-in-None.ensures.lowest ∙ asked_other (port_of c.self.inside.info c.self.inside.expired c.self.inside.incoming) c.args.sender lane_to_get None (sym c.rank.ensures.first ∙ c.in-None.is))
 
-pub returns-in-Some-rank-clause-got_back : goal.returns-in-Some-rank-clause-got_back
-returns-in-Some-rank-clause-got_back c =
+pub returns-in-None-clause-oldest : goal.returns-in-None-clause-oldest
+returns-in-None-clause-oldest c =
     rw (← c.self.view_is)
-    (IfSome_then c.get_next-in-Some-rank.result c.get_next-in-Some-rank.ensures.got_back
+    (IfSome_then c.get_next-in-None.result c.get_next-in-None.ensures.oldest
+    (λ n is. sym (told_other (λ (l : LaneState). slice_get l.returned 0) None (port_of c.self.inside.info c.self.inside.expired c.self.inside.incoming) c.args.sender n.lane (sym c.rank.ensures.first ∙ c.in-None.is)) ∙ is))
+
+pub returns-in-None-clause-got_back : goal.returns-in-None-clause-got_back
+returns-in-None-clause-got_back c =
+    rw (← c.self.view_is)
+    (IfSome_then c.get_next-in-None.result c.get_next-in-None.ensures.got_back
     (λ n is. ap (λ (e : IncomingState). port_of c.self.inside.info c.self.inside.expired e) is
-    ∙ changed_incoming (λ q. with_lane without_returned q n.lane) (port_of c.self.inside.info c.self.inside.expired c.self.inside.incoming) c.args.sender c.in-Some-rank.rank (sym c.rank.ensures.first ∙ c.in-None.is) (sym c.rank-in-None.ensures.first ∙ c.in-Some-rank.is)))
+    ∙ changed_other (λ q. with_lane without_returned q n.lane) (port_of c.self.inside.info c.self.inside.expired c.self.inside.incoming) c.args.sender (sym c.rank.ensures.first ∙ c.in-None.is)))
 
-pub returns-in-Some-rank-clause-more : goal.returns-in-Some-rank-clause-more
-returns-in-Some-rank-clause-more c =
-    both_of c.get_next-in-Some-rank.result c.get_next-in-Some-rank.ensures.got_back c.get_next-in-Some-rank.ensures.more
-    (λ n is m. m ∙ ap is_some
-    (ap (λ e. on_pipe lane_to_get None e c.in-Some-rank.rank) is
-    ∙ left_incoming without_returned n.lane (port_of c.self.inside.info c.self.inside.expired c.self.inside.incoming) c.args.sender c.in-Some-rank.rank (sym c.rank.ensures.first ∙ c.in-None.is) (sym c.rank-in-None.ensures.first ∙ c.in-Some-rank.is)
-    ∙ ap (λ (p : PortState). lane_to_get_on (pipes_of p) c.args.sender)
-    (sym (ap (λ (e : IncomingState). port_of c.self.inside.info c.self.inside.expired e) is
-    ∙ changed_incoming (λ q. with_lane without_returned q n.lane) (port_of c.self.inside.info c.self.inside.expired c.self.inside.incoming) c.args.sender c.in-Some-rank.rank (sym c.rank.ensures.first ∙ c.in-None.is) (sym c.rank-in-None.ensures.first ∙ c.in-Some-rank.is)))))
+pub returns-in-None-clause-more : goal.returns-in-None-clause-more
+returns-in-None-clause-more c =
+    IfSome_then c.get_next-in-None.result c.get_next-in-None.ensures.more
+    (λ n more. more ∙ ap is_some
+    (asked_other (port_of c.self.inside.info c.self.inside.expired c.get_next-in-None.new.self) c.args.sender lane_to_get None (sym c.rank.ensures.first ∙ c.in-None.is)))

@@ -1,11 +1,12 @@
 use Rattle.std.proofs.Common.{◌≡◌, ◌++◌, ◌∷◌, [], arith, ap, sym, ◌∙◌}
 use Rattle.std.specs.Vec.{vec_capacity}
 use Rattle.std.proofs.lemmas.Option.{slice_get_within}
-use Rattle.iox_slots.specs.Slots.{held, is_free}
+use Rattle.iox_slots.specs.Slots.{held}
 use Rattle.iox_slots.specs.FreeLists.{IsFreeList}
 use Rattle.iox_slots.proofs.ListLemmas.{item_is}
 use Rattle.iox_slots.proofs.FreeListLemmas.{IsFreeList-take, changed_is, found_free, free_holders, held_is_taken, last_is_free, moved}
 use Rattle.iox_slots.proofs.pool.Pool.acquire.Goals as goal
+use Rattle.iox_tables.specs.HubStates.Tables.{is_free}
 
 pub index-requires : goal.index-requires
 index-requires c =

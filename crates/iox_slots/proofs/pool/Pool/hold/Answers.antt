@@ -1,6 +1,6 @@
 use Rattle.std.proofs.Common.{◌<◌, arith, ap, sym, subst, ◌∙◌}
-use Rattle.iox_tables.specs.HubStates.Tables.{PoolState}
-use Rattle.iox_slots.specs.Slots.{held, is_free, slot_in}
+use Rattle.iox_tables.specs.HubStates.Tables.{PoolState, is_free}
+use Rattle.iox_slots.specs.Slots.{held, slot_in}
 use Rattle.iox_slots.proofs.ListLemmas.{read_is}
 use Rattle.iox_slots.proofs.FreeListLemmas.{IsFreeList-change, changed_is, held_taken}
 use Rattle.iox_slots.proofs.pool.Pool.hold.Goals as goal

@@ -1,6 +1,6 @@
 use Rattle.std.proofs.Common.{arith, ap}
-use Rattle.iox_tables.specs.HubStates.Tables.{SlotState}
-use Rattle.iox_slots.specs.Slots.{is_free, written}
+use Rattle.iox_tables.specs.HubStates.Tables.{SlotState, is_free}
+use Rattle.iox_slots.specs.Slots.{written}
 use Rattle.iox_slots.proofs.ListLemmas.{read_is}
 use Rattle.iox_slots.proofs.FreeListLemmas.{IsFreeList-change, changed_is}
 use Rattle.iox_slots.proofs.pool.Pool.write.Goals as goal

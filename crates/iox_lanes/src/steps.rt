@@ -1,0 +1,33 @@
+//! What is done to one lane, or to one request state, of a pipe.
+ghost use Rattle.std.specs.Prelude.{◌≡◌};
+ghost use Rattle.iox_model.specs.declared.way.RequestState.{RequestState};
+ghost use Rattle.iox_lanes.specs.Lanes.{LaneState};
+ghost use Rattle.iox_lanes.specs.Pipes.{on_lane, with_lane, with_state};
+
+use crate::pipe::Pipe;
+
+/// A step of a sender or a receiver on one lane, and what it is told.
+pub trait LaneStep {
+    type Answer: Drop;
+
+    ghost changed: { Self → LaneState → LaneState };
+
+    ghost told: { Self → LaneState → Self.Answer };
+    // what is told where there is no such lane
+    ghost none: { Self → Self.Answer };
+
+    fn nothing(&self) -> Self::Answer
+        ensures { result ≡ none self.now };
+
+    fn step(&self, pipe: &mut Pipe, lane: usize) -> Self::Answer
+        ensures told { result ≡ on_lane (told self.now) (none self.now) pipe.old lane }
+        ensures changed { pipe.new ≡ with_lane (changed self.now) pipe.old lane };
+}
+
+/// A step of a client or a server on one request state.
+pub trait StateStep {
+    ghost changed: { Self → RequestState → RequestState };
+
+    fn step(&self, pipe: &mut Pipe, lane: usize)
+        ensures { pipe.new ≡ with_state (changed self.now) pipe.old lane };
+}
