@@ -20,7 +20,7 @@ use Rattle.iox_model.specs.Settings.{shape_of}
 use Rattle.iox_model.specs.States as m
 use Rattle.iox_model.specs.WholeCalls.{IsWholeCall}
 use Rattle.iox_laws.specs.CallFunctions.Calls.{call_by}
-use Rattle.iox_laws.specs.CallFunctions.Copies.{MayCopy, to_copy}
+use Rattle.iox_laws.specs.CallFunctions.Copies.{MayCopy, copied_order}
 use Rattle.iox_laws.specs.CallFunctions.Loans.{response_loan}
 use Rattle.iox_laws.specs.CallFunctions.LoanSends.{MaySend, sending_ways}
 use Rattle.iox_laws.specs.CallFunctions.Overflows.{NotOver}
@@ -113,22 +113,22 @@ module _ (x : Given) (c : ControlState) (node n : ℕ) (q : Payload) (a : Asked)
     abbrev shown : m.Handle
     shown = handle_shown x t active.handle
 
-    one_way : (k : ℕ) → sending_ways (fixed_of x t) (response_loan (fixed_of x t) shown (port_of x active.port) (to_copy k q.words)) ≡ w ∷ []
+    one_way : (k : ℕ) → sending_ways (fixed_of x t) (response_loan (fixed_of x t) shown (port_of x active.port) (copied_order k q.words)) ≡ w ∷ []
     one_way k =
         ap (λ (b : Bool). if b then map (request_way y.port.number) (others (fixed_of x t) active.port.node Server) else w ∷ [])
         (ap (λ (r : Role). is_request_loan (kind_of_loan r false)) active.server)
 
-    may_send : (k : ℕ) → MaySend s (response_loan (fixed_of x t) shown (port_of x active.port) (to_copy k q.words))
+    may_send : (k : ℕ) → MaySend s (response_loan (fixed_of x t) shown (port_of x active.port) (copied_order k q.words))
     may_send k = record {
       apart = subst AreApart (sym (one_way k)) (refl, tt);
       within = λ on. subst (NotOver s) (sym (one_way k)) (within, tt);
     }
 
-    may_copy : (k : ℕ) → MayCopy s choice (subject (fixed_of x t) node n) (to_copy k q.words)
+    may_copy : (k : ℕ) → MayCopy s choice (subject (fixed_of x t) node n) (copied_order k q.words)
     may_copy k =
-        subst (λ (z : Option Subject). MayCopy s choice z (to_copy k q.words)) (sym (each_handle_is_named x t node n active.handle active.named).names)
+        subst (λ (z : Option Subject). MayCopy s choice z (copied_order k q.words)) (sym (each_handle_is_named x t node n active.handle active.named).names)
         (λ p at.
-        subst (λ (r : m.Port). MaySend s (response_loan (fixed_of x t) shown r (to_copy k q.words)))
+        subst (λ (r : m.Port). MaySend s (response_loan (fixed_of x t) shown r (copied_order k q.words)))
         (same_Some (port_of x active.port) p (sym (find_port x t.ports active.handle.port ∙ ap (option_map (port_of x)) active.there) ∙ at))
         (may_send k))
 

@@ -10,9 +10,8 @@ use Rattle.std.proofs.lemmas.List.Folds.{list_any-append}
 use Rattle.std.proofs.lemmas.List.Sums.{length-filter}
 use Rattle.std.proofs.lemmas.Nat.Bits.{bit_at_set_other, bit_at_set_same}
 use Rattle.std.proofs.lemmas.Option.{none-some, same_Some, slice_get-get_or}
-use Rattle.iox_tables.specs.HubStates.Tables.{SlotState}
+use Rattle.iox_tables.specs.HubStates.Tables.{SlotState, is_free}
 use Rattle.iox_tables.specs.HubLending.Keeping.{has_holder}
-use Rattle.iox_slots.specs.Slots.{is_free}
 use Rattle.iox_control_lending.specs.Tests.{held_count, is_lane_held}
 
 -- ---- one bit

@@ -6,12 +6,12 @@ use Rattle.std.proofs.Common.{sym, ap, ◌∙◌, arith}
 use Rattle.std.proofs.Common.{get_or}
 use Rattle.std.proofs.lemmas.List.Sums.{length-filter}
 use Rattle.std.proofs.lemmas.Option.{none-some, slice_get-get_or}
-use Rattle.iox_tables.specs.HubStates.Tables.{PoolState, SlotState, no_slot, slot_at, slots_of}
+use Rattle.iox_tables.specs.HubStates.Tables.{PoolState, SlotState, no_slot, slot_at, slots_of, is_free}
 use Rattle.iox_tables.specs.HubLoans.Slots.{put_slot, put_slot_of}
 use Rattle.iox_tables.proofs.HubLoans.Placed.{set_there}
 use Rattle.iox_tables.specs.HubLending.Keeping.{has_holder}
 use Rattle.iox_slots.specs.Pools.{free_count, has_slot, with_slot}
-use Rattle.iox_slots.specs.Slots.{held, is_free, with_slot_of, written}
+use Rattle.iox_slots.specs.Slots.{held, with_slot_of, written}
 
 -- a test of numbers that passes
 nat_lt-lt : (a b : ℕ) → nat_lt a b ≡ true → a < b

@@ -21,7 +21,7 @@ use Rattle.iox_model.specs.States as m
 use Rattle.iox_model.specs.WholeCalls.{IsWholeCall}
 use Rattle.iox_laws.specs.CallFunctions.Answers.{refusing}
 use Rattle.iox_laws.specs.CallFunctions.Calls.{call_by}
-use Rattle.iox_laws.specs.CallFunctions.Copies.{copied_from, copied_by, sent_at_once, to_copy}
+use Rattle.iox_laws.specs.CallFunctions.Copies.{copied_from, copied_by, sent_at_once, copied_order}
 use Rattle.iox_laws.specs.CallFunctions.Loans.{lent_of_length, lent_unless, request_lent, response_lent}
 use Rattle.iox_laws.proofs.CallFunctions.Leads.{Leads, NoPayload, at_end, is_whole}
 use Rattle.iox_laws.proofs.RunLaws.Choices.{something_may_be_chosen}
@@ -83,7 +83,7 @@ module _ (s : m.State) (node : ℕ) (c : Choice) where
       → Leads (NoPayload s.fixed) s node (option_map_or (λ y. copies s c y k words) x (refused UnknownNumber)) (copied_from s c x k words)
   copies_stop None k words scarce = ends_so UnknownNumber
   copies_stop (Some y) None words scarce = ends_so WrongLength
-  copies_stop (Some y) (Some k) words scarce = lends_stop y (to_copy k words) (scarce y refl)
+  copies_stop (Some y) (Some k) words scarce = lends_stop y (copied_order k words) (scarce y refl)
 
   pub scarce_copy_is_whole : (n : ℕ) (q : Payload) → MayChoose s.fixed node c (SendCopy n q) → ((y : Subject) → subject s.fixed node n ≡ Some y → IsScarce y)
       → IsWholeCall s node (SendCopy n q) (copied_by s node n c q).0 (copied_by s node n c q).1

@@ -12,6 +12,7 @@ ghost use Rattle.iox_control_making.specs.Links.{bare, links_between};
 use iox_control::Settings;
 use iox_hub_ports::info::PortInfo;
 use iox_hub_ports::ports::Ports;
+use iox_lanes::expired::Expired;
 use iox_lanes::incoming::Incoming;
 use iox_lanes::pipe::Pipe;
 use iox_model::kind::Role;
@@ -157,10 +158,10 @@ pub fn incoming_of(
 }
 
 /// Room for what a new port keeps from ports that are gone. It fails only for want of memory.
-pub fn expired_of(alloc: Global, settings: Settings, role: Role) -> Result<Incoming, AllocError>
+pub fn expired_of(alloc: Global, settings: Settings, role: Role) -> Result<Expired, AllocError>
     ensures { IfOk result (λ c. c ≡ no_pipes (room_for_gone (settings_of settings) role)) }
 {
-    Incoming::new(alloc, gone_kept(settings, role))
+    Expired::new(alloc, gone_kept(settings, role))
 }
 
 /// The pipes from a new port to each connected port of the other role. It fails only for want of

@@ -12,7 +12,7 @@ use Rattle.iox_lanes.specs.Lanes.{LaneState, is_taken, rank_in, released, with_r
 use Rattle.iox_tables.specs.HubStates.Tables.{HandleState, HubTables, PoolState, PortState, numbers_of, slot_at}
 use Rattle.iox_tables.specs.HubStates.Ways.{lane_on, with_lane_on, with_states_on}
 use Rattle.iox_tables.specs.HubStates.Ends.{dropped_handles, with_dropped}
-use Rattle.iox_tables.specs.HubStates.Releases.{pending_states, request_of}
+use Rattle.iox_tables.specs.HubStates.Releases.{pending_states, request_of, way_to_client}
 use Rattle.iox_tables.specs.HubStates.Wirings.{IsHandle}
 use Rattle.iox_slots.specs.Pools.{with_slot}
 use Rattle.iox_slots.specs.Slots.{let_go}
@@ -34,7 +34,7 @@ use Rattle.iox_tables.proofs.HubBooks.Used.{handle_is}
 use Rattle.iox_tables.proofs.HubKeeping.Ordered.{each_used, names_apart}
 use Rattle.iox_control.specs.Controls.{AreCounted, ControlState, IsControl}
 use Rattle.iox_control.proofs.RoomLemmas.{lane_seats, room_as, seats_of, states_seats}
-use Rattle.iox_control_releasing.specs.Endings.{given_up_as, own_way, with_ended}
+use Rattle.iox_control_releasing.specs.Endings.{given_up_as, with_ended}
 use Rattle.iox_slots.proofs.BareLemmas.{let_go_bare}
 use Rattle.std.proofs.lemmas.Bool.{or_parts}
 use Rattle.iox_tables.proofs.HubBooks.Left.{total_ones}
@@ -147,7 +147,7 @@ more_received k = if is_received k then 1 else 0
 
 gives_up : (t : HubTables) (h : HandleState) (k : Kind) → GivesUp t (given_up_as k t h).ports (more_received k)
 gives_up t h kinds.PendingResponse = states_up t t.ports (request_of t h) 0 (pending_states t h) (nothing_up t)
-gives_up t h kinds.ActiveRequest = states_up t (with_lane_on (λ l. released l h.slot) t.ports (way_in t.pools h)) (request_of t h) 1 (own_way t h ∷ []) (back_up t h.slot (way_in t.pools h))
+gives_up t h kinds.ActiveRequest = states_up t (with_lane_on (λ l. released l h.slot) t.ports (way_in t.pools h)) (request_of t h) 1 (way_to_client t h ∷ []) (back_up t h.slot (way_in t.pools h))
 gives_up t h kinds.Response = back_up t h.slot (way_in t.pools h)
 gives_up t h kinds.Client = nothing_up t
 gives_up t h kinds.Server = nothing_up t
@@ -212,7 +212,7 @@ one_of_both kinds.ResponseMut = omega arith
 in_order : (t : HubTables) (h : HandleState) (pools : List (Option PoolState)) → AreInOrder t → IsHandle t h.node h.number h → HasOneHolderLess t.pools pools h
     → (k : Kind) → h.kind ≡ k → AreInOrder (record (with_dropped (given_up_as k t h) h.node h.number) { pools = pools })
 in_order t h pools order named fewer kinds.PendingResponse e = pending_releases_keep_order t h.node h.number h pools order named e fewer
-in_order t h pools order named fewer kinds.ActiveRequest e = request_releases_keep_order t h.node h.number h (own_way t h) pools order named (ap is_received e) fewer
+in_order t h pools order named fewer kinds.ActiveRequest e = request_releases_keep_order t h.node h.number h (way_to_client t h) pools order named (ap is_received e) fewer
 in_order t h pools order named fewer kinds.Response e = response_releases_keep_order t h.node h.number h pools order named (ap is_received e) fewer
 in_order t h pools order named fewer kinds.Client e = loan_releases_keep_order t h.node h.number h pools order named (ap is_received e) fewer
 in_order t h pools order named fewer kinds.Server e = loan_releases_keep_order t h.node h.number h pools order named (ap is_received e) fewer

@@ -5,14 +5,14 @@ use Rattle.std.specs.Option.{option_map_or}
 use Rattle.std.proofs.Common.{sym, ap, ◌∙◌, true≢false}
 use Rattle.std.proofs.lemmas.Option.{none-some}
 use Rattle.iox_laws.proofs.WeaveLaws.MapLemmas.{eqb-refl}
-use Rattle.iox_tables.specs.HubStates.Tables.{HubTables, PoolState, PortState, owner_of, pool_at, port_in}
+use Rattle.iox_tables.specs.HubStates.Tables.{HubTables, PoolState, PortState, owner_of, pool_at, port_in, is_free}
 use Rattle.iox_tables.specs.HubStates.Steps.{is_there}
 use Rattle.iox_tables.proofs.HubStates.Fixing.{first_key}
 use Rattle.iox_tables.specs.HubBooks.Hubs.{AreInOrder}
 use Rattle.iox_tables.specs.HubBooks.Keeps.{bare_pools}
 use Rattle.iox_tables.proofs.HubBooks.Structures.{pool_before}
 use Rattle.iox_slots.specs.Pools.{is_idle, with_slot, without_pool}
-use Rattle.iox_slots.specs.Slots.{is_free, let_go}
+use Rattle.iox_slots.specs.Slots.{let_go}
 use Rattle.iox_slots.proofs.PlaceLemmas.{removed_pool}
 use Rattle.iox_control_releasing.specs.Goings.{KeptPools, NoLeftPool, with_left_pool_gone}
 use Rattle.iox_slots.proofs.BareLemmas.{let_go_bare}

@@ -8,8 +8,8 @@ use Rattle.iox_model.specs.declared.kind.Kind.{Kind}
 use Rattle.iox_model.specs.declared.kind.Kind.TheVariants as kinds
 use Rattle.iox_model.specs.Messages.{closed_for}
 use Rattle.iox_lanes.specs.Lanes.{released}
-use Rattle.iox_tables.specs.HubStates.Tables.{HandleState, HubTables, PoolState, SlotState, pool_at, slot_at, slots_of}
-use Rattle.iox_tables.specs.HubStates.Releases.{pending_states, request_of, with_value_released}
+use Rattle.iox_tables.specs.HubStates.Tables.{HandleState, HubTables, PoolState, SlotState, pool_at, slot_at, slots_of, is_free}
+use Rattle.iox_tables.specs.HubStates.Releases.{pending_states, request_of, with_value_released, way_to_client}
 use Rattle.iox_tables.specs.HubStates.Steps.{is_there}
 use Rattle.iox_tables.specs.HubStates.Ways.{with_lane_on}
 use Rattle.iox_tables.specs.HubBooks.Handles.{way_in}
@@ -17,10 +17,10 @@ use Rattle.iox_tables.specs.HubBooks.Keeps.{bare_pools}
 use Rattle.iox_tables.proofs.HubBooks.Frames.{AreAlike, lane_on_bare, port_bare, states_on_bare}
 use Rattle.iox_tables.proofs.HubBooks.Going.{same_there}
 use Rattle.iox_slots.specs.Pools.{with_slot}
-use Rattle.iox_slots.specs.Slots.{is_free, let_go, slot_in}
+use Rattle.iox_slots.specs.Slots.{let_go, slot_in}
 use Rattle.iox_slots.proofs.CallerLemmas.{slot_elsewhere}
 use Rattle.iox_slots.proofs.PlaceLemmas.{idle_holders}
-use Rattle.iox_control_releasing.specs.Endings.{given_up_as, own_way, with_ended}
+use Rattle.iox_control_releasing.specs.Endings.{given_up_as, with_ended}
 use Rattle.iox_control_releasing.specs.Goings.{KeptPools, NoLeftPool, StaysTidy}
 use Rattle.iox_control_releasing.proofs.Ended.{bare_back}
 use Rattle.iox_control_releasing.proofs.Kept.{kept_bare}
@@ -53,7 +53,7 @@ none_more t u place kept left had none q at idle =
 up_alike : (t : HubTables) (h : HandleState) (k : Kind) → AreAlike t.ports (given_up_as k t h).ports
 up_alike t h kinds.PendingResponse = states_on_bare (λ r. closed_for r (request_of t h)) t.ports (pending_states t h)
 up_alike t h kinds.ActiveRequest =
-    states_on_bare (λ r. closed_for r (request_of t h)) (with_lane_on (λ l. released l h.slot) t.ports (way_in t.pools h)) (own_way t h ∷ [])
+    states_on_bare (λ r. closed_for r (request_of t h)) (with_lane_on (λ l. released l h.slot) t.ports (way_in t.pools h)) (way_to_client t h ∷ [])
     ∙ lane_on_bare (λ l. released l h.slot) (bare_back h.slot) t.ports (way_in t.pools h)
 up_alike t h kinds.Response = lane_on_bare (λ l. released l h.slot) (bare_back h.slot) t.ports (way_in t.pools h)
 up_alike t h kinds.Client = refl

@@ -6,19 +6,15 @@ use Rattle.iox_model.specs.Messages.{closed_for, response_way}
 use Rattle.iox_tables.specs.HubStates.Tables.{HandleState, HubTables}
 use Rattle.iox_tables.specs.HubStates.Changes.{with_states}
 use Rattle.iox_tables.specs.HubStates.Ends.{with_dropped}
-use Rattle.iox_tables.specs.HubStates.Releases.{lane_of, pending_states, request_of, with_given_back, with_request_closed}
+use Rattle.iox_tables.specs.HubStates.Releases.{lane_of, pending_states, request_of, with_given_back, with_request_closed, way_to_client}
 use Rattle.iox_tables.specs.HubBooks.Handles.{way_in}
-
--- the way whose request state is that of the handle's request
-abbrev pub own_way : HubTables → HandleState → Way
-own_way t h = response_way h.client (lane_of t h) h.port
 
 -- as a handle of that kind is given up, a received message is given back, and a request is closed
 -- whose pending response or active request it was
 abbrev pub given_up_as : Kind → HubTables → HandleState → HubTables
 given_up_as kinds.PendingResponse t h =
     with_states (λ r. closed_for r (request_of t h)) t (pending_states t h)
-given_up_as kinds.ActiveRequest t h = with_request_closed t (way_in t.pools h) (own_way t h) h
+given_up_as kinds.ActiveRequest t h = with_request_closed t (way_in t.pools h) (way_to_client t h) h
 given_up_as kinds.Response t h = with_given_back t (way_in t.pools h) h
 given_up_as kinds.Client t h = t
 given_up_as kinds.Server t h = t

@@ -6,6 +6,7 @@ ghost use Rattle.iox_control_releasing.specs.LettingGo.{LetsGo};
 
 use iox_control::Control;
 use iox_hub_ports::port::Port;
+use iox_lanes::expired::Expired;
 use iox_lanes::incoming::Incoming;
 use iox_lanes::lane::Lane;
 use iox_lanes::pipe::Pipe;
@@ -47,6 +48,18 @@ fn let_pipes_go(control: &mut Control, incoming: Incoming)
     }
 }
 
+/// Lets go of all messages on the pipes from ports that are gone.
+fn let_expired_go(control: &mut Control, expired: Expired)
+    ensures left { control.new ≡ with_pools control.old control.new.tables.pools }
+    ensures fewer { LetsGo control.old.tables.pools control.new.tables.pools
+        (λ pool k. total (in_pipe (lane_count pool k)) expired.pipes) }
+{
+    let mut expired = expired;
+    while let Some(pipe) = expired.take_pipe() {
+        let_pipe_go(control, pipe);
+    }
+}
+
 /// Lets go of all messages that come to a port, which was taken out: of those from ports that are
 /// gone too.
 pub fn let_port_go(control: &mut Control, port: Port)
@@ -55,6 +68,6 @@ pub fn let_port_go(control: &mut Control, port: Port)
         (λ pool k. in_port (lane_count pool k) port) }
 {
     let (expired, incoming) = port.into_pipes();
-    let_pipes_go(control, expired);
+    let_expired_go(control, expired);
     let_pipes_go(control, incoming);
 }

@@ -21,7 +21,7 @@ use Rattle.iox_model.specs.WholeCalls.{IsWholeCall}
 use Rattle.std.specs.Prelude.{map}
 use Rattle.std.specs.Option.{option_map_or}
 use Rattle.iox_laws.specs.CallFunctions.Answers.{NoneInHand, refusing}
-use Rattle.iox_laws.specs.CallFunctions.Copies.{copied_by, copied_from, copied_of, sent_at_once, to_copy}
+use Rattle.iox_laws.specs.CallFunctions.Copies.{copied_by, copied_from, copied_of, sent_at_once, copied_order}
 use Rattle.iox_laws.specs.CallFunctions.Loans.{handed_out, lent, lent_of_length, lent_unless, request_loan}
 use Rattle.iox_laws.specs.CallFunctions.LoanSends.{requested}
 use Rattle.iox_laws.specs.CallFunctions.Overflows.{sent_over}
@@ -33,7 +33,7 @@ use Rattle.iox_laws.proofs.CallFunctions.Lending.{GoesOn}
 
 module _ (s : State) (node n : ℕ) (c : Choice) (q : Payload) (k : ℕ) (p : Port) (hand : NoneInHand s) where
   abbrev o : Order
-  o = to_copy k q.words
+  o = copied_order k q.words
 
   abbrev pub h : Handle
   h = request_loan s.fixed c p o

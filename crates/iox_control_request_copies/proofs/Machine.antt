@@ -21,7 +21,6 @@ use Rattle.iox_model.specs.WholeCalls.{IsDone, IsWholeCall, UnlessRefused, spent
 use Rattle.iox_laws.proofs.RunLaws.Choices.{something_may_be_chosen}
 use Rattle.iox_laws.specs.CallFunctions.Answers.{NoneInHand, refusing}
 use Rattle.iox_laws.specs.CallFunctions.Calls.{call_by}
-use Rattle.iox_laws.specs.CallFunctions.Copies.{to_copy}
 use Rattle.iox_laws.specs.CallFunctions.Loans.{handed_out, lent_from, lent_unless}
 use Rattle.iox_laws.proofs.CallFunctions.Overflowing.{emptied-same}
 use Rattle.iox_tables.specs.HubStates.Tables.{HubTables, PortState, port_in}
@@ -53,6 +52,7 @@ use Rattle.iox_control_copies.specs.Lends.{FindsDry, IsAskedOf, IsRefused}
 use Rattle.iox_control_copies.proofs.MadeLemmas.{have_messages}
 use Rattle.iox_control_request_copies.specs.Copies.{IsLost}
 use Rattle.iox_control_request_copies.proofs.Leads as leads
+use Rattle.iox_laws.specs.CallFunctions.Copies.{copied_order}
 
 -- ---- a refusal is no loan
 
@@ -153,17 +153,17 @@ module _ (x : Given) (c : ControlState) (node n : ℕ) (q : Payload) (a : Asked)
         is_whole_of s node call does reply s' (leads.whole_if s node n (ch lane) q k mp hand some_lane.1 elements names goes) is
 
     -- a plain loan comes to what its tests say
-    plain_is : plain ≡ (lent_unless (tests_of x t (y lane) k) s (lent_tested handed_out s (ch lane) p.number (loan_shown x t (y lane) (to_copy k q.words)))).0
+    plain_is : plain ≡ (lent_unless (tests_of x t (y lane) k) s (lent_tested handed_out s (ch lane) p.number (loan_shown x t (y lane) (copied_order k q.words)))).0
     plain_is =
-        ap (λ (z : Option Subject). (lent_from handed_out s (ch lane) z (to_copy k q.words)).0) (sym names)
-        ∙ ap (λ (v : Outcome × m.State). v.0) ((so lane).lends handed_out (to_copy k q.words))
+        ap (λ (z : Option Subject). (lent_from handed_out s (ch lane) z (copied_order k q.words)).0) (sym names)
+        ∙ ap (λ (v : Outcome × m.State). v.0) ((so lane).lends handed_out (copied_order k q.words))
 
     -- ---- a test refuses it
 
     refused_plain : (r : Refusal) → tests_of x t (y lane) k ≡ Some r → plain ≡ Tells (replies.Refused r)
     refused_plain r e =
         plain_is
-        ∙ ap (λ (o : Option Refusal). (lent_unless o s (lent_tested handed_out s (ch lane) p.number (loan_shown x t (y lane) (to_copy k q.words)))).0) e
+        ∙ ap (λ (o : Option Refusal). (lent_unless o s (lent_tested handed_out s (ch lane) p.number (loan_shown x t (y lane) (copied_order k q.words)))).0) e
 
     calls_spent : (b : Bool) → nat_le (2 ^ 56) t.calls ≡ b → (r : Refusal) → loan_refusal x t (y lane) k ≡ Some r → IsWholeCall s node call (replies.Refused r) s
     calls_spent true many r e =
@@ -199,14 +199,14 @@ module _ (x : Given) (c : ControlState) (node n : ℕ) (q : Payload) (a : Asked)
 
     passed_plain : loan_refusal x t (y lane) k ≡ None → (b : Bool) → is_pool_dry x t p ≡ b
         → plain
-        ≡ (if b then refusing refusals.OutOfMemory (state_shown x (with_got_back t p)) else handed_out (state_shown x (with_got_back t p)) (loan_shown x t (y lane) (to_copy k q.words))).0
+        ≡ (if b then refusing refusals.OutOfMemory (state_shown x (with_got_back t p)) else handed_out (state_shown x (with_got_back t p)) (loan_shown x t (y lane) (copied_order k q.words))).0
     passed_plain e b dry =
         plain_is
-        ∙ ap (λ (o : Option Refusal). (lent_unless o s (lent_tested handed_out s (ch lane) p.number (loan_shown x t (y lane) (to_copy k q.words)))).0) (tests_pass e)
+        ∙ ap (λ (o : Option Refusal). (lent_unless o s (lent_tested handed_out s (ch lane) p.number (loan_shown x t (y lane) (copied_order k q.words)))).0) (tests_pass e)
         ∙ ap (λ (v : Outcome × m.State). v.0)
-        (with_memory x t (y lane) there handed_out (ch lane) (to_copy k q.words) refl
-        ∙ lent_is x t (y lane) there handed_out (to_copy k q.words) (λ w l at. once_on t order.order x w l at)
-        ∙ ap (λ b. if b then refusing refusals.OutOfMemory (state_shown x (with_got_back t p)) else handed_out (state_shown x (with_got_back t p)) (loan_shown x t (y lane) (to_copy k q.words))) dry)
+        (with_memory x t (y lane) there handed_out (ch lane) (copied_order k q.words) refl
+        ∙ lent_is x t (y lane) there handed_out (copied_order k q.words) (λ w l at. once_on t order.order x w l at)
+        ∙ ap (λ b. if b then refusing refusals.OutOfMemory (state_shown x (with_got_back t p)) else handed_out (state_shown x (with_got_back t p)) (loan_shown x t (y lane) (copied_order k q.words))) dry)
 
     pub dry_whole : (new : ControlState) → FindsDry c (y 0) a new → IsWholeCall s node call (replies.Refused refusals.OutOfMemory) (state_shown x new.tables)
     dry_whole new is =

@@ -24,7 +24,7 @@ use Rattle.iox_model.specs.States as m
 use Rattle.iox_model.specs.WholeCalls.{IsWholeCall}
 use Rattle.iox_laws.proofs.WeaveLaws.MapLemmas.{others_are_all}
 use Rattle.iox_laws.specs.CallFunctions.Calls.{call_by}
-use Rattle.iox_laws.specs.CallFunctions.Copies.{MayCopy, to_copy}
+use Rattle.iox_laws.specs.CallFunctions.Copies.{MayCopy, copied_order}
 use Rattle.iox_laws.specs.CallFunctions.Loans.{request_loan}
 use Rattle.iox_laws.specs.CallFunctions.LoanSends.{MaySend, sending_ways}
 use Rattle.iox_laws.specs.CallFunctions.Overflows.{NotOver}
@@ -111,7 +111,7 @@ module _ (x : Given) (c : ControlState) (node n : ℕ) (q : Payload) (a : Asked)
     Waits = t.settings.request_overflow ≡ true → OnEach (λ w l. length l.waiting ≤ l.buffer) (lane_on t.ports) (request_ways n t.ports)
 
     abbrev loan : ℕ → ℕ → m.Handle
-    loan lane j = request_loan s.fixed (machine.ch x c node n q a order client of_role elements asked lane) (port_of x p) (to_copy j q.words)
+    loan lane j = request_loan s.fixed (machine.ch x c node n q a order client of_role elements asked lane) (port_of x p) (copied_order j q.words)
 
     its_ways : (lane j : ℕ) → sending_ways s.fixed (loan lane j) ≡ request_ways p.number t.ports
     its_ways lane j =
@@ -152,7 +152,7 @@ module _ (x : Given) (c : ControlState) (node n : ℕ) (q : Payload) (a : Asked)
     whole_by lane choice waits reply s' is =
         is_whole_of s node (SendCopy n q) (does lane) reply s'
         (each_copy_is_whole s node n (machine.ch x c node n q a order client of_role elements asked lane) q choice (λ v. refl)
-        (λ j e. subst (λ (z : Option Subject). MayCopy s (machine.ch x c node n q a order client of_role elements asked lane) z (to_copy j q.words))
+        (λ j e. subst (λ (z : Option Subject). MayCopy s (machine.ch x c node n q a order client of_role elements asked lane) z (copied_order j q.words))
         (sym (machine.names x c node n q a order client of_role elements asked)) (may_send lane j waits)))
         is
 

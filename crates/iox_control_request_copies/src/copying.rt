@@ -16,10 +16,10 @@ use crate::losing::lose;
 use crate::sending::lend_and_send;
 use iox_control::Control;
 use iox_control_copies::{Asked, LoanRefusal};
-use iox_control_requests::{Backpressure, is_refused, is_spent};
+use iox_control_requests::{WhenFull, is_refused, is_spent};
 
 /// Whether a server is full at which the client's send fails.
-fn is_failing<B: Backpressure>(control: &Control, client: u64, backpressure: &B) -> bool
+fn is_failing<B: WhenFull>(control: &Control, client: u64, backpressure: &B) -> bool
     ensures { result ≡ fails_for (B.fails backpressure.now) control.now.tables client }
 {
     if control.settings().request_overflow {
@@ -31,7 +31,7 @@ fn is_failing<B: Backpressure>(control: &Control, client: u64, backpressure: &B)
 /// Lends a request of that client, filled, and sends it to all servers at once. All that servers
 /// gave back to the client is got back first. A full server gets nothing, unless its oldest message
 /// is pushed out. Without overflow, a full server may make the send fail: that the caller says.
-pub fn copy_request<B: Backpressure>(
+pub fn copy_request<B: WhenFull>(
     control: &mut Control,
     node: u64,
     client: u64,

@@ -15,4 +15,4 @@ pub use iox_control_copies::{
     fill, lend_request, lend_response, request_may_be_made, response_may_be_made, send_response,
     write,
 };
-pub use iox_control_requests::{ByStrategy, Requested, send_request};
+pub use iox_control_requests::{ByStrategy, Requested, WhenFull, send_request};

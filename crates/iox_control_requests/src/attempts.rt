@@ -13,7 +13,7 @@ ghost use Rattle.iox_control.specs.Entries.{handle_state};
 ghost use Rattle.iox_control_requests.specs.Requests.{is_failing, ways_of};
 ghost use Rattle.iox_control_requests.specs.Requests.{with_request_sent, with_requests_back};
 
-use crate::backpressure::Backpressure;
+use crate::backpressure::WhenFull;
 use crate::sends::send_to_all;
 use crate::servers::is_refused;
 use iox_control::Control;
@@ -22,12 +22,7 @@ use iox_control_retrieving::retrieve_all;
 use iox_handles::Entry;
 
 /// Whether the send of a request of the client fails as the servers are now.
-fn is_to_fail<B: Backpressure>(
-    control: &Control,
-    client: u64,
-    overflow: bool,
-    backpressure: &B,
-) -> bool
+fn is_to_fail<B: WhenFull>(control: &Control, client: u64, overflow: bool, backpressure: &B) -> bool
     ensures { result
         ≡ is_failing (B.fails backpressure.now) overflow control.now.tables.ports client }
 {
@@ -40,7 +35,7 @@ fn is_to_fail<B: Backpressure>(
 /// Sends a client's loaned request, and says to how many servers: first the client gets all back.
 /// Without overflow, a full server may make the send fail. Then the loan ends, and the answer is
 /// `None`.
-pub fn attempt<B: Backpressure>(
+pub fn attempt<B: WhenFull>(
     control: &mut Control,
     entry: Entry,
     overflow: bool,

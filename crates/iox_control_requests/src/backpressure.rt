@@ -7,7 +7,7 @@ use iox_model::way::Way;
 use iox_types::backpressure::BackpressureStrategy;
 
 /// Whether a send fails where the receiver of a way is full.
-pub trait Backpressure {
+pub trait WhenFull {
     ghost fails: { Self → Way → Bool };
 
     fn fails(&self, way: Way) -> bool
@@ -20,7 +20,7 @@ pub struct ByStrategy {
     pub strategy: BackpressureStrategy,
 }
 
-impl Backpressure for ByStrategy {
+impl WhenFull for ByStrategy {
     ghost fails = { λ s way. fails_by_strategy s.strategy };
 
     fn fails(&self, way: Way) -> bool {

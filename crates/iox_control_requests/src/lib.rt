@@ -13,7 +13,7 @@ mod servers;
 pub mod uses;
 
 pub use attempts::attempt;
-pub use backpressure::{Backpressure, ByStrategy};
+pub use backpressure::{ByStrategy, WhenFull};
 pub use counts::is_spent;
 pub use deliveries::deliver_to_all;
 pub use iox_control_retrieving::retrieve_all;

@@ -10,7 +10,7 @@ ghost use Rattle.iox_control.specs.Controls.{IsControl};
 ghost use Rattle.iox_control_requests.specs.Sendings.{AreFailures, IsRequest, reply_of_send, request_outcome, with_lost_released, with_request_ended};
 
 use crate::attempts::attempt;
-use crate::backpressure::Backpressure;
+use crate::backpressure::WhenFull;
 use crate::counts::is_spent;
 use crate::requested::Requested;
 use iox_control::Control;
@@ -19,7 +19,7 @@ use iox_control_ending::end_loan;
 /// Offers a loaned request, whose handle is looked for at the hint first, to all servers: all of
 /// its send but the disconnection of the client, where the loan is lost and nothing else of that is
 /// left.
-pub fn offer_request<B: Backpressure>(
+pub fn offer_request<B: WhenFull>(
     control: &mut Control,
     node: u64,
     number: u64,

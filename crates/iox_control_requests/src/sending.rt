@@ -9,7 +9,7 @@ ghost use Rattle.iox_control.specs.Controls.{IsControl};
 ghost use Rattle.iox_control_releasing.specs.Goings.{KeptPools, StaysTidy};
 ghost use Rattle.iox_control_requests.specs.Sendings.{AreFailures, IsRequest, reply_of_send, request_outcome, with_lost_released, with_request_ended};
 
-use crate::backpressure::Backpressure;
+use crate::backpressure::WhenFull;
 use crate::offering::offer_request;
 use crate::requested::Requested;
 use iox_control::Control;
@@ -18,7 +18,7 @@ use iox_control_releasing::disconnect_if_unused;
 /// Sends a loaned request, whose handle is looked for at the hint first, to all servers, and says
 /// to how many. Where it is lost, the client goes with it, if nothing else of that is left. Whether
 /// the send fails where a server is full, the caller says.
-pub fn send_request<B: Backpressure>(
+pub fn send_request<B: WhenFull>(
     control: &mut Control,
     node: u64,
     number: u64,

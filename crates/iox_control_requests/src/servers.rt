@@ -6,7 +6,7 @@ ghost use Rattle.iox_tables.specs.HubStates.Ways.{lane_on};
 ghost use Rattle.iox_control_requests.specs.Servers.{fails_on, request_ways, server_in};
 ghost use Rattle.iox_model.specs.Messages.{request_way};
 
-use crate::backpressure::Backpressure;
+use crate::backpressure::WhenFull;
 use iox_control::Control;
 use iox_model::kind::Role;
 use iox_model::way::Way;
@@ -36,7 +36,7 @@ pub fn is_server(control: &Control, place: usize) -> bool
 
 /// Whether the server in that place is full, and a send to it fails then.
 #[inline]
-fn is_refused_by<B: Backpressure>(
+fn is_refused_by<B: WhenFull>(
     control: &Control,
     place: usize,
     client: u64,
@@ -58,7 +58,7 @@ fn is_refused_by<B: Backpressure>(
 }
 
 /// Whether a server is full at which a send of the client fails.
-pub fn is_refused<B: Backpressure>(control: &Control, client: u64, backpressure: &B) -> bool
+pub fn is_refused<B: WhenFull>(control: &Control, client: u64, backpressure: &B) -> bool
     ensures { result ≡ list_any (B.fails backpressure.now)
         (full_in (lane_on control.now.tables.ports)
         (request_ways client control.now.tables.ports) []) }

@@ -39,12 +39,13 @@ use Rattle.iox_slots.specs.Pools.{with_slot}
 use Rattle.iox_slots.specs.Slots.{let_go}
 use Rattle.iox_control.specs.Controls.{AreCounted, ControlState, IsControl}
 use Rattle.iox_control.proofs.RoomLemmas.{lanes_seats, room_as}
-use Rattle.iox_control_responses.specs.Responses.{way_to_client, with_handed_over}
+use Rattle.iox_control_responses.specs.Responses.{with_handed_over}
 use Rattle.iox_control_responses.proofs.Lanes.{IsReady, count_pushed, delivers_is, out_at, pushed_is}
 use Rattle.iox_slots.proofs.BareLemmas.{let_go_bare, let_go_one}
 use Rattle.iox_tables.proofs.HubBooks.Left.{one_shorter, room_left}
 use Rattle.iox_tables.proofs.HubBooks.Alike.{loans_stay, own_stays}
 use Rattle.iox_tables.proofs.HubBooks.OneGiven.{gives_bare, gives_spare, once_more}
+use Rattle.iox_tables.specs.HubStates.Releases.{way_to_client}
 
 -- ---- pools
 

@@ -38,12 +38,13 @@ use Rattle.iox_control.specs.Entries.{handle_state}
 use Rattle.iox_control_ending.specs.Endings.{IsLoan, with_ended}
 use Rattle.iox_control_responses.specs.declared.responded.Responded.{Responded}
 use Rattle.iox_control_responses.specs.declared.responded.Responded.TheVariants.{Done, Undelivered}
-use Rattle.iox_control_responses.specs.Responses.{IsFailure, IsResponse, is_shut, is_undelivered, reply_of_send, response_reply, way_to_client, with_handed_over, with_response_ended, with_response_offered, with_response_sent, with_way_emptied}
+use Rattle.iox_control_responses.specs.Responses.{IsFailure, IsResponse, is_shut, is_undelivered, reply_of_send, response_reply, with_handed_over, with_response_ended, with_response_offered, with_response_sent, with_way_emptied}
 use Rattle.iox_control_responses.proofs.HandedOver.{after_bare, handed, handed_is, handed_keeps}
 use Rattle.iox_control_responses.proofs.Lanes.{IsReady}
 use Rattle.iox_control_responses.proofs.Whole.{goes_in_line, goes_over, is_lost, is_skipped, is_whole, server_buffer, the_lane, to_nobody}
 use Rattle.iox_slots.proofs.BareLemmas.{let_go_bare}
 use Rattle.iox_tables.proofs.HubMaking.Releases.{released_calls, released_later, released_pools}
+use Rattle.iox_tables.specs.HubStates.Releases.{way_to_client}
 
 no_port_stays : (g : LaneState → LaneState) (ports : List PortState) (ws : List Way) (n : ℕ) → AreAlike ports (with_lanes_on g ports ws) → port_in ports n ≡ None → port_in (with_lanes_on g ports ws) n ≡ None
 no_port_stays g ports ws n alike none = step (port_in (with_lanes_on g ports ws) n) refl

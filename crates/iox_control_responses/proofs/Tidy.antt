@@ -18,8 +18,9 @@ use Rattle.iox_tables.proofs.HubBooks.Frames.{AreAlike, bare_ports, lanes_on_bar
 use Rattle.iox_tables.specs.HubLoans.Questions.{is_named_by_client}
 use Rattle.iox_control_releasing.specs.Goings.{StaysTidy}
 use Rattle.iox_control_releasing.proofs.Loans.{KeepsLeft, loan_ends, loan_port, off_ways}
-use Rattle.iox_control_responses.specs.Responses.{IsResponse, is_shut, way_to_client, with_response_ended, with_response_offered, with_response_sent, with_way_emptied}
+use Rattle.iox_control_responses.specs.Responses.{IsResponse, is_shut, with_response_ended, with_response_offered, with_response_sent, with_way_emptied}
 use Rattle.iox_tables.proofs.HubBooks.OneGiven.{gives_bare}
+use Rattle.iox_tables.specs.HubStates.Releases.{way_to_client}
 
 sent_alike : (t : HubTables) (h : HandleState) → AreAlike t.ports (with_response_sent t h).ports
 sent_alike t h = step (is_named_by_client t h false)

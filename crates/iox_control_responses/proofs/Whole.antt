@@ -30,7 +30,7 @@ use Rattle.iox_tables.specs.HubStates.Tables.{HandleState, HubTables, PortState}
 use Rattle.iox_tables.specs.HubStates.Ways.{lane_on}
 use Rattle.iox_tables.specs.HubStates.Changes.{emptied_lane, with_lanes, with_states, OnEach}
 use Rattle.iox_tables.specs.HubStates.Ends.{with_call, with_dropped}
-use Rattle.iox_tables.specs.HubStates.Releases.{handle_shown, lane_of}
+use Rattle.iox_tables.specs.HubStates.Releases.{handle_shown, lane_of, way_to_client}
 use Rattle.iox_tables.specs.HubStates.Sendings.{IsResponseToSend, response_sending}
 use Rattle.iox_tables.specs.HubStates.Sends.{MaySendFrom}
 use Rattle.iox_tables.specs.HubStates.Shown.{waiting_in}
@@ -54,7 +54,7 @@ use Rattle.iox_tables.specs.HubMaking.WholeReleases.{answering, response_left}
 use Rattle.iox_tables.proofs.HubMaking.Ending.{response_sends_end, response_sends_over_end, unawaited_end}
 use Rattle.iox_hub_ports.specs.Ports.{on_way}
 use Rattle.iox_control.proofs.WholeLemmas.{handle_or, is_whole_of, not_over}
-use Rattle.iox_control_responses.specs.Responses.{way_to_client, with_way_emptied}
+use Rattle.iox_control_responses.specs.Responses.{with_way_emptied}
 
 module _ (t : HubTables) (order : AreInOrder t) (node n : ℕ) (h : HandleState) (named : IsHandle t node n h) (kind : h.kind ≡ ResponseMut)
     (few : t.calls < 2 ^ 56) (x : Given)

@@ -12,7 +12,7 @@ use Rattle.iox_lanes.specs.Lanes.{is_full}
 use Rattle.iox_tables.specs.HubStates.Tables.{HandleState, HubTables, PoolState}
 use Rattle.iox_tables.specs.HubStates.Changes.{emptied_lane, with_lanes}
 use Rattle.iox_tables.specs.HubStates.Ends.{with_call, with_dropped}
-use Rattle.iox_tables.specs.HubStates.Releases.{lane_of}
+use Rattle.iox_tables.specs.HubStates.Releases.{lane_of, way_to_client}
 use Rattle.iox_tables.specs.HubStates.States.{Given, fixed_of}
 use Rattle.iox_tables.specs.HubStates.Wirings.{IsHandle}
 use Rattle.iox_tables.specs.HubBooks.Keeps.{delivers}
@@ -36,10 +36,6 @@ pub record IsResponse (t : HubTables) (node n : ℕ) : Type 0 where
   pub kind : handle.kind ≡ ResponseMut
 
 -- ---- where it goes
-
--- the way of the response to its client
-abbrev pub way_to_client : HubTables → HandleState → Way
-way_to_client t h = response_way h.client (lane_of t h) h.port
 
 -- the response may not wait there: as many wait as may, and none of them is pushed out
 abbrev pub is_shut : HubTables → HandleState → Bool

@@ -1,5 +1,6 @@
 -- The copy of a request, by what it came to: it is one whole call, and leads to a hub.
 use Rattle.std.specs.Prelude.{◌≡◌, ℕ, ◌<◌, ◌≤◌, Bool, true, false, List, [], length, Option, Some, None, refl}
+use Rattle.iox_model.specs.declared.way.Way.{Way}
 use Rattle.std.specs.Option.{option_map, option_map_or}
 use Rattle.std.proofs.Common.{sym, ap, ap₂, subst, ◌∙◌, true≢false}
 use Rattle.std.proofs.lemmas.Option.{none-some}
@@ -9,7 +10,7 @@ use Rattle.iox_model.specs.declared.kind.Role.TheVariants.{Client}
 use Rattle.iox_hub_ports.specs.declared.info.PortInfo.{PortInfo}
 use Rattle.iox_hub_ports.specs.Ports.{info_in, info_of}
 use Rattle.iox_model.specs.Commands.{Payload}
-use Rattle.iox_model.specs.Settings.{Shape, fails_by_strategy, is_client, shape_of}
+use Rattle.iox_model.specs.Settings.{Shape, is_client, shape_of}
 use Rattle.iox_model.specs.WholeCalls.{IsWholeCall}
 use Rattle.iox_tables.specs.HubBooks.Hubs.{AreInOrder}
 use Rattle.iox_tables.proofs.HubBooks.Frames.{AreAlike}
@@ -33,7 +34,9 @@ use Rattle.iox_control_request_copies.specs.Copies.{AreFailuresOf, Copies, IsLen
 use Rattle.iox_hub.specs.Copying.{HasCopied, IsAwaited, LeavesCopied, asked_of_copy, copied_stored, hub_with_copies}
 use Rattle.iox_hub.specs.Fits.{SuitsHandle, WordsFit, are_requests_in, count_in, longest_in}
 use Rattle.iox_hub.specs.Growing.{HasRoomFor}
-use Rattle.iox_hub.specs.Hubs.{HubState, IsHub, given_by, many_in, state_of_hub, with_control}
+use Rattle.iox_backpressure.specs.Failing.{fails_with}
+use Rattle.iox_backpressure.specs.Handlers.{handler_in}
+use Rattle.iox_hub.specs.Hubs.{HubState, IsHub, fails_of, given_by, many_in, state_of_hub, with_control}
 use Rattle.iox_hub.specs.Lending.{payload_of, with_message}
 use Rattle.iox_hub.specs.Reads.{message_in}
 use Rattle.iox_hub.specs.Words.{Carried, stored_in}
@@ -47,7 +50,7 @@ use Rattle.iox_hub.proofs.LendingWords.{requests_new, stored_new}
 use Rattle.iox_hub.proofs.LendingWrites.{changed_is_found, each_changed}
 use Rattle.iox_hub.proofs.Named.{handle_is_value}
 use Rattle.iox_hub.proofs.SendingFits.{request_alike}
-use Rattle.iox_hub.proofs.SendingHubs.{fails_as_told, strategy_told}
+use Rattle.iox_hub.proofs.Handling.{as_told, fails_as_told}
 
 -- a client that a node has is connected
 pub client_is_there : (t : HubTables) (node n : ℕ) → IsClient t node n → (ports : List PortState) → ports ≡ t.ports → (r : Option PortInfo) → r ≡ info_in ports n → r ≡ None → ⊥
@@ -59,31 +62,31 @@ pub record IsCopyCall (h : HubState) (k : ℕ) (ws : List ℕ) (node n : ℕ) (n
   pub client : IsClient h.control.tables node n
   pub reply :
       (p : PortState) → port_in h.control.tables.ports n ≡ Some p
-      → Copies h.control p (asked_of_copy h.request k) (λ w. fails_by_strategy p.strategy) result new
+      → Copies h.control p (asked_of_copy h.request k) (fails_of h p) result new
   pub order : IsControl new
   pub whole :
       (x : Given) → IsWholeCall (state_of_hub x h) node (SendCopy n (payload_of Client k ws)) (reply_of_copy result)
       (state_shown (given_after_copy (given_by x h) (payload_of Client k ws) result) new.tables)
 
 module _ {h : HubState} (hub : IsHub h) (n : ℕ) (ports : List PortState) (here : ports ≡ h.control.tables.ports) (r : Option PortInfo) (found : r ≡ info_in ports n) (info : PortInfo)
-    (some : r ≡ Some info) where
+    (some : r ≡ Some info) (handler : Option (List ℕ)) (said : handler ≡ handler_in h.handlers n) where
   pub copy_call : (a : Asked) (k : ℕ) (ws : List ℕ) (node : ℕ) (new : ControlState) (result : Copied) → a ≡ asked_of_copy h.request k → IsClient h.control.tables node n
-      → ((p : PortState) → port_in h.control.tables.ports n ≡ Some p → Copies h.control p (to_fill a) (λ w. fails_by_strategy info.strategy) result new) → IsControl new
-      → ((x : Given) (q : Payload) → IsAskedOf x.request a → AreFailuresOf x h.control.tables n (λ w. fails_by_strategy info.strategy) → q.role ≡ Client
+      → ((p : PortState) → port_in h.control.tables.ports n ≡ Some p → Copies h.control p (to_fill a) (λ w. fails_with handler info.strategy w.sender w.receiver) result new) → IsControl new
+      → ((x : Given) (q : Payload) → IsAskedOf x.request a → AreFailuresOf x h.control.tables n (λ w. fails_with handler info.strategy w.sender w.receiver) → q.role ≡ Client
       → q.elements ≡ Some a.elements
       → IsWholeCall (state_shown x h.control.tables) node (SendCopy n q) (reply_of_copy result) (state_shown (given_after_copy x q result) new.tables))
       → IsCopyCall h k ws node n new result
   copy_call a k ws node new result same is left order whole = record {
     client = is;
     reply = λ p at.
-        subst (λ s. Copies h.control p (asked_of_copy h.request k) (λ w. fails_by_strategy s) result new)
-        (strategy_told hub hub.reached.0 ports here n r found info some p n refl at)
-        (subst (λ (b : Asked). Copies h.control p (to_fill b) (λ w. fails_by_strategy info.strategy) result new) same (left p at));
+        subst (λ (f : Way → Bool). Copies h.control p (asked_of_copy h.request k) f result new)
+        (as_told h ports here n r found info some handler said p n refl at)
+        (subst (λ (b : Asked). Copies h.control p (to_fill b) (λ w. fails_with handler info.strategy w.sender w.receiver) result new) same (left p at));
     order = order;
     whole = λ x.
         whole (given_by x h) (payload_of Client k ws)
         (subst (IsAskedOf h.request) (sym same) (record { count = refl; layout = refl }))
-        (fails_as_told hub x ports here n r found info some) refl (ap (λ (b : Asked). Some b.elements) (sym same));
+        (fails_as_told h ports here n r found info some handler said x) refl (ap (λ (b : Asked). Some b.elements) (sym same));
   }
 
 module _ {h : HubState} (hub : IsHub h) (k : ℕ) (ws : List ℕ) (node n : ℕ) (new : ControlState) where

@@ -5,16 +5,14 @@ use Rattle.std.proofs.lemmas.Option.{none-some, same_Some}
 use Rattle.iox_model.specs.declared.call.Call.TheVariants.{SendCopy}
 use Rattle.iox_model.specs.declared.kind.Role.TheVariants.{Server}
 use Rattle.iox_model.specs.Commands.{Payload}
-use Rattle.iox_model.specs.declared.way.Way.{Way}
-use Rattle.iox_model.specs.Requests.{fails_at}
-use Rattle.iox_model.specs.Settings.{Shape, fails_by_strategy, is_client, shape_of}
+use Rattle.iox_model.specs.Settings.{Shape, is_client, shape_of}
 use Rattle.iox_model.specs.WholeCalls.{IsWholeCall}
 use Rattle.iox_store.specs.Stored.{Stored, room_with}
 use Rattle.iox_tables.specs.HubBooks.Hubs.{AreInOrder}
 use Rattle.iox_tables.specs.HubLoans.Lenders.{IsActive, Lender, lender_of_response, shape_in}
 use Rattle.iox_tables.specs.HubLoans.Loans.{with_loaned}
 use Rattle.iox_tables.specs.HubStates.Ends.{OfEachHandle}
-use Rattle.iox_tables.specs.HubStates.States.{Given, fixed_of, limits_of, state_shown}
+use Rattle.iox_tables.specs.HubStates.States.{Given, limits_of, state_shown}
 use Rattle.iox_tables.specs.HubStates.Tables.{HandleState, HubTables, PortState, port_in}
 use Rattle.iox_tables.specs.HubStates.Wirings.{handle_in}
 use Rattle.iox_control.specs.Controls.{ControlState, IsControl}
@@ -26,11 +24,13 @@ use Rattle.iox_control_request_copies.specs.Loaned.{Loaned}
 use Rattle.iox_control_request_copies.specs.Place.{Place}
 use Rattle.iox_control_request_copies.specs.LoanRefusal.TheVariants.{WantOfMemory}
 use Rattle.iox_control_request_copies.specs.Lends.{IsAskedOf, IsLoaned, lane_by, on_lane}
-use Rattle.iox_control_request_copies.specs.Responses.{IsFailure, way_to_client}
+use Rattle.iox_control_request_copies.specs.Responses.{IsFailure}
 use Rattle.iox_hub.specs.Copying.{LeavesAnswered, asked_of_copy, copied_stored, hub_with_copies, place_of}
 use Rattle.iox_hub.specs.Fits.{WordsFit, are_requests_in, count_in, longest_in}
 use Rattle.iox_hub.specs.Growing.{HasRoomFor}
-use Rattle.iox_hub.specs.Hubs.{HubState, IsHub, given_by, many_in, state_of_hub, with_control}
+use Rattle.iox_backpressure.specs.Failing.{fails_with}
+use Rattle.iox_backpressure.specs.Handlers.{handler_in}
+use Rattle.iox_hub.specs.Hubs.{HubState, IsHub, fails_of, given_by, many_in, state_of_hub, with_control}
 use Rattle.iox_hub.specs.Lending.{payload_of, with_message}
 use Rattle.iox_hub.specs.Words.{Carried, stored_in}
 use Rattle.iox_hub.proofs.GrowingRoom.{loan_has_room, test_never_wants}
@@ -38,21 +38,22 @@ use Rattle.iox_hub.proofs.CopyingWords.{line_fits, lost_fits, none_there}
 use Rattle.iox_hub.proofs.LendingCalls.{refused_left}
 use Rattle.iox_hub.proofs.LendingGiven.{IsNoUnfilled, filled_unread, given_put, hub_is_left}
 use Rattle.iox_hub.proofs.LendingMade.{back_fits, back_order, lent_requests, lent_within}
-use Rattle.iox_hub.proofs.SendingHubs.{fails_by_its_strategy}
+use Rattle.iox_hub.proofs.Handling.{response_fails, response_said}
+use Rattle.iox_tables.specs.HubStates.Releases.{way_to_client}
 
 -- A copy of so many elements was asked of a hub for that active request, and came to this result.
 pub record IsAnswerCall (h : HubState) (k : ℕ) (ws : List ℕ) (node n : ℕ) (new : ControlState) (result : Answered) : Type 0 where
   pub active : IsActive h.control.tables node n
   pub reply :
       (j : HandleState) → handle_in h.control.tables.handles node n ≡ Some j → (p : PortState) → port_in h.control.tables.ports j.port ≡ Some p
-      → Answers h.control (lender_of_response h.control.tables j p) (asked_of_copy h.response k) (fails_by_strategy p.strategy) result new
+      → Answers h.control (lender_of_response h.control.tables j p) (asked_of_copy h.response k) (fails_of h p (way_to_client h.control.tables j)) result new
   pub order : IsControl new
   pub whole :
       (x : Given) → IsWholeCall (state_of_hub x h) node (SendCopy n (payload_of Server k ws)) (reply_of_copy result)
       (state_shown (given_after_copy (given_by x h) (payload_of Server k ws) result) new.tables)
 
 module _ {h : HubState} (hub : IsHub h) (j : HandleState) (node n : ℕ) (found : Some j ≡ handle_in h.control.tables.handles node n) (fails : Bool)
-    (told : (x : Given) → x.handler j.port ≡ None → (w : Way) → w.sender ≡ j.port → fails_at (fixed_of x h.control.tables) w ≡ fails) where
+    (told : (p : PortState) → port_in h.control.tables.ports j.port ≡ Some p → fails ≡ fails_with (handler_in h.handlers j.port) p.strategy j.port j.client) where
   pub answer_call : (a : Asked) (k : ℕ) (ws : List ℕ) (new : ControlState) (result : Answered) → a ≡ asked_of_copy h.response k → IsActive h.control.tables node n
       → ((j : HandleState) (p : PortState) → handle_in h.control.tables.handles node n ≡ Some j → port_in h.control.tables.ports j.port ≡ Some p
       → Answers h.control (lender_of_response h.control.tables j p) a fails result new) → IsControl new
@@ -64,19 +65,18 @@ module _ {h : HubState} (hub : IsHub h) (j : HandleState) (node n : ℕ) (found 
     active = is;
     reply = λ i at p there.
         subst (λ f. Answers h.control (lender_of_response h.control.tables i p) (asked_of_copy h.response k) f result new)
-        (sym (told (given_by hub.reached.0 h) refl (way_to_client h.control.tables i) (ap (λ (m : HandleState). m.port) (sym (same_Some j i (found ∙ at)))))
-        ∙ fails_by_its_strategy hub hub.reached.0 p (way_to_client h.control.tables i) there)
+        (response_said hub j fails told i (same_Some j i (found ∙ at)) p there)
         (subst (λ b. Answers h.control (lender_of_response h.control.tables i p) b fails result new) same (left i p at there));
     order = order;
     whole = λ x.
         whole j (sym found) (given_by x h) (payload_of Server k ws)
         (subst (IsAskedOf h.response) (sym same) (record { count = refl; layout = refl }))
-        (told (given_by x h) refl (way_to_client h.control.tables j) refl) refl (ap (λ (b : Asked). Some b.elements) (sym same));
+        (response_fails hub j fails told x node n (sym found)) refl (ap (λ (b : Asked). Some b.elements) (sym same));
   }
 
 -- what it comes to at the active request's own port
 pub left_of : {h : HubState} {k : ℕ} {ws : List ℕ} {node n : ℕ} {new : ControlState} {result : Answered} (c : IsAnswerCall h k ws node n new result)
-    → Answers h.control (lender_of_response h.control.tables c.active.handle c.active.port) (asked_of_copy h.response k) (fails_by_strategy c.active.port.strategy) result new
+    → Answers h.control (lender_of_response h.control.tables c.active.handle c.active.port) (asked_of_copy h.response k) (fails_of h c.active.port (way_to_client h.control.tables c.active.handle)) result new
 left_of c = c.reply c.active.handle c.active.named.there c.active.port c.active.there
 
 module _ {h : HubState} (hub : IsHub h) (k : ℕ) (ws : List ℕ) (node n : ℕ) (new : ControlState) where

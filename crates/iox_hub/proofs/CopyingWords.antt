@@ -17,7 +17,7 @@ use Rattle.iox_tables.specs.HubLoans.Slots.{IsUnused}
 use Rattle.iox_tables.proofs.HubLoans.Placed.{slot_is, slot_stays}
 use Rattle.iox_tables.specs.HubStates.Changes.{with_lanes}
 use Rattle.iox_tables.specs.HubStates.Ends.{OfEachHandle, with_call, with_loan}
-use Rattle.iox_tables.specs.HubStates.Tables.{HubTables, PoolState, PortState, SlotState, senders_of}
+use Rattle.iox_tables.specs.HubStates.Tables.{HubTables, PoolState, SlotState, senders_of}
 use Rattle.iox_hub_delivering.proofs.Counted.{gives_bare}
 use Rattle.iox_control_request_copies.specs.Answers.{way_of, with_copy_lost, with_copy_sent}
 use Rattle.iox_control_request_copies.specs.Asked.{Asked}

@@ -3,7 +3,6 @@ use Rattle.std.specs.Prelude.{◌≡◌, ℕ, Bool, true, false, if◌then◌els
 use Rattle.std.specs.Option.{option_map}
 use Rattle.std.proofs.Common.{sym, ap, subst, ◌∙◌, eqb-true}
 use Rattle.std.proofs.lemmas.Option.{none-some, same_Some}
-use Rattle.iox_lanes.specs.Incomings.{IncomingState}
 use Rattle.iox_lanes.specs.Pipes.{PipeState}
 use Rattle.iox_laws.proofs.WeaveLedger.Lists.{number-among}
 use Rattle.iox_model.specs.Maps.{has_number}

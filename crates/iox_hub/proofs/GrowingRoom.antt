@@ -20,7 +20,7 @@ use Rattle.iox_tables.specs.HubLoans.Lenders.{IsActive, IsClient, Lender, calls_
 use Rattle.iox_control.specs.Controls.{ControlState}
 use Rattle.iox_control_request_copies.specs.Asked.{Asked}
 use Rattle.iox_control_request_copies.specs.Loaned.{Loaned}
-use Rattle.iox_control_request_copies.specs.Lends.{IsAskedOf, IsLoaned, IsTold, MayBeMade}
+use Rattle.iox_control_request_copies.specs.Lends.{IsAskedOf, IsLoaned, MayBeMade}
 use Rattle.iox_control_request_copies.proofs.Foretold.{made_may_be}
 use Rattle.iox_hub.specs.declared.words.PoolWords.{PoolWords}
 use Rattle.iox_hub.specs.Fits.{carried_in, longest_in}

@@ -1,5 +1,5 @@
 -- A loan, or a copy, that wants memory is a whole call of a hub, and changes nothing.
-use Rattle.std.specs.Prelude.{◌≡◌, ℕ, Bool, false, List, [], Option, Some, None, refl}
+use Rattle.std.specs.Prelude.{◌≡◌, ℕ, Bool, false, List, [], Some, None, refl}
 use Rattle.std.proofs.Common.{sym, ap, subst}
 use Rattle.iox_model.specs.declared.call.Call.TheVariants.{SendCopy}
 use Rattle.iox_model.specs.declared.kind.Kind.TheVariants as kinds

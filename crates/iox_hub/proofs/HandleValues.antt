@@ -1,14 +1,12 @@
 -- A value of a kind that no port has is a handle: it is looked for there alone.
-use Rattle.std.specs.Prelude.{◌≡◌, ℕ, Bool, true, false, ◌&&◌, ◌↔◌, if◌then◌else◌, ◌==◌, Option, Some, None, IsTrue, not, refl}
-use Rattle.std.specs.Option.{option_map}
-use Rattle.std.proofs.Common.{sym, ap, subst, ◌∙◌, true≢false}
+use Rattle.std.specs.Prelude.{◌≡◌, ℕ, Bool, true, false, ◌&&◌, ◌↔◌, if◌then◌else◌, ◌==◌, Option, Some, None, IsTrue, refl}
+use Rattle.std.proofs.Common.{sym, ap, ◌∙◌, true≢false}
 use Rattle.std.proofs.lemmas.Option.{none-some, same_Some}
 use denote.Enum.Bare.{sameb, same_true, true_same}
 use Rattle.iox_model.specs.contracts.kind.Kind.{the_type}
 use Rattle.iox_model.specs.declared.kind.Kind.{Kind}
 use Rattle.iox_model.specs.declared.kind.Role.{Role}
 use Rattle.iox_model.specs.declared.kind.Role.TheVariants.{Client, Server}
-use Rattle.iox_model.specs.Names.{is_port}
 use Rattle.iox_handles.specs.declared.entry.Entry.{Entry}
 use Rattle.iox_control.specs.Entries.{handle_state}
 use Rattle.iox_tables.specs.HubBooks.Hubs.{AreInOrder}

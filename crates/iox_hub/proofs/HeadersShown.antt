@@ -24,32 +24,33 @@ use Rattle.iox_tables.specs.HubBooks.Handles.{IsOfPort}
 use Rattle.iox_tables.specs.HubBooks.Hubs.{HasPool}
 use Rattle.iox_tables.proofs.HubBooks.Used.{handle_is, used_by_handle}
 use Rattle.iox_hub_ports.specs.Ports.{info_in, info_of}
-use Rattle.iox_hub.specs.Headers.{HasIdsOf, IsHeaderShown, IsIdShown, has_message, header_at, header_in, header_of, id_in, message_at, no_header, sender_in}
+use Rattle.iox_hub.specs.Headers.{HasIdsOf, IsHeaderShown, IsIdShown, header_at, header_in, header_of, id_in, message_at, no_header, sender_in}
 use Rattle.iox_hub.specs.Hubs.{HubState, IsHub, given_by, state_of_hub}
 use Rattle.iox_hub.specs.Reads.{HasOf, message_in}
 use Rattle.iox_hub.specs.Words.{stored_in}
 use Rattle.iox_hub.specs.declared.headers.MessageHeader.{MessageHeader}
 use Rattle.iox_hub.proofs.Named.{found_is_handle}
 use Rattle.iox_hub.proofs.Reading.{low_if_used}
+use Rattle.iox_hub.specs.Sending.{is_handle}
 
 -- ---- what has a message
 
-port_has_none : (r : Role) → has_message (kind_of_role r) ≡ false
+port_has_none : (r : Role) → is_handle (kind_of_role r) ≡ false
 port_has_none Client = refl
 port_has_none Server = refl
 
 -- what has a message is a handle
-pub has_handle : (now : HubState) (node n : ℕ) → HasOf has_message now node n
+pub has_handle : (now : HubState) (node n : ℕ) → HasOf is_handle now node n
     → (k : HandleState) × (handle_in now.control.tables.handles node n ≡ Some k)
 has_handle now node n has =
     step (port_in now.control.tables.ports n) (handle_in now.control.tables.handles node n) refl has
   where
-    held : (p : PortState) (a : Bool) → option_map_or has_message (if a then Some (kind_of_role p.role) else None) false ≡ true → ⊥
+    held : (p : PortState) (a : Bool) → option_map_or is_handle (if a then Some (kind_of_role p.role) else None) false ≡ true → ⊥
     held p true f = true≢false (sym f ∙ port_has_none p.role)
     held p false f = true≢false (sym f)
 
     step : (o : Option PortState) (q : Option HandleState) → handle_in now.control.tables.handles node n ≡ q
-        → option_map_or has_message (kind_by node o q) false ≡ true
+        → option_map_or is_handle (kind_by node o q) false ≡ true
         → (k : HandleState) × (handle_in now.control.tables.handles node n ≡ Some k)
     step (Some p) q at f = absurd (held p (p.held && (p.node == node)) f)
     step None (Some k) at f = (k, at)

@@ -20,7 +20,7 @@ use Rattle.iox_tables.specs.HubStates.Tables.{HandleState, HubTables, PortState,
 use Rattle.iox_tables.specs.HubStates.Changes.{emptied_lane, with_lanes}
 use Rattle.iox_tables.specs.HubStates.Ends.{dropped_handles, with_dropped}
 use Rattle.iox_tables.specs.HubStates.Receives.{got_handle, got_reply, visited_port, visits_at, wanted_by_server, with_got, with_request, with_response, with_visited}
-use Rattle.iox_tables.specs.HubStates.Releases.{pending_states, request_of, with_given_back, with_value_released}
+use Rattle.iox_tables.specs.HubStates.Releases.{pending_states, request_of, with_given_back, with_value_released, way_to_client}
 use Rattle.iox_tables.specs.HubStates.Sendings.{pending_of}
 use Rattle.iox_tables.specs.HubStates.Sends.{with_opened}
 use Rattle.iox_tables.specs.HubStates.Wirings.{IsPending, handle_in}
@@ -33,14 +33,14 @@ use Rattle.iox_control.specs.Controls.{ControlState, IsButHolders, IsControl, wi
 use Rattle.iox_control.specs.declared.received.Received.{Received}
 use Rattle.iox_control.specs.declared.received.Received.TheVariants as received
 use Rattle.iox_control.specs.Replies.{reply_of_receive}
-use Rattle.iox_control_releasing.specs.Endings.{given_up_as, own_way, with_ended}
+use Rattle.iox_control_releasing.specs.Endings.{given_up_as, with_ended}
 use Rattle.iox_control_releasing.specs.Named.{IsHeldPort}
 use Rattle.iox_control_request_copies.specs.Requested.{Requested}
 use Rattle.iox_control_request_copies.specs.Requested.TheVariants.{To, ExceedsMaxActiveRequests, UnableToDeliver}
 use Rattle.iox_control_request_copies.specs.Requests.{ways_of, with_request_sent, with_requests_back}
 use Rattle.iox_control_request_copies.specs.Sendings.{with_lost_released, with_request_ended}
 use Rattle.iox_control_request_copies.specs.Servers.{request_ways}
-use Rattle.iox_control_request_copies.specs.Responses.{is_shut, way_to_client, with_response_ended, with_response_sent, with_way_emptied}
+use Rattle.iox_control_request_copies.specs.Responses.{is_shut, with_response_ended, with_response_sent, with_way_emptied}
 use Rattle.iox_hub.specs.Hubs.{HubState, IsHub, with_control}
 use Rattle.iox_hub.specs.Keeping.{IsNew, IsOther, Keeps, KeepsAll, KeepsOthers}
 use Rattle.iox_hub.specs.Sending.{with_words_left}
@@ -94,7 +94,7 @@ got_is_new {h} hub node v received.AtLimit e = tt
 given_up_owned : (kind : Kind) (t : HubTables) (h : HandleState) → AreOwnedAs t.ports (given_up_as kind t h).ports
 given_up_owned kinds.PendingResponse t h = states_owned (λ r. closed_for r (request_of t h)) t.ports (pending_states t h)
 given_up_owned kinds.ActiveRequest t h =
-    states_owned (λ r. closed_for r (request_of t h)) (with_given_back t (way_in t.pools h) h).ports (own_way t h ∷ [])
+    states_owned (λ r. closed_for r (request_of t h)) (with_given_back t (way_in t.pools h) h).ports (way_to_client t h ∷ [])
     ∙ lanes_owned (λ l. released l h.slot) t.ports (way_in t.pools h ∷ [])
 given_up_owned kinds.Response t h = lanes_owned (λ l. released l h.slot) t.ports (way_in t.pools h ∷ [])
 given_up_owned kinds.Client t h = refl

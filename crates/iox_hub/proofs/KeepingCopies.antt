@@ -11,7 +11,6 @@ use Rattle.iox_tables.specs.HubLoans.Loans.{loaned_handle, with_loaned, with_loa
 use Rattle.iox_tables.specs.HubLoans.Questions.{kind_in}
 use Rattle.iox_tables.specs.HubLoans.Slots.{IsUnused, is_place}
 use Rattle.iox_tables.specs.HubStates.Changes.{emptied_lane, with_lanes}
-use Rattle.iox_tables.specs.HubStates.Ends.{with_call, with_loan}
 use Rattle.iox_tables.specs.HubStates.Sendings.{pending_of}
 use Rattle.iox_tables.specs.HubStates.Tables.{HandleState, HubTables, PortState, port_in, slot_at}
 use Rattle.iox_tables.specs.HubStates.Wirings.{handle_in}

@@ -11,7 +11,7 @@ use Rattle.iox_model.specs.States as m
 use Rattle.iox_hub_ports.specs.declared.info.PortInfo.{PortInfo}
 use Rattle.iox_hub_ports.specs.Ports.{info_in, info_of}
 use Rattle.iox_tables.specs.HubStates.States.{Given, port_of}
-use Rattle.iox_tables.specs.HubStates.Tables.{HandleState, HubTables, PortState, port_in}
+use Rattle.iox_tables.specs.HubStates.Tables.{HubTables, PortState, port_in}
 use Rattle.iox_tables.specs.HubStates.Wirings.{handle_in}
 use Rattle.iox_tables.proofs.HubBooks.Used.{handle_is, used_by_handle}
 use Rattle.iox_tables.proofs.HubStates.Fixing.{find_port}

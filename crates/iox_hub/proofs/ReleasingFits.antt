@@ -10,7 +10,7 @@ use Rattle.iox_model.specs.Messages.{closed_for}
 use Rattle.iox_model.specs.Settings.{is_client}
 use Rattle.iox_tables.specs.HubStates.Tables.{HandleState, HubTables, PoolState, PortState, SlotState, no_slot, pool_at, port_in, slot_at, slots_of}
 use Rattle.iox_tables.specs.HubStates.Ends.{OfEachHandle}
-use Rattle.iox_tables.specs.HubStates.Releases.{pending_states, request_of, with_given_back, with_value_released}
+use Rattle.iox_tables.specs.HubStates.Releases.{pending_states, request_of, with_given_back, with_value_released, way_to_client}
 use Rattle.iox_tables.specs.HubMaking.Disconnections.{cut_from, is_unused, ports_without, with_disconnected, with_released}
 use Rattle.iox_tables.proofs.HubMaking.Disconnecting.{port_left}
 use Rattle.iox_tables.specs.HubBooks.Handles.{way_in}
@@ -18,7 +18,7 @@ use Rattle.iox_tables.specs.HubBooks.Hubs.{AreInOrder}
 use Rattle.iox_tables.specs.HubBooks.Keeps.{bare_pool, bare_slot}
 use Rattle.iox_tables.proofs.HubBooks.Frames.{AreAlike, bare_lane, lanes_on_bare, length_map, port_bare, port_before, states_on_bare}
 use Rattle.iox_tables.proofs.HubBooks.Release.{each_left}
-use Rattle.iox_control_releasing.specs.Endings.{given_up_as, own_way, with_ended}
+use Rattle.iox_control_releasing.specs.Endings.{given_up_as, with_ended}
 use Rattle.iox_control_releasing.specs.Goings.{KeptPools}
 use Rattle.iox_hub.specs.Fits.{GoneFit, SuitsHandle, WordsFit, are_requests_in, count_in, longest_in}
 use Rattle.iox_hub.specs.Words.{Carried, stored_in}
@@ -177,7 +177,7 @@ given_back_alike t h = lanes_on_bare (λ l. released l h.slot) (released_bare h.
 pub given_up_alike : (kind : Kind) (t : HubTables) (h : HandleState) → AreAlike t.ports (given_up_as kind t h).ports
 given_up_alike kinds.PendingResponse t h = states_on_bare (λ r. closed_for r (request_of t h)) t.ports (pending_states t h)
 given_up_alike kinds.ActiveRequest t h =
-    states_on_bare (λ r. closed_for r (request_of t h)) (with_given_back t (way_in t.pools h) h).ports (own_way t h ∷ []) ∙ given_back_alike t h
+    states_on_bare (λ r. closed_for r (request_of t h)) (with_given_back t (way_in t.pools h) h).ports (way_to_client t h ∷ []) ∙ given_back_alike t h
 given_up_alike kinds.Response t h = given_back_alike t h
 given_up_alike kinds.Client t h = refl
 given_up_alike kinds.Server t h = refl

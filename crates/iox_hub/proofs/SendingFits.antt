@@ -7,7 +7,7 @@ use Rattle.iox_tables.specs.HubBooks.Hubs.{AreInOrder}
 use Rattle.iox_tables.specs.HubStates.Tables.{HandleState, HubTables}
 use Rattle.iox_tables.specs.HubStates.Changes.{emptied_lane, with_lanes}
 use Rattle.iox_tables.specs.HubStates.Ends.{OfEachHandle, changed_handles, with_dropped}
-use Rattle.iox_tables.specs.HubStates.Releases.{pending_states, request_of}
+use Rattle.iox_tables.specs.HubStates.Releases.{pending_states, request_of, way_to_client}
 use Rattle.iox_tables.specs.HubStates.Sendings.{pending_of}
 use Rattle.iox_tables.specs.HubStates.Sends.{with_opened}
 use Rattle.iox_tables.specs.HubStates.Wirings.{handle_in}
@@ -24,7 +24,7 @@ use Rattle.iox_control_request_copies.specs.Requested.TheVariants.{To, ExceedsMa
 use Rattle.iox_control_request_copies.specs.Requests.{ways_of, with_request_sent, with_requests_back}
 use Rattle.iox_control_request_copies.specs.Sendings.{with_lost_released, with_request_ended}
 use Rattle.iox_control_request_copies.specs.Servers.{request_ways}
-use Rattle.iox_control_request_copies.specs.Responses.{is_shut, way_to_client, with_response_ended, with_response_offered, with_response_sent, with_way_emptied}
+use Rattle.iox_control_request_copies.specs.Responses.{is_shut, with_response_ended, with_response_offered, with_response_sent, with_way_emptied}
 use Rattle.iox_hub.specs.Fits.{SuitsHandle, WordsFit, is_of_request}
 use Rattle.iox_hub.specs.Words.{Carried}
 use Rattle.iox_hub.proofs.GoneFits.{gone_fit_alike}

@@ -6,12 +6,9 @@ use Rattle.std.proofs.lemmas.Option.{none-some, same_Some}
 use Rattle.iox_model.specs.declared.kind.Kind.{Kind}
 use Rattle.iox_model.specs.declared.kind.Kind.TheVariants as kinds
 use Rattle.iox_model.specs.declared.call.Call.TheVariants.{IsConnected}
-use Rattle.iox_model.specs.declared.way.Way.{Way}
 use Rattle.iox_model.specs.Commands.{Call, Reply, Use}
 use Rattle.iox_model.specs.Names.{is_port, suits}
-use Rattle.iox_model.specs.Requests.{fails_at}
 use Rattle.iox_model.specs.Runs.{OfHub}
-use Rattle.iox_model.specs.Settings.{fails_by_strategy}
 use Rattle.iox_model.specs.WholeCalls.{IsWholeCall}
 use Rattle.iox_laws.proofs.WeaveWorlds.Inductions.{step_is_reached}
 use Rattle.iox_tables.specs.HubStates.Tables.{HandleState, HubTables, PortState, port_in}
@@ -19,7 +16,7 @@ use Rattle.iox_tables.specs.HubStates.Ends.{dropped_handles, with_dropped}
 use Rattle.iox_tables.specs.HubStates.Releases.{with_value_released}
 use Rattle.iox_tables.specs.HubStates.Sendings.{pending_of}
 use Rattle.iox_tables.proofs.HubStates.Keys.{first_changed}
-use Rattle.iox_tables.specs.HubStates.States.{Given, fixed_of}
+use Rattle.iox_tables.specs.HubStates.States.{Given}
 use Rattle.iox_tables.specs.HubStates.Wirings.{IsHandle, handle_in}
 use Rattle.iox_tables.specs.HubLoans.Questions.{kind_by, kind_in, kind_of_role}
 use Rattle.iox_tables.specs.HubMaking.Disconnections.{cut_from, is_unused, with_disconnected, with_released}
@@ -37,7 +34,6 @@ use Rattle.iox_control_request_copies.specs.Requested.TheVariants.{To, ExceedsMa
 use Rattle.iox_control_request_copies.specs.Requests.{ways_of, with_requests_back}
 use Rattle.iox_control_request_copies.specs.Sendings.{IsRequest, with_lost_released, with_request_ended}
 use Rattle.iox_control_request_copies.specs.Responses.{IsResponse, with_response_ended, with_response_sent}
-use Rattle.iox_control_request_copies.proofs.Strategies.{by_strategy}
 use Rattle.iox_hub.specs.Fits.{WordsFit}
 use Rattle.iox_hub.specs.Hubs.{HasValue, HubState, IsHub, given_by, many_in, state_of_hub, with_control}
 use Rattle.iox_hub.specs.Reads.{HasOf}
@@ -123,28 +119,9 @@ hub_goes_on_as h c node call reply hub order fit whole =
       reached = (x, step_is_reached (state_of_hub x h) (state_of_hub x (with_control h c)) (OfHub node (Use call) reply) reached (whole x));
     }
 
--- ---- strategies
-
 -- what such a hub gives beside its tables
 abbrev pub given_of : {h : HubState} → IsHub h → Given → Given
 given_of {h} hub x = given_by x h
-
-module _ {h : HubState} (hub : IsHub h) (x : Given) where
-  abbrev t : HubTables
-  t = h.control.tables
-
-  -- a hub has no handler: a send of the port fails by its strategy
-  pub fails_by_its_strategy : (p : PortState) (w : Way) → port_in t.ports w.sender ≡ Some p → fails_at (fixed_of (given_of hub x) t) w ≡ fails_by_strategy p.strategy
-  fails_by_its_strategy p w at = by_strategy (given_of hub x) t w.sender refl w refl (info_in t.ports w.sender) (info_of p) refl (ap (option_map info_of) at)
-
-  module _ (ports : List PortState) (same : ports ≡ t.ports) (n : ℕ) (r : Option PortInfo) (found : r ≡ info_in ports n) (info : PortInfo) (some : r ≡ Some info) where
-    pub fails_as_told : (w : Way) → w.sender ≡ n → fails_at (fixed_of (given_of hub x) t) w ≡ fails_by_strategy info.strategy
-    fails_as_told w from = by_strategy (given_of hub x) t n refl w from r info (found ∙ ap (λ ps. info_in ps n) same) some
-
-    pub strategy_told : (p : PortState) (m : ℕ) → m ≡ n → port_in t.ports m ≡ Some p → info.strategy ≡ p.strategy
-    strategy_told p m is at =
-        ap (λ (i : PortInfo). i.strategy)
-        (same_Some info (info_of p) (sym some ∙ found ∙ ap (λ ps. info_in ps n) same ∙ ap (info_in t.ports) (sym is) ∙ ap (option_map info_of) at))
 
 -- the handle that is found is the one that is loaned
 pub loan_is_request : (t : HubTables) (node n : ℕ) (h : HandleState) → IsRequest t node n → Some h ≡ handle_in t.handles node n → h.kind ≡ kinds.RequestMut

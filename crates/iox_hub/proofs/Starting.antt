@@ -1,7 +1,7 @@
 -- A hub with no port is one.
 use Rattle.std.specs.Prelude.{◌≡◌, ℕ, ◌≤◌, max, false, [], ◌∷◌, List, Option, None, refl}
 use Rattle.std.proofs.Common.{sym, subst, ◌∙◌, ap, arith}
-use Rattle.iox_model.specs.declared.backpressure.BackpressureAction.TheVariants.{FollowBackpressureStrategy}
+use Rattle.iox_model.specs.Defaults.{follow}
 use Rattle.iox_model.specs.Joins.{new_node}
 use Rattle.iox_model.specs.Runs.{IsReachableState}
 use Rattle.iox_model.specs.Settings.{IsShape, Shape}
@@ -14,6 +14,7 @@ use Rattle.iox_hub.proofs.Fitting.{fits_none}
 use Rattle.iox_hub.specs.Hubs.{HubState, IsHub, given_by, state_of_hub}
 use Rattle.iox_hub.specs.Starts.{new_hub, started}
 use Rattle.iox_hub.specs.Words.{Carried}
+use Rattle.iox_backpressure.specs.Handlers.{PortWords}
 
 -- at least one message may wait on each lane
 pub buffers_are_had : (s t : HubSettings) → t ≡ started s → HaveBuffers t
@@ -26,7 +27,7 @@ buffers_are_had s t is = subst HaveBuffers (sym is) (record { requests = one_at_
 abbrev given_first : Shape → Shape → Given
 given_first request response = record {
   members = record { nodes = new_node 0 no_id ∷ []; joins = 1; closed = false };
-  acts = λ words sender receiver. FollowBackpressureStrategy;
+  acts = follow;
   handler = λ n. None;
   request = request;
   response = response;
@@ -49,10 +50,11 @@ new_is_reached s request response request_is response_is =
       response = response_is;
     })
 
-pub hub_starts : (s t : HubSettings) (request response : Shape) (c : ControlState) (words : List (Option Carried)) → t ≡ started s → c ≡ new_control t
+pub hub_starts : (s t : HubSettings) (request response : Shape) (c : ControlState) (words : List (Option Carried))
+    (handlers : List PortWords) → t ≡ started s → c ≡ new_control t
     → (HaveBuffers t → IsControl c) → IsShape request → IsShape response → words ≡ []
-    → IsHub (record { control = c; words = words; request = request; response = response })
-hub_starts s t request response c words settings made order request_is response_is none =
+    → handlers ≡ [] → IsHub (record { control = c; words = words; request = request; response = response; handlers = handlers })
+hub_starts s t request response c words handlers settings made order request_is response_is none nobody =
     let is : c ≡ new_control (started s) = made ∙ ap new_control settings in
     record {
       control = order (buffers_are_had s t settings);
@@ -60,8 +62,9 @@ hub_starts s t request response c words settings made order request_is response_
       reached = (
         given_first request response,
         subst (λ (h : HubState). IsReachableState (state_of_hub (given_first request response) h))
-            (ap (λ (d : ControlState). record { control = d; words = []; request = request; response = response }) (sym is)
-            ∙ ap (λ (ws : List (Option Carried)). record { control = c; words = ws; request = request; response = response }) (sym none))
+            (ap (λ (d : ControlState). record { control = d; words = []; request = request; response = response; handlers = [] }) (sym is)
+            ∙ ap (λ (ws : List (Option Carried)). record { control = c; words = ws; request = request; response = response; handlers = [] }) (sym none)
+            ∙ ap (λ (hs : List PortWords). record { control = c; words = words; request = request; response = response; handlers = hs }) (sym nobody))
             (new_is_reached s request response request_is response_is),
       );
     }

@@ -1,5 +1,5 @@
 -- Whether a node still has what a handle of some kind stands for is told by the kind of its handle.
-use Rattle.std.specs.Prelude.{◌≡◌, ℕ, Bool, true, false, ◌||◌, if◌then◌else◌, ◌==◌, Option, Some, None, refl}
+use Rattle.std.specs.Prelude.{◌≡◌, ℕ, Bool, true, false, ◌||◌, if◌then◌else◌, ◌==◌, Option, Some, refl}
 use Rattle.std.specs.Option.{option_map_or}
 use Rattle.std.proofs.Common.{sym, ap, ◌∙◌, eqb-true, true≢false}
 use denote.Enum.Bare.{sameb, same_true, true_same}

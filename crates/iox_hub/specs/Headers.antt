@@ -1,11 +1,9 @@
 -- Who sent the message of a handle, and which port has which id.
-use Rattle.std.specs.Prelude.{◌≡◌, ℕ, Bool, not, List, Option, Some, None, IsSome}
+use Rattle.std.specs.Prelude.{◌≡◌, ℕ, List, Option, Some, None, IsSome}
 use Rattle.std.specs.Option.{option_map, option_map_or}
 use Rattle.iox_types.specs.declared.identifiers.system_id.UniqueSystemId.{UniqueSystemId}
-use Rattle.iox_model.specs.declared.kind.Kind.{Kind}
 use Rattle.iox_model.specs.Handles.{subject}
 use Rattle.iox_model.specs.Messages.{Message}
-use Rattle.iox_model.specs.Names.{is_port}
 use Rattle.iox_model.specs.Peers.{port_at}
 use Rattle.iox_model.specs.States.{State}
 use Rattle.iox_laws.specs.MessageLaws.Sendings.{own_message}
@@ -90,7 +88,3 @@ pub record IsHeaderShown (h : HubState) (node n : ℕ) : Type 0 where
       (x : Given) → option_map header_of (message_at (state_of_hub x h) node n) ≡ Some (header_in h node n)
   pub ids : HasIdsOf (header_in h node n) h (sender_in h node n)
   pub elements : (header_in h node n).elements ≡ (message_in h node n).elements
-
--- a handle of this kind has a message; the others are ports
-abbrev pub has_message : Kind → Bool
-has_message kind = not (is_port kind)

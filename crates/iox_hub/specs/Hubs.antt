@@ -1,34 +1,40 @@
 -- A hub, as its callers see it, and the state that it shows.
-use Rattle.std.specs.Prelude.{◌≡◌, ℕ, Bool, false, List, [], Option, None, Some, ⊤}
-use Rattle.iox_model.specs.declared.backpressure.BackpressureAction.TheVariants.{FollowBackpressureStrategy}
+use Rattle.std.specs.Prelude.{◌≡◌, ℕ, Bool, false, List, [], Option, Some, ⊤}
 use Rattle.iox_model.specs.declared.kind.Kind.{Kind}
+use Rattle.iox_model.specs.declared.way.Way.{Way}
 use Rattle.iox_model.specs.Runs.{IsReachableState}
 use Rattle.iox_model.specs.Settings.{Shape}
 use Rattle.iox_model.specs.States.{State}
 use Rattle.iox_tables.specs.HubStates.States.{Given, state_shown}
-use Rattle.iox_tables.specs.HubStates.Tables.{HubTables}
+use Rattle.iox_tables.specs.HubStates.Tables.{HubTables, PortState}
 use Rattle.iox_tables.specs.HubLoans.Questions.{kind_in}
 use Rattle.iox_control.specs.Controls.{ControlState, IsControl}
 use Rattle.iox_control.specs.declared.received.Received.{Received}
 use Rattle.iox_control.specs.declared.received.Received.TheVariants.{Handle, Nothing, AtLimit}
+use Rattle.iox_backpressure.specs.Answers.{action_in}
+use Rattle.iox_backpressure.specs.Failing.{fails_with}
+use Rattle.iox_backpressure.specs.Handlers.{PortWords, handler_in}
 use Rattle.iox_hub.specs.Fits.{WordsFit}
 use Rattle.iox_hub.specs.Words.{Carried, stored_in}
 
--- The tables of a hub, what the messages of its pools carry, by place, and what messages are made of.
+-- The tables of a hub, what the messages of its pools carry, by place, what messages are made of, and
+-- the ports that have a handler, with its words.
 pub record HubState : Type 0 where
   pub control : ControlState
   pub words : List (Option Carried)
   pub request : Shape
   pub response : Shape
+  pub handlers : List PortWords
 
 -- the same with other tables
 abbrev pub with_control : HubState → ControlState → HubState
 with_control h c = record h { control = c }
 
--- what a hub gives beside its tables: no handler, its shapes, and the words of its messages
+-- what a hub gives beside its tables: its handlers, its shapes, and the words of its messages
 abbrev pub given_by : Given → HubState → Given
 given_by x h = record x {
-  handler = λ n. None;
+  acts = action_in;
+  handler = handler_in h.handlers;
   request = h.request;
   response = h.response;
   user = λ pool k. (stored_in h.words pool k).user;
@@ -36,8 +42,7 @@ given_by x h = record x {
   filled = λ pool k. (stored_in h.words pool k).filled;
 }
 
--- The state that a hub shows. It lacks the nodes of its service, and what handlers would answer: these
--- are given.
+-- The state that a hub shows. It lacks the nodes of its service: these are given.
 abbrev pub state_of_hub : Given → HubState → State
 state_of_hub x h = state_shown (given_by x h) h.control.tables
 
@@ -45,8 +50,8 @@ state_of_hub x h = state_shown (given_by x h) h.control.tables
 abbrev pub nothing_given : HubState → Given
 nothing_given h = record {
   members = record { nodes = []; joins = 0; closed = false };
-  acts = λ handler sender receiver. FollowBackpressureStrategy;
-  handler = λ port. None;
+  acts = action_in;
+  handler = handler_in h.handlers;
   request = h.request;
   response = h.response;
   user = λ pool k. [];
@@ -67,6 +72,11 @@ pub record IsHub (h : HubState) : Type 0 where
   pub control : IsControl h.control
   pub words : WordsFit (many_in h) h.words h.control.tables
   pub reached : IsReached h
+
+-- whether a send of the port on this way fails where its receiver is full: its handler says so, if it
+-- has one, and else its strategy
+abbrev pub fails_of : HubState → PortState → Way → Bool
+fails_of h p w = fails_with (handler_in h.handlers p.number) p.strategy w.sender w.receiver
 
 -- The node has a port or a handle of that number and kind, which is not released.
 abbrev pub HasValue : HubState → ℕ → ℕ → Kind → Type 0

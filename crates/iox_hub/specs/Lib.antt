@@ -15,7 +15,10 @@ pub mod Listings
 pub mod Cleaning
 pub mod Fillings
 pub mod Copying
--- what clauses of hubs cite of the calls of its tables, for the crates above
+-- what clauses of hubs cite of handlers and of the calls of its tables, for the crates above
+pub use Rattle.iox_backpressure.specs.Answers as HandlerWords
+pub use Rattle.iox_backpressure.specs.Failing
+pub use Rattle.iox_backpressure.specs.Handlers
 pub use Rattle.iox_control.specs.declared.received.Received
 pub use Rattle.iox_control.specs.Replies
 pub use Rattle.iox_control.specs.Settings

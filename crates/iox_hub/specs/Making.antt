@@ -1,16 +1,14 @@
 -- A port is made in a hub: what is asked, what is answered, and what the hub is then.
-use Rattle.std.specs.Prelude.{◌≡◌, ℕ, ◌==◌, Bool, false, not, ◌&&◌, List, Option, Some, None, Result, Ok, Err, max, min, unwrap_or}
+use Rattle.std.specs.Prelude.{◌≡◌, ℕ, ◌==◌, false, List, Option, Some, None, Result, Ok, Err, max, min}
 use Rattle.iox_types.specs.declared.identifiers.system_id.UniqueSystemId.{UniqueSystemId}
-use Rattle.iox_types.specs.declared.backpressure.AllocationStrategy.{AllocationStrategy}
 use Rattle.iox_model.specs.declared.kind.Role.{Role}
 use Rattle.iox_model.specs.declared.kind.Role.TheVariants.{Client, Server}
 use Rattle.iox_model.specs.declared.reply.Reply.TheVariants.{Refused}
 use Rattle.iox_model.specs.Commands as machine
 use Rattle.iox_model.specs.Commands.{Create, Reply}
 use Rattle.iox_model.specs.Makings.{IsHubCommand, is_large, port_reply}
-use Rattle.iox_model.specs.Settings.{Shape, is_client, is_static}
+use Rattle.iox_model.specs.Settings.{Shape, is_client}
 use Rattle.iox_store.specs.Stored.{new_contents}
-use Rattle.iox_tables.specs.HubStates.Tables.{HubSettings}
 use Rattle.iox_tables.specs.HubStates.States.{Given, limits_of}
 use Rattle.iox_control_making.specs.declared.asked.NotMade.{NotMade}
 use Rattle.iox_control_making.specs.Making.{refusal_of}
@@ -24,16 +22,20 @@ use Rattle.iox_hub.specs.Words.{Carried}
 
 -- ---- what is asked
 
--- the options of the machine: no handler is set
-abbrev pub options_of : Options → machine.Options
-options_of o = record {
+-- the options of the machine, with a handler of these words, or with none
+abbrev pub options_with : Options → Option (List ℕ) → machine.Options
+options_with o handler = record {
   max_slice_len = o.max_slice_len;
   pool = o.pool;
   strategy = o.strategy;
   allocation = o.allocation;
   loaned_responses = o.loaned_responses;
-  handler = None;
+  handler = handler;
 }
+
+-- the same with none
+abbrev pub options_of : Options → machine.Options
+options_of o = options_with o None
 
 -- The form is that of messages of this shape.
 pub record IsFormOf (form : Form) (x : Shape) : Type 0 where
@@ -65,12 +67,14 @@ abbrev pub reply_of_making : Role → Result ℕ NotMade → Reply
 reply_of_making role (Ok n) = port_reply role n
 reply_of_making role (Err r) = Refused (refusal_of role r)
 
--- The making is one command of the machine, with this answer, whatever there is besides.
+-- The making, with a handler of these words or with none, is one command of the machine, with this
+-- answer, whatever there is besides.
 abbrev pub IsWholeMaking :
-    HubState → ℕ → Role → UniqueSystemId → Options → Result ℕ NotMade → HubState → Type 0
-IsWholeMaking h node role id o made h' =
+    HubState → ℕ → Role → UniqueSystemId → Options → Option (List ℕ) → Result ℕ NotMade → HubState
+    → Type 0
+IsWholeMaking h node role id o handler made h' =
     (x : Given)
-    → IsHubCommand (state_of_hub x h) node (Create role id (options_of o))
+    → IsHubCommand (state_of_hub x h) node (Create role id (options_with o handler))
     (reply_of_making role made) (state_of_hub x h')
 
 -- Where there is no memory, each port of each role is refused for that, whatever its options, and

@@ -50,4 +50,5 @@ new_hub settings request response = record {
   words = [];
   request = request;
   response = response;
+  handlers = [];
 }

@@ -15,11 +15,12 @@ ghost use Rattle.iox_hub.specs.Hubs.{HasValue, state_of_hub};
 ghost use Rattle.iox_hub.specs.Reads.{HasOf};
 
 use crate::hub::Hub;
+use iox_backpressure::Backpressure;
 use iox_control_questions::{Asked, NotBegun};
 use iox_store::Payload;
 use iox_words::Words;
 
-impl<Q: Payload, QH: Words, P: Payload, PH: Words> Hub<Q, QH, P, PH> {
+impl<Q: Payload, QH: Words, P: Payload, PH: Words, H: Backpressure> Hub<Q, QH, P, PH, H> {
     /// Whether the request of that pending response, or of that active request, is still open. The
     /// handle is looked for at the hint first.
     pub fn is_connected(&self, node: u64, number: u64, hint: usize) -> bool

@@ -16,6 +16,7 @@ ghost use Rattle.iox_hub.specs.Sending.{HasNothing};
 
 use crate::hub::Hub;
 use crate::listings::START;
+use iox_backpressure::Backpressure;
 use iox_handles::Numbered;
 use iox_model::kind::Kind;
 use iox_store::Payload;
@@ -28,7 +29,7 @@ fn is_port(kind: Kind) -> bool
     matches!(kind, Kind::Client | Kind::Server)
 }
 
-impl<Q: Payload, QH: Words, P: Payload, PH: Words> Hub<Q, QH, P, PH> {
+impl<Q: Payload, QH: Words, P: Payload, PH: Words, H: Backpressure> Hub<Q, QH, P, PH, H> {
     /// Releases the node's value of that number, a port's own or a handle. A handle is looked for
     /// at the hint first.
     fn release_value(&mut self, node: u64, number: u64, hint: usize)

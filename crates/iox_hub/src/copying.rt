@@ -1,10 +1,9 @@
-//! Copies: loan, write and send in one. A hub has no handler: where a receiver is full, the port's
-//! strategy says what comes of a copy.
+//! Copies: loan, write and send in one. Where a receiver is full, the port's handler says what comes
+//! of a copy, and where it has none, its strategy.
 ghost use Rattle.std.specs.Prelude.{◌≡◌, ◌≢◌, Some, flat_map, length};
 ghost use Rattle.iox_model.specs.declared.call.Call.TheVariants.{SendCopy};
 ghost use Rattle.iox_model.specs.declared.kind.Kind.TheVariants.{ActiveRequest, Client};
 ghost use Rattle.iox_model.specs.declared.kind.Role.TheVariants as roles;
-ghost use Rattle.iox_model.specs.Settings.{fails_by_strategy};
 ghost use Rattle.iox_model.specs.WholeCalls.{IsWholeCall};
 ghost use Rattle.iox_tables.specs.HubStates.States.{Given};
 ghost use Rattle.iox_tables.specs.HubStates.Tables.{HandleState, PortState, port_in};
@@ -18,17 +17,18 @@ ghost use Rattle.iox_control_request_copies.specs.LoanRefusal.TheVariants.{WantO
 ghost use Rattle.iox_hub.specs.Growing.{HasRoomFor, WantsRoom};
 ghost use Rattle.iox_hub.specs.Copying as spec;
 ghost use Rattle.iox_hub.specs.Copying.{HasCopied, LeavesAnswered, LeavesCopied, asked_of_copy};
-ghost use Rattle.iox_hub.specs.Hubs.{HasValue, state_of_hub};
+ghost use Rattle.iox_hub.specs.Hubs.{HasValue, fails_of, state_of_hub};
 ghost use Rattle.iox_hub.specs.Keeping.{KeepsAll};
 ghost use Rattle.iox_hub.specs.Lending.{payload_of};
+ghost use Rattle.iox_tables.specs.HubStates.Releases.{way_to_client};
 
+use crate::backpressure::{ByHandler, fails_at_client};
 use crate::copies::{copy_request_in, copy_response_in};
 use crate::growing::let_go;
 use crate::hub::Hub;
 use crate::lending::asked_of;
-use iox_control_request_copies::{
-    Answered, ByStrategy, Copied, LoanRefusal, Place, fails_when_full,
-};
+use iox_backpressure::Backpressure;
+use iox_control_request_copies::{Answered, Copied, LoanRefusal, Place};
 use iox_store::{Payload, Spare};
 use iox_words::Words;
 
@@ -44,7 +44,7 @@ fn place_of(answered: Answered) -> Option<Place>
     }
 }
 
-impl<Q: Payload, QH: Words, P: Payload, PH: Words> Hub<Q, QH, P, PH> {
+impl<Q: Payload, QH: Words, P: Payload, PH: Words, H: Backpressure> Hub<Q, QH, P, PH, H> {
     /// Sends a request of that client with copies of these elements to all servers, where its
     /// message has room for them: its own, or that which is given.
     fn copy_request_in_room(
@@ -61,7 +61,7 @@ impl<Q: Payload, QH: Words, P: Payload, PH: Words> Hub<Q, QH, P, PH> {
         ensures reply { (p : PortState) → port_in self.old.control.tables.ports client ≡ Some p
             → requests.Copies self.old.control p
             (asked_of_copy self.old.request (length values.now))
-            (λ w. fails_by_strategy p.strategy) result self.new.control }
+            (fails_of self.old p) result self.new.control }
         ensures left { LeavesCopied self.old (length values.now)
             (flat_map Q.Element.words values.now) result self.new }
         ensures whole { (x : Given) → IsWholeCall (state_of_hub x self.old) node
@@ -76,7 +76,9 @@ impl<Q: Payload, QH: Words, P: Payload, PH: Words> Hub<Q, QH, P, PH> {
         let Some(port) = self.control.ports().find(client) else {
             unreachable!();
         };
-        let by = ByStrategy {
+        let handler = self.handlers.find(client);
+        let by = ByHandler {
+            handler,
             strategy: port.strategy,
         };
         let asked = asked_of::<Q, QH>(&self.request, values.len(), false);
@@ -121,8 +123,8 @@ impl<Q: Payload, QH: Words, P: Payload, PH: Words> Hub<Q, QH, P, PH> {
             → handle_in self.old.control.tables.handles node number ≡ Some h
             → (p : PortState) → port_in self.old.control.tables.ports h.port ≡ Some p
             → responses.Answers self.old.control (lender_of_response self.old.control.tables h p)
-            (asked_of_copy self.old.response (length values.now)) (fails_by_strategy p.strategy)
-            result
+            (asked_of_copy self.old.response (length values.now))
+            (fails_of self.old p (way_to_client self.old.control.tables h)) result
             self.new.control }
         ensures left { LeavesAnswered self.old (length values.now)
             (flat_map P.Element.words values.now) result self.new }
@@ -136,7 +138,7 @@ impl<Q: Payload, QH: Words, P: Payload, PH: Words> Hub<Q, QH, P, PH> {
         let Some(entry) = self.control.entry(node, number, hint) else {
             unreachable!();
         };
-        let fails = fails_when_full(&self.control, entry.port);
+        let fails = fails_at_client(&self.control, &self.handlers, entry);
         let asked = asked_of::<P, PH>(&self.response, values.len(), false);
         let answered = iox_control_request_copies::copy_response(
             &mut self.control,
@@ -164,7 +166,7 @@ impl<Q: Payload, QH: Words, P: Payload, PH: Words> Hub<Q, QH, P, PH> {
         ensures reply { (p : PortState) → port_in self.old.control.tables.ports client ≡ Some p
             → result ≢ copied.Refused WantOfMemory → requests.Copies self.old.control p
             (asked_of_copy self.old.request (length values.now))
-            (λ w. fails_by_strategy p.strategy) result self.new.control }
+            (fails_of self.old p) result self.new.control }
         ensures left { LeavesCopied self.old (length values.now)
             (flat_map Q.Element.words values.now) result self.new }
         ensures whole { (x : Given) → IsWholeCall (state_of_hub x self.old) node
@@ -201,8 +203,8 @@ impl<Q: Payload, QH: Words, P: Payload, PH: Words> Hub<Q, QH, P, PH> {
             → (p : PortState) → port_in self.old.control.tables.ports h.port ≡ Some p
             → result ≢ answered.Refused WantOfMemory
             → responses.Answers self.old.control (lender_of_response self.old.control.tables h p)
-            (asked_of_copy self.old.response (length values.now)) (fails_by_strategy p.strategy)
-            result
+            (asked_of_copy self.old.response (length values.now))
+            (fails_of self.old p (way_to_client self.old.control.tables h)) result
             self.new.control }
         ensures left { LeavesAnswered self.old (length values.now)
             (flat_map P.Element.words values.now) result self.new }

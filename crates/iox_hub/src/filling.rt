@@ -16,6 +16,7 @@ use crate::filled::{
 };
 use crate::hub::Hub;
 use crate::reads::{requests_in, responses_in};
+use iox_backpressure::Backpressure;
 use iox_control::Control;
 use iox_control_request_copies::{Place, fill};
 use iox_store::Payload;
@@ -31,7 +32,7 @@ fn fill_loan(control: &mut Control, node: u64, number: u64, hint: usize, all: bo
     fill(control, node, number, hint, all)
 }
 
-impl<Q: Payload, QH: Words, P: Payload, PH: Words> Hub<Q, QH, P, PH> {
+impl<Q: Payload, QH: Words, P: Payload, PH: Words, H: Backpressure> Hub<Q, QH, P, PH, H> {
     /// Whether all elements of the loan are filled. Its handle is looked for at the hint first.
     pub fn is_filled(&self, node: u64, number: u64, hint: usize) -> bool
         requires has { HasOf is_loan self.now node number }

@@ -12,6 +12,7 @@ ghost use Rattle.iox_hub.specs.Words.{all_carried};
 use crate::hub::Hub;
 use crate::lending::asked_of;
 use crate::words::PoolWords;
+use iox_backpressure::Backpressure;
 use iox_control_request_copies::{request_may_be_made, response_may_be_made};
 use iox_store::{Payload, Spare};
 use iox_words::Words;
@@ -57,7 +58,7 @@ fn spare_of_responses<QE: Words, QH: Words, PE: Words, PH: Words>(
     }
 }
 
-impl<Q: Payload, QH: Words, P: Payload, PH: Words> Hub<Q, QH, P, PH> {
+impl<Q: Payload, QH: Words, P: Payload, PH: Words, H: Backpressure> Hub<Q, QH, P, PH, H> {
     /// Room for a request of so many elements, if the client's messages have not the room, and
     /// grow. Memory is asked for where the loan would be made, and only there: after all tests.
     pub(crate) fn room_for_request(

@@ -2,10 +2,12 @@
 ghost use Rattle.std.specs.Prelude.{◌≡◌};
 ghost use Rattle.iox_model.specs.Names.{is_port};
 ghost use Rattle.iox_tables.specs.HubStates.States.{no_id};
-ghost use Rattle.iox_hub.specs.Headers.{IsHeaderShown, IsIdShown, has_message, header_at, header_in, id_in};
+ghost use Rattle.iox_hub.specs.Headers.{IsHeaderShown, IsIdShown, header_at, header_in, id_in};
 ghost use Rattle.iox_hub.specs.Reads.{HasOf};
+ghost use Rattle.iox_hub.specs.Sending.{is_handle};
 
 use crate::hub::Hub;
+use iox_backpressure::Backpressure;
 use iox_slots::Pools;
 use iox_store::Payload;
 use iox_types::identifiers::UniqueSystemId;
@@ -57,10 +59,10 @@ fn header_at(pools: &Pools, place: usize, slot: u64) -> MessageHeader
     }
 }
 
-impl<Q: Payload, QH: Words, P: Payload, PH: Words> Hub<Q, QH, P, PH> {
+impl<Q: Payload, QH: Words, P: Payload, PH: Words, H: Backpressure> Hub<Q, QH, P, PH, H> {
     /// The header of the message that the handle has. The handle is looked for at the hint first.
     pub fn message_header(&self, node: u64, number: u64, hint: usize) -> MessageHeader
-        requires has { HasOf has_message self.now node number }
+        requires has { HasOf is_handle self.now node number }
         ensures header { result ≡ header_in self.now node number }
         ensures shown { IsHeaderShown self.now node number }
     {

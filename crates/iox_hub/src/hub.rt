@@ -9,6 +9,7 @@ ghost use Rattle.iox_hub.specs.Starts.{new_hub};
 use crate::settings::started;
 use crate::shape::{MessageShape, known};
 use crate::words::PoolWords;
+use iox_backpressure::{Backpressure, Handlers};
 use iox_control::{Control, Settings};
 use iox_store::Payload;
 use iox_words::Words;
@@ -16,20 +17,21 @@ use std::alloc::{AllocError, Global};
 use std::marker::Model;
 
 /// All ports of a service: requests of `Q` with user headers `QH`, responses of `P` with user
-/// headers `PH`.
+/// headers `PH`. Ports may have handlers of `H`; where they have none, it is the unit.
 ///
 /// A service and its hub can reach the state that a hub shows, so each law of the machine holds of
 /// it.
 #[derive(Drop)]
-pub struct Hub<Q: Payload, QH: Words, P: Payload, PH: Words> {
+pub struct Hub<Q: Payload, QH: Words, P: Payload, PH: Words, H: Backpressure = ()> {
     pub(crate) control: Control,
     // Beside each pool of the tables.
     pub(crate) words: Vec<Option<PoolWords<Q::Element, QH, P::Element, PH>>>,
     pub(crate) request: MessageShape<Q::Element, QH>,
     pub(crate) response: MessageShape<P::Element, PH>,
+    pub(crate) handlers: Handlers<H>,
 }
 
-impl<Q: Payload, QH: Words, P: Payload, PH: Words> Model for Hub<Q, QH, P, PH> {
+impl<Q: Payload, QH: Words, P: Payload, PH: Words, H: Backpressure> Model for Hub<Q, QH, P, PH, H> {
     ghost use Rattle.iox_hub.specs.Hubs.{HubState, IsHub};
     ghost use Rattle.iox_hub.specs.Shapes.{shape_of};
     ghost use Rattle.iox_hub.specs.Words.{all_carried};
@@ -41,6 +43,7 @@ impl<Q: Payload, QH: Words, P: Payload, PH: Words> Model for Hub<Q, QH, P, PH> {
       words = all_carried h.words.items;
       request = shape_of Q.MANY Q.Element.WORDS Q.Element.words QH.words h.request;
       response = shape_of P.MANY P.Element.WORDS P.Element.words PH.words h.response;
+      handlers = h.handlers.list;
     } };
 
     ghost invariant = { λ h. IsHub (record {
@@ -48,10 +51,11 @@ impl<Q: Payload, QH: Words, P: Payload, PH: Words> Model for Hub<Q, QH, P, PH> {
       words = all_carried h.words.items;
       request = shape_of Q.MANY Q.Element.WORDS Q.Element.words QH.words h.request;
       response = shape_of P.MANY P.Element.WORDS P.Element.words PH.words h.response;
+      handlers = h.handlers.list;
     }) };
 }
 
-impl<Q: Payload, QH: Words, P: Payload, PH: Words> Hub<Q, QH, P, PH> {
+impl<Q: Payload, QH: Words, P: Payload, PH: Words, H: Backpressure> Hub<Q, QH, P, PH, H> {
     /// A hub in which no port was made yet. A limit of 0 is raised to 1, but for those of what is
     /// kept of ports that are gone. It fails only for want of memory.
     pub fn new(
@@ -72,6 +76,7 @@ impl<Q: Payload, QH: Words, P: Payload, PH: Words> Hub<Q, QH, P, PH> {
             words: Vec::new(alloc),
             request: known(request),
             response: known(response),
+            handlers: Handlers::new(alloc),
         })
     }
 

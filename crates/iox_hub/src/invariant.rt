@@ -3,10 +3,11 @@ ghost use Rattle.iox_hub.specs.Hubs.{IsHub};
 ghost use Rattle.iox_hub.specs.Shapes.{IsOfType};
 
 use crate::hub::Hub;
+use iox_backpressure::Backpressure;
 use iox_store::Payload;
 use iox_words::Words;
 
-impl<Q: Payload, QH: Words, P: Payload, PH: Words> Hub<Q, QH, P, PH> {
+impl<Q: Payload, QH: Words, P: Payload, PH: Words, H: Backpressure> Hub<Q, QH, P, PH, H> {
     /// The tables are in order, the words fit them, and a service and its hub can reach the state
     /// that is shown. This does nothing: it is there for its contract.
     #[inline]

@@ -21,6 +21,7 @@ use crate::growing::let_go;
 use crate::hub::Hub;
 use crate::layouts::has_layout;
 use crate::shape::MessageShape;
+use iox_backpressure::Backpressure;
 use iox_control_request_copies::{Asked, Lent, LoanRefusal, lend_request, lend_response};
 use iox_store::{Payload, Spare, is_length};
 use iox_words::Words;
@@ -47,7 +48,7 @@ pub(crate) fn asked_of<Q: Payload, H: Words>(
     }
 }
 
-impl<Q: Payload, QH: Words, P: Payload, PH: Words> Hub<Q, QH, P, PH> {
+impl<Q: Payload, QH: Words, P: Payload, PH: Words, H: Backpressure> Hub<Q, QH, P, PH, H> {
     /// Lends a request of that client for so many elements, where its message has room for them:
     /// its own, or that which is given.
     fn lend_request_in_room(

@@ -3,6 +3,7 @@
 #![tactic(auto)]
 
 mod asking;
+mod backpressure;
 mod cleaning;
 mod contents;
 mod copies;
@@ -46,6 +47,9 @@ mod writing;
 
 pub use headers::MessageHeader;
 pub use hub::Hub;
+pub use iox_backpressure::{
+    Always, Backpressure, BackpressureAction, BackpressureInfo, words_tell_answers,
+};
 pub use iox_control::{Received, Settings};
 pub use iox_control_making::NotMade;
 pub use iox_control_questions::{Asked, NotBegun};

@@ -22,6 +22,7 @@ ghost use Rattle.iox_hub.specs.Listings.{role_id, role_ids, role_number};
 ghost use Rattle.iox_hub.specs.Sending.{HasNothing};
 
 use crate::hub::Hub;
+use iox_backpressure::Backpressure;
 use iox_control::Settings;
 use iox_handles::{Numbered, lesser};
 use iox_hub_ports::ports::Ports;
@@ -164,7 +165,7 @@ fn lesser_value(port: Option<Numbered>, handle: Option<Numbered>) -> Option<Numb
     }
 }
 
-impl<Q: Payload, QH: Words, P: Payload, PH: Words> Hub<Q, QH, P, PH> {
+impl<Q: Payload, QH: Words, P: Payload, PH: Words, H: Backpressure> Hub<Q, QH, P, PH, H> {
     /// The numbers and strategies of its service: what the hub was made with, where each limit of 0
     /// is 1, but for those of what is kept of ports that are gone.
     #[inline]

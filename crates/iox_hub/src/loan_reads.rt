@@ -5,10 +5,11 @@ ghost use Rattle.iox_hub.specs.Reads.{HasOf, message_in};
 
 use crate::hub::Hub;
 use crate::reads::{requests_in, responses_in};
+use iox_backpressure::Backpressure;
 use iox_store::Payload;
 use iox_words::Words;
 
-impl<Q: Payload, QH: Words, P: Payload, PH: Words> Hub<Q, QH, P, PH> {
+impl<Q: Payload, QH: Words, P: Payload, PH: Words, H: Backpressure> Hub<Q, QH, P, PH, H> {
     /// The filled elements of a loaned request. Its handle is looked for at the hint first.
     pub fn loaned_request(&self, node: u64, number: u64, hint: usize) -> &[Q::Element]
         requires has { HasOf is_request_loan self.now node number }

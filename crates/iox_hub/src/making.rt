@@ -1,11 +1,14 @@
 //! Ports are made.
 ghost use Rattle.std.specs.Prelude.{ℕ, ◌≡◌, ◌<◌, ◌≤◌, ◌^◌, ◌&&◌, IfOk, IfSome, IsErr, OnErr, OnOk, true, vec_capacity};
+ghost use Rattle.std.specs.Option.{option_map};
 ghost use Rattle.iox_types.specs.Layouts.{as_usize};
 ghost use Rattle.iox_model.specs.declared.kind.Kind.{Kind};
 ghost use Rattle.iox_model.specs.Makings.{worst_pool};
 ghost use Rattle.iox_tables.specs.HubStates.States.{Given, limits_of};
 ghost use Rattle.iox_tables.specs.HubLoans.Questions.{kind_of_role};
 ghost use Rattle.iox_slots.specs.Pools.{place_for_one};
+ghost use Rattle.iox_backpressure.specs.Answers.{shown_by};
+ghost use Rattle.iox_backpressure.specs.Handlers.{handlers_with};
 ghost use Rattle.iox_control_making.specs.Making.{IsAsked};
 ghost use Rattle.iox_hub.specs.Hubs.{HasValue, given_by};
 ghost use Rattle.iox_hub.specs.Keeping.{KeepsAll};
@@ -18,6 +21,7 @@ use crate::hub::Hub;
 use crate::options::Options;
 use crate::pools::{Form, asked_of, worst_pool};
 use crate::words::PoolWords;
+use iox_backpressure::Backpressure;
 use iox_control_making::{Asked, NotMade, make_port};
 use iox_model::kind::Role;
 use iox_slots::Pools;
@@ -68,7 +72,7 @@ fn put<QE: Words, QH: Words, PE: Words, PH: Words>(
     words[place] = Some(new);
 }
 
-impl<Q: Payload, QH: Words, P: Payload, PH: Words> Hub<Q, QH, P, PH> {
+impl<Q: Payload, QH: Words, P: Payload, PH: Words, H: Backpressure> Hub<Q, QH, P, PH, H> {
     /// What the size of a port of that role depends on.
     fn form(&self, role: Role) -> Form
         ensures { IsFormOf result (shape_in self.now role) }
@@ -143,9 +147,9 @@ impl<Q: Payload, QH: Words, P: Payload, PH: Words> Hub<Q, QH, P, PH> {
         }
     }
 
-    /// Makes a port of that role for the node with that id, and tells its number. Where it is
-    /// refused, all stays. Its messages have memory for the greatest length; where they grow, a
-    /// loan past it asks for more.
+    /// Makes a port of that role for the node with that id, with this handler or with none, and
+    /// tells its number. Where it is refused, all stays. Its messages have memory for the greatest
+    /// length; where they grow, a loan past it asks for more.
     pub fn make_port(
         &mut self,
         alloc: Global,
@@ -153,11 +157,16 @@ impl<Q: Payload, QH: Words, P: Payload, PH: Words> Hub<Q, QH, P, PH> {
         role: Role,
         id: UniqueSystemId,
         options: Options,
+        handler: Option<H>,
     ) -> Result<u64, NotMade>
         ensures number { IfOk result (λ n. n ≡ self.old.control.tables.next_number) }
         ensures has { IfOk result (λ n. HasValue self.new node n (kind_of_role role)) }
         ensures allowed { OnOk result (IsAllowed self.old role options) }
-        ensures whole { IsWholeMaking self.old node role id options result self.new }
+        ensures whole { IsWholeMaking self.old node role id options
+            (option_map (shown_by H.action) handler) result self.new }
+        ensures handlers { OnOk result (self.new.handlers
+            ≡ handlers_with self.new.control.tables.ports self.old.control.tables.next_number
+            (option_map (shown_by H.action) handler) self.old.handlers) }
         ensures unchanged { OnErr result (StaysAs self.old self.new) }
         ensures new { IfOk result (λ n. HasNothing self.old node n) }
         ensures keeps { (other : ℕ) (n : ℕ) (kind : Kind) → HasValue self.old other n kind
@@ -181,11 +190,15 @@ impl<Q: Payload, QH: Words, P: Payload, PH: Words> Hub<Q, QH, P, PH> {
         if make_room(&mut self.words, place).is_err() {
             return Err(NotMade::DataSegment);
         }
+        if self.handlers.make_room(handler).is_err() {
+            return Err(NotMade::DataSegment);
+        }
         let number = match make_port(&mut self.control, alloc, node, role, id, asked) {
             Ok(number) => number,
             Err(reason) => return Err(reason),
         };
         put(&mut self.words, place, words);
+        self.handlers.set(self.control.ports(), number, handler);
         Ok(number)
     }
 }

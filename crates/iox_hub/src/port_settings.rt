@@ -8,11 +8,12 @@ ghost use Rattle.iox_hub.specs.Hubs.{state_of_hub};
 ghost use Rattle.iox_hub.specs.Reads.{HasOf};
 
 use crate::hub::Hub;
+use iox_backpressure::Backpressure;
 use iox_store::Payload;
 use iox_types::backpressure::BackpressureStrategy;
 use iox_words::Words;
 
-impl<Q: Payload, QH: Words, P: Payload, PH: Words> Hub<Q, QH, P, PH> {
+impl<Q: Payload, QH: Words, P: Payload, PH: Words, H: Backpressure> Hub<Q, QH, P, PH, H> {
     /// What that client or server, which the node has, does at a full receiver.
     pub fn port_strategy(&self, node: u64, number: u64) -> BackpressureStrategy
         requires has { HasOf is_port self.now node number }

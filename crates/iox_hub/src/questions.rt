@@ -9,10 +9,11 @@ ghost use Rattle.iox_hub.specs.Hubs.{HasValue, state_of_hub, with_control};
 ghost use Rattle.iox_hub.specs.Keeping.{KeepsAll};
 
 use crate::hub::Hub;
+use iox_backpressure::Backpressure;
 use iox_store::Payload;
 use iox_words::Words;
 
-impl<Q: Payload, QH: Words, P: Payload, PH: Words> Hub<Q, QH, P, PH> {
+impl<Q: Payload, QH: Words, P: Payload, PH: Words, H: Backpressure> Hub<Q, QH, P, PH, H> {
     /// Whether a request waits for that server.
     pub fn has_requests(&self, node: u64, server: u64) -> bool
         requires has { HasValue self.now node server Server }

@@ -14,6 +14,7 @@ ghost use Rattle.iox_hub.specs.Words.{all_carried};
 
 use crate::hub::Hub;
 use crate::words::PoolWords;
+use iox_backpressure::Backpressure;
 use iox_handles::Entry;
 use iox_store::{Payload, Store};
 use iox_words::Words;
@@ -49,7 +50,7 @@ pub(crate) fn responses_in<QE: Words, QH: Words, PE: Words, PH: Words>(
     }
 }
 
-impl<Q: Payload, QH: Words, P: Payload, PH: Words> Hub<Q, QH, P, PH> {
+impl<Q: Payload, QH: Words, P: Payload, PH: Words, H: Backpressure> Hub<Q, QH, P, PH, H> {
     /// The node's handle of that number, which it has. It is looked for at the hint first.
     pub(crate) fn handle(&self, node: u64, number: u64, hint: usize) -> Entry
         requires has { (h : HandleState)

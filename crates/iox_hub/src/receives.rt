@@ -9,11 +9,12 @@ ghost use Rattle.iox_hub.specs.Hubs.{HasReceived, HasValue, state_of_hub, with_c
 ghost use Rattle.iox_hub.specs.Keeping.{IsNew, KeepsAll};
 
 use crate::hub::Hub;
+use iox_backpressure::Backpressure;
 use iox_control::Received;
 use iox_store::Payload;
 use iox_words::Words;
 
-impl<Q: Payload, QH: Words, P: Payload, PH: Words> Hub<Q, QH, P, PH> {
+impl<Q: Payload, QH: Words, P: Payload, PH: Words, H: Backpressure> Hub<Q, QH, P, PH, H> {
     /// Receives a request for that server.
     pub fn receive_request(&mut self, node: u64, server: u64) -> Received
         requires has { HasValue self.old node server Server }

@@ -19,6 +19,7 @@ ghost use Rattle.iox_hub.specs.Sending.{HasNothing, is_handle, with_words_left};
 
 use crate::hub::Hub;
 use crate::words::PoolWords;
+use iox_backpressure::Backpressure;
 use iox_handles::Entry;
 use iox_model::kind::Kind;
 use iox_store::Payload;
@@ -50,7 +51,7 @@ fn vacate<QE: Words, QH: Words, PE: Words, PH: Words>(
     }
 }
 
-impl<Q: Payload, QH: Words, P: Payload, PH: Words> Hub<Q, QH, P, PH> {
+impl<Q: Payload, QH: Words, P: Payload, PH: Words, H: Backpressure> Hub<Q, QH, P, PH, H> {
     /// The words beside the pool in that place go, if that pool is gone.
     pub(crate) fn drop_words(&mut self, place: usize)
         ensures left { self.new ≡ with_words_left self.old place }

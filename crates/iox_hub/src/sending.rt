@@ -1,26 +1,28 @@
-//! The sends of loans. A hub has no handler: where a receiver is full, the port's strategy says
-//! what comes of a send.
+//! The sends of loans. Where a receiver is full, the port's handler says what comes of a send, and
+//! where it has none, its strategy.
 ghost use Rattle.std.specs.Prelude.{◌≡◌, ◌<◌, ◌^◌, Some};
 ghost use Rattle.iox_model.specs.declared.call.Call.TheVariants.{Send};
 ghost use Rattle.iox_model.specs.declared.kind.Kind.TheVariants.{RequestMut, ResponseMut};
-ghost use Rattle.iox_model.specs.Settings.{fails_by_strategy};
 ghost use Rattle.iox_model.specs.WholeCalls.{IsWholeCall};
 ghost use Rattle.iox_tables.specs.HubStates.States.{Given};
 ghost use Rattle.iox_tables.specs.HubStates.Tables.{HandleState, PortState, port_in};
+ghost use Rattle.iox_tables.specs.HubStates.Releases.{way_to_client};
 ghost use Rattle.iox_tables.specs.HubStates.Wirings.{handle_in};
 ghost use Rattle.iox_control_releasing.specs.Goings.{StaysTidy};
 ghost use Rattle.iox_control_request_copies.specs.Sendings as requests;
 ghost use Rattle.iox_control_request_copies.specs.Responses as responses;
-ghost use Rattle.iox_hub.specs.Hubs.{HasValue, state_of_hub, with_control};
+ghost use Rattle.iox_hub.specs.Hubs.{HasValue, fails_of, state_of_hub, with_control};
 ghost use Rattle.iox_hub.specs.Keeping.{KeepsOthers};
 ghost use Rattle.iox_hub.specs.Sending.{HasNothing, HasSent, with_words_left};
 
+use crate::backpressure::{ByHandler, fails_at_client};
 use crate::hub::Hub;
-use iox_control_request_copies::{ByStrategy, Requested, Responded, fails_when_full};
+use iox_backpressure::Backpressure;
+use iox_control_request_copies::{Requested, Responded};
 use iox_store::Payload;
 use iox_words::Words;
 
-impl<Q: Payload, QH: Words, P: Payload, PH: Words> Hub<Q, QH, P, PH> {
+impl<Q: Payload, QH: Words, P: Payload, PH: Words, H: Backpressure> Hub<Q, QH, P, PH, H> {
     /// Sends a loaned response to its client, and ends its handle, which is looked for at the hint
     /// first; the server goes with it, if nothing else of that is left.
     pub fn send_response(&mut self, node: u64, number: u64, hint: usize) -> Responded
@@ -30,7 +32,8 @@ impl<Q: Payload, QH: Words, P: Payload, PH: Words> Hub<Q, QH, P, PH> {
             → handle_in self.old.control.tables.handles node number ≡ Some h
             → (p : PortState) → port_in self.old.control.tables.ports h.port ≡ Some p
             → responses.reply_of_send result
-            ≡ responses.response_reply self.old.control.tables h (fails_by_strategy p.strategy) }
+            ≡ responses.response_reply self.old.control.tables h
+            (fails_of self.old p (way_to_client self.old.control.tables h)) }
         ensures left { (h : HandleState)
             → handle_in self.old.control.tables.handles node number ≡ Some h
             → self.new ≡ with_words_left (with_control self.old self.new.control) h.pool }
@@ -43,7 +46,7 @@ impl<Q: Payload, QH: Words, P: Payload, PH: Words> Hub<Q, QH, P, PH> {
         let Some(entry) = self.control.entry(node, number, hint) else {
             unreachable!();
         };
-        let fails = fails_when_full(&self.control, entry.port);
+        let fails = fails_at_client(&self.control, &self.handlers, entry);
         let responded = iox_control_request_copies::send_response(
             &mut self.control,
             node,
@@ -64,8 +67,7 @@ impl<Q: Payload, QH: Words, P: Payload, PH: Words> Hub<Q, QH, P, PH> {
         ensures reply { (h : HandleState)
             → handle_in self.old.control.tables.handles node number ≡ Some h
             → (p : PortState) → port_in self.old.control.tables.ports h.port ≡ Some p
-            → result ≡ requests.request_outcome (λ w. fails_by_strategy p.strategy)
-            self.old.control.tables h }
+            → result ≡ requests.request_outcome (fails_of self.old p) self.old.control.tables h }
         ensures left { (h : HandleState)
             → handle_in self.old.control.tables.handles node number ≡ Some h
             → self.new ≡ with_words_left (with_control self.old self.new.control) h.pool }
@@ -81,7 +83,9 @@ impl<Q: Payload, QH: Words, P: Payload, PH: Words> Hub<Q, QH, P, PH> {
         let Some(port) = self.control.ports().find(entry.port) else {
             unreachable!();
         };
-        let by = ByStrategy {
+        let handler = self.handlers.find(entry.port);
+        let by = ByHandler {
+            handler,
             strategy: port.strategy,
         };
         let requested = iox_control_request_copies::send_request(

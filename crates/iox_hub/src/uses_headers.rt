@@ -6,13 +6,14 @@ ghost use Rattle.iox_hub.specs.Hubs.{HasValue};
 ghost use Rattle.iox_hub.specs.Reads.{message_in};
 
 use crate::Hub;
+use iox_backpressure::Backpressure;
 use iox_store::Payload;
 use iox_types::identifiers::UniqueSystemId;
 use iox_words::Words;
 
 /// A request names the client that sent it by its id.
-pub fn names_its_client<Q: Payload, QH: Words, P: Payload, PH: Words>(
-    hub: &Hub<Q, QH, P, PH>,
+pub fn names_its_client<Q: Payload, QH: Words, P: Payload, PH: Words, H: Backpressure>(
+    hub: &Hub<Q, QH, P, PH, H>,
     node: u64,
     client: u64,
     other: u64,
@@ -26,8 +27,8 @@ pub fn names_its_client<Q: Payload, QH: Words, P: Payload, PH: Words>(
 }
 
 /// The same header is told wherever the handle is looked for first.
-pub fn is_the_same_from_each_hint<Q: Payload, QH: Words, P: Payload, PH: Words>(
-    hub: &Hub<Q, QH, P, PH>,
+pub fn is_the_same_from_each_hint<Q: Payload, QH: Words, P: Payload, PH: Words, H: Backpressure>(
+    hub: &Hub<Q, QH, P, PH, H>,
     node: u64,
     loan: u64,
 ) -> bool
@@ -38,8 +39,8 @@ pub fn is_the_same_from_each_hint<Q: Payload, QH: Words, P: Payload, PH: Words>(
 }
 
 /// How many elements a loaned request has, and which client has it loaned.
-pub fn tells_a_loan<Q: Payload, QH: Words, P: Payload, PH: Words>(
-    hub: &Hub<Q, QH, P, PH>,
+pub fn tells_a_loan<Q: Payload, QH: Words, P: Payload, PH: Words, H: Backpressure>(
+    hub: &Hub<Q, QH, P, PH, H>,
     node: u64,
     loan: u64,
 ) -> (u64, UniqueSystemId)

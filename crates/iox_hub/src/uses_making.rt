@@ -36,7 +36,7 @@ pub fn makes_bytes_with_a_client(
     options: Options,
 ) -> Result<Option<u64>, AllocError> {
     let mut hub = makes_bytes(alloc)?;
-    match hub.make_port(alloc, node, Role::Client, id, options) {
+    match hub.make_port(alloc, node, Role::Client, id, options, None) {
         Ok(client) => {
             prove!(hub.has(node, client, Kind::Client, 0));
             Ok(Some(client))
@@ -84,7 +84,7 @@ pub fn makes_server_beside(
     ensures server { IfOk result (λ server. HasValue hub.new node server Server) }
     ensures reached { IsReached hub.new }
 {
-    let server = hub.make_port(alloc, node, Role::Server, id, options);
+    let server = hub.make_port(alloc, node, Role::Server, id, options, None);
     hub.calls();
     server
 }
@@ -101,7 +101,7 @@ pub fn makes_both(
     ensures server { IfOk result (λ both. HasValue hub.new node both.1 Server) }
     ensures reached { IsReached hub.new }
 {
-    let client = match hub.make_port(alloc, node, Role::Client, id, options) {
+    let client = match hub.make_port(alloc, node, Role::Client, id, options, None) {
         Ok(number) => number,
         Err(reason) => {
             hub.calls();
@@ -124,7 +124,7 @@ pub fn receives_with_a_new_server(
 ) -> Result<Received, NotMade>
     ensures { OnErr result (StaysAs hub.old hub.new) }
 {
-    match hub.make_port(alloc, node, Role::Server, id, options) {
+    match hub.make_port(alloc, node, Role::Server, id, options, None) {
         Ok(server) => {
             if hub.calls() < 1 << 56 && hub.has(node, server, Kind::Server, 0) {
                 return Ok(hub.receive_request(node, server));

@@ -5,6 +5,7 @@ ghost use Rattle.iox_hub.specs.Hubs.{HasValue};
 ghost use Rattle.iox_hub.specs.Sending.{is_handle};
 
 use crate::hub::Hub;
+use iox_backpressure::Backpressure;
 use iox_model::kind::{Kind, Role};
 use iox_store::Payload;
 use iox_words::Words;
@@ -19,7 +20,7 @@ fn kind_of(role: Role) -> Kind
     }
 }
 
-impl<Q: Payload, QH: Words, P: Payload, PH: Words> Hub<Q, QH, P, PH> {
+impl<Q: Payload, QH: Words, P: Payload, PH: Words, H: Backpressure> Hub<Q, QH, P, PH, H> {
     /// The kind of the node's port or handle of that number, if it has one that is not released. A
     /// handle is looked for at the hint first.
     pub fn kind(&self, node: u64, number: u64, hint: usize) -> Option<Kind>

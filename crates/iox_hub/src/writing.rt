@@ -15,6 +15,7 @@ ghost use Rattle.iox_hub.specs.Reads.{HasOf};
 
 use crate::contents::{write_request_in, write_response_in};
 use crate::hub::Hub;
+use iox_backpressure::Backpressure;
 use iox_control::Control;
 use iox_control_request_copies::{Written, write};
 use iox_store::Payload;
@@ -29,7 +30,7 @@ fn write_loan(control: &mut Control, node: u64, number: u64, hint: usize, count:
     write(control, node, number, hint, Some(count as u64))
 }
 
-impl<Q: Payload, QH: Words, P: Payload, PH: Words> Hub<Q, QH, P, PH> {
+impl<Q: Payload, QH: Words, P: Payload, PH: Words, H: Backpressure> Hub<Q, QH, P, PH, H> {
     /// Fills a loaned request with copies of these elements, whatever was filled. Where they are
     /// not as many as the loan has, nothing changes. Its handle is looked for at the hint first.
     pub fn write_request(

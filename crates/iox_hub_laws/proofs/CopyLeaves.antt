@@ -17,11 +17,11 @@ use Rattle.iox_model.specs.Runs.{IsReachableState}
 use Rattle.iox_model.specs.Settings.{is_count}
 use Rattle.iox_model.specs.States.{Handle, Port, State}
 use Rattle.iox_model.specs.WholeCalls.{IsDone, IsWholeCall, UnlessRefused, spent}
-use Rattle.iox_laws.specs.MessageLaws.Sendings.{copied_order}
 use Rattle.iox_laws.proofs.WeaveLaws.MapLemmas.{either}
 use Rattle.iox_hub_laws.proofs.Arrivals.{Fits}
 use Rattle.iox_hub_laws.proofs.Phases.{loaning_fits}
 use Rattle.iox_hub_laws.proofs.Brought.{LeavesSo, apart, done_leaves, goes_to, starts_quiet, to_client, to_servers, unless_leaves, within}
+use Rattle.iox_laws.specs.CallFunctions.Copies.{copied_order}
 
 module _ (z : State) (reached : IsReachableState z) (node : ℕ) (h : Handle) (known : is_connected_port z.fixed h.port ≡ true) where
   abbrev Fit : Doing → Type 0

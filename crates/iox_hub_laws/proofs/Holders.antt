@@ -5,8 +5,7 @@ use Rattle.iox_model.specs.Maps.{has_number}
 use Rattle.iox_lanes.specs.Lanes.{LaneState}
 use Rattle.iox_laws.specs.MessageLaws.Lists.{IsOneOf}
 use Rattle.iox_laws.proofs.WeaveLedger.Lists.{IsAmong}
-use Rattle.iox_slots.specs.Slots.{is_free}
-use Rattle.iox_tables.specs.HubStates.Tables.{HubTables, slot_at}
+use Rattle.iox_tables.specs.HubStates.Tables.{HubTables, slot_at, is_free}
 use Rattle.iox_tables.specs.HubStates.Steps.{places_on}
 use Rattle.iox_tables.specs.HubBooks.Counts.{handle_uses, how_often, is_at, lane_count, lane_uses, total, uses}
 use Rattle.iox_tables.specs.HubBooks.Hubs.{AreInOrder}

@@ -20,11 +20,12 @@ use Rattle.iox_model.specs.Weaves.{Makes}
 use Rattle.iox_model.specs.WholeCalls.{IsDone, IsWholeCall, UnlessRefused, moved_by, spent}
 use Rattle.iox_laws.specs.MessageLaws.Deliveries.{message_put_on, messages_put_on}
 use Rattle.iox_laws.specs.MessageLaws.Lists.{IsOneOf}
-use Rattle.iox_laws.specs.MessageLaws.Sendings.{copied_message, copied_order, own_message, sent_message}
+use Rattle.iox_laws.specs.MessageLaws.Sendings.{copied_message, own_message, sent_message}
 use Rattle.iox_laws.proofs.MessageLaws.Carries.{moments_put}
 use Rattle.iox_laws.proofs.MessageLaws.Sendings.{IsSent, start_carries}
 use Rattle.iox_laws.proofs.RunLaws.InOrder.{settled_cuts}
 use Rattle.iox_laws.proofs.WeaveLaws.MapLemmas.{same_way-true}
+use Rattle.iox_laws.specs.CallFunctions.Copies.{copied_order}
 
 -- ---- lists
 

@@ -11,6 +11,9 @@ pub mod Gone
 pub mod Loans
 -- what the crates above cite of those below
 pub use Rattle.iox_hub.specs.Hubs
+pub use Rattle.iox_hub.specs.HandlerWords
+pub use Rattle.iox_hub.specs.Failing
+pub use Rattle.iox_hub.specs.Handlers
 pub use Rattle.iox_hub.specs.Lending
 pub use Rattle.iox_hub.specs.Headers
 pub use Rattle.iox_hub.specs.Reads

@@ -10,7 +10,6 @@ use Rattle.iox_model.specs.Maps.{has_number}
 use Rattle.iox_model.specs.Messages.{Message, request_way, response_way}
 use Rattle.iox_model.specs.States.{Handle}
 use Rattle.iox_laws.specs.CallFunctions.Responses.{is_awaited}
-use Rattle.iox_laws.specs.MessageLaws.Sendings.{copied_order}
 use Rattle.iox_tables.specs.HubStates.Releases.{lane_of, request_of}
 use Rattle.iox_tables.specs.HubStates.States.{port_of}
 use Rattle.iox_tables.specs.HubStates.Steps.{is_there}
@@ -26,6 +25,7 @@ use Rattle.iox_hub.specs.Hubs.{HubState, given_by, nothing_given}
 use Rattle.iox_hub_laws.specs.Arrivals.{IsSentOn}
 use Rattle.iox_hub_laws.specs.Shown.{handle_of, shown}
 use Rattle.iox_hub_laws.specs.Waiting.{AllCarry, NothingWaits}
+use Rattle.iox_laws.specs.CallFunctions.Copies.{copied_order}
 
 -- On each way the same waits as before.
 abbrev pub WaitsAsBefore : HubState → HubState → Type 0

@@ -4,8 +4,7 @@ use Rattle.iox_model.specs.declared.way.Way.{Way}
 use Rattle.iox_model.specs.Maps.{has_number}
 use Rattle.iox_laws.specs.MessageLaws.Lists.{IsOneOf}
 use Rattle.iox_lanes.specs.Lanes.{LaneState}
-use Rattle.iox_slots.specs.Slots.{is_free}
-use Rattle.iox_tables.specs.HubStates.Tables.{HandleState, HubTables, slot_at}
+use Rattle.iox_tables.specs.HubStates.Tables.{HandleState, HubTables, slot_at, is_free}
 use Rattle.iox_tables.specs.HubStates.Steps.{places_on}
 use Rattle.iox_tables.specs.HubStates.Ways.{lane_on}
 

@@ -19,15 +19,15 @@ ghost use Rattle.iox_hub.specs.Keeping.{KeepsAll};
 ghost use Rattle.iox_hub.specs.Lending.{payload_of};
 ghost use Rattle.iox_hub_laws.specs.Sends.{BringsOnly, BringsResponseCopy};
 
-use iox_hub::{Answered, Copied, Hub};
+use iox_hub::{Answered, Backpressure, Copied, Hub};
 use iox_store::Payload;
 use iox_words::Words;
 
 /// Sends a request of that client with copies of these elements to all connected servers. Memory is
 /// wanted only where the message has to grow.
 #[inline]
-pub fn copy_request<Q: Payload, QH: Words, P: Payload, PH: Words>(
-    hub: &mut Hub<Q, QH, P, PH>,
+pub fn copy_request<Q: Payload, QH: Words, P: Payload, PH: Words, H: Backpressure>(
+    hub: &mut Hub<Q, QH, P, PH, H>,
     node: u64,
     client: u64,
     values: &[Q::Element],
@@ -54,8 +54,8 @@ pub fn copy_request<Q: Payload, QH: Words, P: Payload, PH: Words>(
 /// of the request is looked for at the hint first. Memory is wanted only where the message has to
 /// grow.
 #[inline]
-pub fn copy_response<Q: Payload, QH: Words, P: Payload, PH: Words>(
-    hub: &mut Hub<Q, QH, P, PH>,
+pub fn copy_response<Q: Payload, QH: Words, P: Payload, PH: Words, H: Backpressure>(
+    hub: &mut Hub<Q, QH, P, PH, H>,
     node: u64,
     number: u64,
     hint: usize,

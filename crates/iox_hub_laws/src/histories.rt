@@ -5,13 +5,13 @@ ghost use Rattle.iox_hub_laws.specs.Histories.{AreAsDelivered, ComeAtMostOnce, C
 ghost use Rattle.iox_hub_laws.specs.Histories.{ComeAtTheirRequest};
 ghost use Rattle.iox_hub_laws.specs.Histories.{WereSent};
 
-use iox_hub::Hub;
+use iox_hub::{Backpressure, Hub};
 use iox_store::Payload;
 use iox_words::Words;
 
 /// On each way no message was delivered twice, and none was taken twice.
-pub fn messages_come_at_most_once<Q: Payload, QH: Words, P: Payload, PH: Words>(
-    hub: &Hub<Q, QH, P, PH>,
+pub fn messages_come_at_most_once<Q: Payload, QH: Words, P: Payload, PH: Words, H: Backpressure>(
+    hub: &Hub<Q, QH, P, PH, H>,
 )
     ensures reached { IsReached hub.now }
     ensures once { ComeAtMostOnce hub.now }
@@ -20,7 +20,9 @@ pub fn messages_come_at_most_once<Q: Payload, QH: Words, P: Payload, PH: Words>(
 }
 
 /// On each way, what was taken and what still waits comes in the order of delivery, whole.
-pub fn messages_come_in_order<Q: Payload, QH: Words, P: Payload, PH: Words>(hub: &Hub<Q, QH, P, PH>)
+pub fn messages_come_in_order<Q: Payload, QH: Words, P: Payload, PH: Words, H: Backpressure>(
+    hub: &Hub<Q, QH, P, PH, H>,
+)
     ensures reached { IsReached hub.now }
     ensures order { ComeInOrder hub.now }
 {
@@ -28,8 +30,8 @@ pub fn messages_come_in_order<Q: Payload, QH: Words, P: Payload, PH: Words>(hub:
 }
 
 /// What a handle has that was received was delivered to it, word by word.
-pub fn messages_are_as_delivered<Q: Payload, QH: Words, P: Payload, PH: Words>(
-    hub: &Hub<Q, QH, P, PH>,
+pub fn messages_are_as_delivered<Q: Payload, QH: Words, P: Payload, PH: Words, H: Backpressure>(
+    hub: &Hub<Q, QH, P, PH, H>,
 )
     ensures reached { IsReached hub.now }
     ensures delivered { AreAsDelivered hub.now }
@@ -38,7 +40,9 @@ pub fn messages_are_as_delivered<Q: Payload, QH: Words, P: Payload, PH: Words>(
 }
 
 /// Each message that was delivered was sent, by some step of the same history.
-pub fn messages_were_sent<Q: Payload, QH: Words, P: Payload, PH: Words>(hub: &Hub<Q, QH, P, PH>)
+pub fn messages_were_sent<Q: Payload, QH: Words, P: Payload, PH: Words, H: Backpressure>(
+    hub: &Hub<Q, QH, P, PH, H>,
+)
     ensures reached { IsReached hub.now }
     ensures sent { WereSent hub.now }
 {
@@ -47,9 +51,13 @@ pub fn messages_were_sent<Q: Payload, QH: Words, P: Payload, PH: Words>(hub: &Hu
 
 /// A response is received only at its own request. Without fire-and-forget, a server receives only
 /// requests that their clients did not give up.
-pub fn messages_come_at_their_request<Q: Payload, QH: Words, P: Payload, PH: Words>(
-    hub: &Hub<Q, QH, P, PH>,
-)
+pub fn messages_come_at_their_request<
+    Q: Payload,
+    QH: Words,
+    P: Payload,
+    PH: Words,
+    H: Backpressure,
+>(hub: &Hub<Q, QH, P, PH, H>)
     ensures reached { IsReached hub.now }
     ensures request { ComeAtTheirRequest hub.now }
 {

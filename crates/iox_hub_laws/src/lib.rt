@@ -16,9 +16,10 @@ pub use histories::{
     messages_come_in_order, messages_were_sent,
 };
 pub use iox_hub::{
-    Answered, Copied, Hub, Lent, LoanRefusal, MessageHeader, MessageShape, NotMade, Options, Part,
-    PreallocatedRequestsOverride, PreallocatedResponseOverride, Received, Requested, Responded,
-    Settings, Written, default_settings,
+    Always, Answered, Backpressure, BackpressureAction, BackpressureInfo, Copied, Hub, Lent,
+    LoanRefusal, MessageHeader, MessageShape, NotMade, Options, Part, PreallocatedRequestsOverride,
+    PreallocatedResponseOverride, Received, Requested, Responded, Settings, Written,
+    default_settings, words_tell_answers,
 };
 pub use limits::{
     borrows_hold, buffers_hold, few_are_kept_of_the_gone, nothing_is_kept_of_the_gone,

@@ -13,7 +13,7 @@ ghost use Rattle.iox_hub_laws.specs.Loans.{AnswersOfClient, AnswersOfRequest};
 ghost use Rattle.iox_hub_laws.specs.Loans.{LendsWithinLimits, RespondsWithinLimits};
 ghost use Rattle.iox_hub_laws.specs.Sends.{NothingComes};
 
-use iox_hub::{Hub, Lent};
+use iox_hub::{Backpressure, Hub, Lent};
 use iox_store::Payload;
 use iox_words::Words;
 
@@ -21,8 +21,8 @@ use iox_words::Words;
 /// refused by the first test that fails, then by the pool, and then for want of memory; within its
 /// limits a client of a node with full pools is never refused.
 #[inline]
-pub fn lend_request<Q: Payload, QH: Words, P: Payload, PH: Words>(
-    hub: &mut Hub<Q, QH, P, PH>,
+pub fn lend_request<Q: Payload, QH: Words, P: Payload, PH: Words, H: Backpressure>(
+    hub: &mut Hub<Q, QH, P, PH, H>,
     node: u64,
     client: u64,
     elements: usize,
@@ -49,8 +49,8 @@ pub fn lend_request<Q: Payload, QH: Words, P: Payload, PH: Words>(
 /// within its limits a server of a node with full pools is never refused. The handle of the request
 /// is looked for at the hint first.
 #[inline]
-pub fn lend_response<Q: Payload, QH: Words, P: Payload, PH: Words>(
-    hub: &mut Hub<Q, QH, P, PH>,
+pub fn lend_response<Q: Payload, QH: Words, P: Payload, PH: Words, H: Backpressure>(
+    hub: &mut Hub<Q, QH, P, PH, H>,
     node: u64,
     number: u64,
     hint: usize,

@@ -11,7 +11,7 @@ ghost use Rattle.iox_hub.specs.Keeping.{IsNew, KeepsAll};
 ghost use Rattle.iox_hub_laws.specs.Receives.{GetsOnly, TakesRequest, TakesResponse};
 ghost use Rattle.iox_hub_laws.specs.Waiting.{WaitedFor, WaitedForPending, client_in, server_of};
 
-use iox_hub::{Hub, Received};
+use iox_hub::{Backpressure, Hub, Received};
 use iox_store::Payload;
 use iox_words::Words;
 
@@ -19,8 +19,8 @@ use iox_words::Words;
 /// delivered to it, that it did not get before, and that comes behind all that it took from that
 /// client.
 #[inline]
-pub fn receive_request<Q: Payload, QH: Words, P: Payload, PH: Words>(
-    hub: &mut Hub<Q, QH, P, PH>,
+pub fn receive_request<Q: Payload, QH: Words, P: Payload, PH: Words, H: Backpressure>(
+    hub: &mut Hub<Q, QH, P, PH, H>,
     node: u64,
     server: u64,
 ) -> Received
@@ -44,8 +44,8 @@ pub fn receive_request<Q: Payload, QH: Words, P: Payload, PH: Words>(
 /// its own request, that was delivered to it, that it did not get before, and that comes behind all
 /// that were taken on that way. Its handle is looked for at the hint first.
 #[inline]
-pub fn receive_response<Q: Payload, QH: Words, P: Payload, PH: Words>(
-    hub: &mut Hub<Q, QH, P, PH>,
+pub fn receive_response<Q: Payload, QH: Words, P: Payload, PH: Words, H: Backpressure>(
+    hub: &mut Hub<Q, QH, P, PH, H>,
     node: u64,
     number: u64,
     hint: usize,

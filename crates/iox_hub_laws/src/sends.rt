@@ -15,15 +15,15 @@ ghost use Rattle.iox_hub.specs.Reads.{message_in};
 ghost use Rattle.iox_hub.specs.Sending.{HasNothing, HasSent, with_words_left};
 ghost use Rattle.iox_hub_laws.specs.Sends.{BringsOnly, BringsRequest, BringsResponse};
 
-use iox_hub::{Hub, Requested, Responded};
+use iox_hub::{Backpressure, Hub, Requested, Responded};
 use iox_store::Payload;
 use iox_words::Words;
 
 /// Sends a loaned request to all connected servers: it comes last on the way to each, but where a
 /// full server makes it fail, or is skipped. The handle is looked for at the hint first.
 #[inline]
-pub fn send_request<Q: Payload, QH: Words, P: Payload, PH: Words>(
-    hub: &mut Hub<Q, QH, P, PH>,
+pub fn send_request<Q: Payload, QH: Words, P: Payload, PH: Words, H: Backpressure>(
+    hub: &mut Hub<Q, QH, P, PH, H>,
     node: u64,
     number: u64,
     hint: usize,
@@ -47,8 +47,8 @@ pub fn send_request<Q: Payload, QH: Words, P: Payload, PH: Words>(
 /// Sends a loaned response to the client of its request: it comes last on the way there, if the
 /// client awaits it and is not full. The handle is looked for at the hint first.
 #[inline]
-pub fn send_response<Q: Payload, QH: Words, P: Payload, PH: Words>(
-    hub: &mut Hub<Q, QH, P, PH>,
+pub fn send_response<Q: Payload, QH: Words, P: Payload, PH: Words, H: Backpressure>(
+    hub: &mut Hub<Q, QH, P, PH, H>,
     node: u64,
     number: u64,
     hint: usize,

@@ -13,7 +13,7 @@ ghost use Rattle.iox_hub_laws.specs.Shown.{beats_of, handle_of};
 ghost use Rattle.iox_hub_laws.specs.Waiting.{CanCome, NothingWaits, server_of};
 
 use crate::{lend_request, lend_response, receive_request};
-use iox_hub::{Hub, Lent, Received};
+use iox_hub::{Backpressure, Hub, Lent, Received};
 use iox_store::{Many, One, Payload};
 use iox_words::Words;
 
@@ -37,8 +37,8 @@ pub fn reads_what_was_delivered<E: Words>(
 }
 
 /// A server to which a request can come receives one.
-pub fn receives_what_can_come<Q: Payload, QH: Words, P: Payload, PH: Words>(
-    hub: &mut Hub<Q, QH, P, PH>,
+pub fn receives_what_can_come<Q: Payload, QH: Words, P: Payload, PH: Words, H: Backpressure>(
+    hub: &mut Hub<Q, QH, P, PH, H>,
     node: u64,
     server: u64,
 ) -> u64
@@ -55,8 +55,8 @@ pub fn receives_what_can_come<Q: Payload, QH: Words, P: Payload, PH: Words>(
 }
 
 /// A server receives nothing where nothing waits for it.
-pub fn receives_nothing<Q: Payload, QH: Words, P: Payload, PH: Words>(
-    hub: &mut Hub<Q, QH, P, PH>,
+pub fn receives_nothing<Q: Payload, QH: Words, P: Payload, PH: Words, H: Backpressure>(
+    hub: &mut Hub<Q, QH, P, PH, H>,
     node: u64,
     server: u64,
 )

@@ -7,13 +7,13 @@ use Rattle.iox_control_releasing.proofs.letting_go.let_port_go.Goals as goal
 
 pub returns-clause-left : goal.returns-clause-left
 returns-clause-left c =
-    pools_again c.args.control.now c.let_pipes_go.new.control c.let_pipes_go-2.new.control _ c.let_pipes_go.ensures.left c.let_pipes_go-2.ensures.left
+    pools_again c.args.control.now c.let_expired_go.new.control c.let_pipes_go.new.control _ c.let_expired_go.ensures.left c.let_pipes_go.ensures.left
 
 pub returns-clause-fewer : goal.returns-clause-fewer
 returns-clause-fewer c =
-    counts_as c.args.control.now.tables.pools c.let_pipes_go-2.new.control.tables.pools _ _
-    (both_go c.args.control.now.tables.pools c.let_pipes_go.new.control.tables.pools c.let_pipes_go-2.new.control.tables.pools _ _
-    c.let_pipes_go.ensures.fewer c.let_pipes_go-2.ensures.fewer)
+    counts_as c.args.control.now.tables.pools c.let_pipes_go.new.control.tables.pools _ _
+    (both_go c.args.control.now.tables.pools c.let_expired_go.new.control.tables.pools c.let_pipes_go.new.control.tables.pools _ _
+    c.let_expired_go.ensures.fewer c.let_pipes_go.ensures.fewer)
     (λ pool k.
     ap₂ (λ (e i : IncomingState). total (in_pipe (lane_count pool k)) e.pipes + total (in_pipe (lane_count pool k)) i.pipes)
     c.into_pipes-expired.ensures.expired c.into_pipes-expired.ensures.incoming

@@ -14,7 +14,7 @@ end_loan-requires-clause-loan g c =
 
 pub returns-then-is_to_fail-clause-fails : goal.returns-then-is_to_fail-clause-fails
 returns-then-is_to_fail-clause-fails g c =
-    fails_then c.args.control.now c.args.entry.node c.args.entry.number (handle_state c.args.entry) c.requires.order c.requires.named c.requires.kind c.retrieve_all.new.control (got_back c.args.control.now c.args.entry.node c.args.entry.number (handle_state c.args.entry) c.requires.order c.requires.named c.requires.kind c.retrieve_all.new.control c.retrieve_all.ensures.left) (g.B.Backpressure.fails c.args.backpressure.now) c.args.overflow true c.is_to_fail.result c.is_to_fail.ensures c.if-is_to_fail.true
+    fails_then c.args.control.now c.args.entry.node c.args.entry.number (handle_state c.args.entry) c.requires.order c.requires.named c.requires.kind c.retrieve_all.new.control (got_back c.args.control.now c.args.entry.node c.args.entry.number (handle_state c.args.entry) c.requires.order c.requires.named c.requires.kind c.retrieve_all.new.control c.retrieve_all.ensures.left) (g.B.WhenFull.fails c.args.backpressure.now) c.args.overflow true c.is_to_fail.result c.is_to_fail.ensures c.if-is_to_fail.true
 
 pub returns-then-is_to_fail-clause-failed : goal.returns-then-is_to_fail-clause-failed
 returns-then-is_to_fail-clause-failed g c none =
@@ -39,7 +39,7 @@ send_to_all-requires-clause-returned g c =
 
 pub returns-clause-fails : goal.returns-clause-fails
 returns-clause-fails g c =
-    fails_then c.args.control.now c.args.entry.node c.args.entry.number (handle_state c.args.entry) c.requires.order c.requires.named c.requires.kind c.retrieve_all.new.control (got_back c.args.control.now c.args.entry.node c.args.entry.number (handle_state c.args.entry) c.requires.order c.requires.named c.requires.kind c.retrieve_all.new.control c.retrieve_all.ensures.left) (g.B.Backpressure.fails c.args.backpressure.now) c.args.overflow false c.is_to_fail.result c.is_to_fail.ensures c.if-is_to_fail.false
+    fails_then c.args.control.now c.args.entry.node c.args.entry.number (handle_state c.args.entry) c.requires.order c.requires.named c.requires.kind c.retrieve_all.new.control (got_back c.args.control.now c.args.entry.node c.args.entry.number (handle_state c.args.entry) c.requires.order c.requires.named c.requires.kind c.retrieve_all.new.control c.retrieve_all.ensures.left) (g.B.WhenFull.fails c.args.backpressure.now) c.args.overflow false c.is_to_fail.result c.is_to_fail.ensures c.if-is_to_fail.false
 
 pub returns-clause-count : goal.returns-clause-count
 returns-clause-count g c count same =

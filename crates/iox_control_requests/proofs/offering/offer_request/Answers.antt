@@ -7,14 +7,14 @@ use Rattle.iox_control_requests.proofs.offering.offer_request.Goals as goal
 
 pub attempt-requires-clause-named : goal.attempt-requires-clause-named
 attempt-requires-clause-named g c =
-    named_so c.args.control.now c.args.node c.args.number c.requires.order c.requires.calls c.requires.request c.in-Some.entry c.in-Some.ensures (g.B.Backpressure.fails c.args.backpressure.now)
+    named_so c.args.control.now c.args.node c.args.number c.requires.order c.requires.calls c.requires.request c.in-Some.entry c.in-Some.ensures (g.B.WhenFull.fails c.args.backpressure.now)
 
 -- ---- its client may send no more
 
 pub returns-then-is_spent-clause-left : goal.returns-then-is_spent-clause-left
 returns-then-is_spent-clause-left g c =
-    left_for c.args.control.now c.args.node c.args.number c.requires.order c.requires.calls c.requires.request c.in-Some.entry c.in-Some.ensures (g.B.Backpressure.fails c.args.backpressure.now) ExceedsMaxActiveRequests c.end_loan.new.control.tables
-    (is_spent_so c.args.control.now c.args.node c.args.number c.requires.order c.requires.calls c.requires.request c.in-Some.entry c.in-Some.ensures (g.B.Backpressure.fails c.args.backpressure.now) (sym c.is_spent.ensures ∙ c.if-is_spent.true) c.end_loan.new.control
+    left_for c.args.control.now c.args.node c.args.number c.requires.order c.requires.calls c.requires.request c.in-Some.entry c.in-Some.ensures (g.B.WhenFull.fails c.args.backpressure.now) ExceedsMaxActiveRequests c.end_loan.new.control.tables
+    (is_spent_so c.args.control.now c.args.node c.args.number c.requires.order c.requires.calls c.requires.request c.in-Some.entry c.in-Some.ensures (g.B.WhenFull.fails c.args.backpressure.now) (sym c.is_spent.ensures ∙ c.if-is_spent.true) c.end_loan.new.control
     (c.end_loan.ensures.ended (handle_state c.in-Some.entry) (sym c.in-Some.ensures)))
 
 pub returns-then-is_spent-clause-pools : goal.returns-then-is_spent-clause-pools
@@ -24,16 +24,16 @@ returns-then-is_spent-clause-pools g c =
 
 pub returns-then-is_spent-clause-whole : goal.returns-then-is_spent-clause-whole
 returns-then-is_spent-clause-whole g c =
-    whole_for c.args.control.now c.args.node c.args.number c.requires.order c.requires.calls c.requires.request c.in-Some.entry c.in-Some.ensures (g.B.Backpressure.fails c.args.backpressure.now) ExceedsMaxActiveRequests c.end_loan.new.control.tables
-    (is_spent_so c.args.control.now c.args.node c.args.number c.requires.order c.requires.calls c.requires.request c.in-Some.entry c.in-Some.ensures (g.B.Backpressure.fails c.args.backpressure.now) (sym c.is_spent.ensures ∙ c.if-is_spent.true) c.end_loan.new.control
+    whole_for c.args.control.now c.args.node c.args.number c.requires.order c.requires.calls c.requires.request c.in-Some.entry c.in-Some.ensures (g.B.WhenFull.fails c.args.backpressure.now) ExceedsMaxActiveRequests c.end_loan.new.control.tables
+    (is_spent_so c.args.control.now c.args.node c.args.number c.requires.order c.requires.calls c.requires.request c.in-Some.entry c.in-Some.ensures (g.B.WhenFull.fails c.args.backpressure.now) (sym c.is_spent.ensures ∙ c.if-is_spent.true) c.end_loan.new.control
     (c.end_loan.ensures.ended (handle_state c.in-Some.entry) (sym c.in-Some.ensures)))
 
 -- ---- it is sent
 
 pub returns-in-Some-attempt-clause-whole : goal.returns-in-Some-attempt-clause-whole
 returns-in-Some-attempt-clause-whole g c =
-    whole_for c.args.control.now c.args.node c.args.number c.requires.order c.requires.calls c.requires.request c.in-Some.entry c.in-Some.ensures (g.B.Backpressure.fails c.args.backpressure.now) (To c.in-Some-attempt.count) c.attempt.new.control.tables
-    (is_sent_so c.args.control.now c.args.node c.args.number c.requires.order c.requires.calls c.requires.request c.in-Some.entry c.in-Some.ensures (g.B.Backpressure.fails c.args.backpressure.now)
+    whole_for c.args.control.now c.args.node c.args.number c.requires.order c.requires.calls c.requires.request c.in-Some.entry c.in-Some.ensures (g.B.WhenFull.fails c.args.backpressure.now) (To c.in-Some-attempt.count) c.attempt.new.control.tables
+    (is_sent_so c.args.control.now c.args.node c.args.number c.requires.order c.requires.calls c.requires.request c.in-Some.entry c.in-Some.ensures (g.B.WhenFull.fails c.args.backpressure.now)
     (sym c.is_spent.ensures ∙ c.if-is_spent.false) c.settings-overflow.result.request_overflow (ap (λ (s : HubSettings). s.request_overflow) c.settings-overflow.ensures)
     c.attempt.result c.attempt.new.control.tables c.attempt.ensures.fails c.attempt.ensures.messages
     c.in-Some-attempt.count c.in-Some-attempt.is (c.attempt.ensures.count c.in-Some-attempt.count c.in-Some-attempt.is)
@@ -43,16 +43,16 @@ returns-in-Some-attempt-clause-whole g c =
 
 pub returns-in-None-clause-left : goal.returns-in-None-clause-left
 returns-in-None-clause-left g c =
-    left_for c.args.control.now c.args.node c.args.number c.requires.order c.requires.calls c.requires.request c.in-Some.entry c.in-Some.ensures (g.B.Backpressure.fails c.args.backpressure.now) UnableToDeliver c.attempt.new.control.tables
-    (is_lost_so c.args.control.now c.args.node c.args.number c.requires.order c.requires.calls c.requires.request c.in-Some.entry c.in-Some.ensures (g.B.Backpressure.fails c.args.backpressure.now)
+    left_for c.args.control.now c.args.node c.args.number c.requires.order c.requires.calls c.requires.request c.in-Some.entry c.in-Some.ensures (g.B.WhenFull.fails c.args.backpressure.now) UnableToDeliver c.attempt.new.control.tables
+    (is_lost_so c.args.control.now c.args.node c.args.number c.requires.order c.requires.calls c.requires.request c.in-Some.entry c.in-Some.ensures (g.B.WhenFull.fails c.args.backpressure.now)
     (sym c.is_spent.ensures ∙ c.if-is_spent.false) c.settings-overflow.result.request_overflow (ap (λ (s : HubSettings). s.request_overflow) c.settings-overflow.ensures)
     c.attempt.result c.attempt.new.control.tables c.attempt.ensures.fails c.attempt.ensures.messages
     c.in-None.is (c.attempt.ensures.failed c.in-None.is))
 
 pub returns-in-None-clause-whole : goal.returns-in-None-clause-whole
 returns-in-None-clause-whole g c =
-    whole_for c.args.control.now c.args.node c.args.number c.requires.order c.requires.calls c.requires.request c.in-Some.entry c.in-Some.ensures (g.B.Backpressure.fails c.args.backpressure.now) UnableToDeliver c.attempt.new.control.tables
-    (is_lost_so c.args.control.now c.args.node c.args.number c.requires.order c.requires.calls c.requires.request c.in-Some.entry c.in-Some.ensures (g.B.Backpressure.fails c.args.backpressure.now)
+    whole_for c.args.control.now c.args.node c.args.number c.requires.order c.requires.calls c.requires.request c.in-Some.entry c.in-Some.ensures (g.B.WhenFull.fails c.args.backpressure.now) UnableToDeliver c.attempt.new.control.tables
+    (is_lost_so c.args.control.now c.args.node c.args.number c.requires.order c.requires.calls c.requires.request c.in-Some.entry c.in-Some.ensures (g.B.WhenFull.fails c.args.backpressure.now)
     (sym c.is_spent.ensures ∙ c.if-is_spent.false) c.settings-overflow.result.request_overflow (ap (λ (s : HubSettings). s.request_overflow) c.settings-overflow.ensures)
     c.attempt.result c.attempt.new.control.tables c.attempt.ensures.fails c.attempt.ensures.messages
     c.in-None.is (c.attempt.ensures.failed c.in-None.is))

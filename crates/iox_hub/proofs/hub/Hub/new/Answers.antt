@@ -6,7 +6,7 @@ use Rattle.iox_hub.proofs.hub.Hub.new.Goals as goal
 
 pub invariant_of-result : goal.invariant_of-result
 invariant_of-result g c =
-    hub_starts (settings_of c.args.settings) (settings_of c.started.result) _ _ c.in_ok-control.control _
+    hub_starts (settings_of c.args.settings) (settings_of c.started.result) _ _ c.in_ok-control.control _ _
     c.started.ensures c.in_ok-control.ensures.made c.in_ok-control.ensures.order
     (c.known.ensures.makes_sense g.Q.Payload.MANY) (c.known-2.ensures.makes_sense g.P.Payload.MANY)
-    (ap all_carried c.new-2.ensures.items)
+    (ap all_carried c.new-2.ensures.items) c.new-3.ensures

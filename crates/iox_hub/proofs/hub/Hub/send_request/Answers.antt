@@ -1,7 +1,8 @@
+use Rattle.std.specs.Prelude.{Bool}
 use Rattle.std.proofs.Common.{ap, subst, sym, ◌∙◌}
 use Rattle.std.proofs.lemmas.Option.{same_Some}
 use Rattle.iox_model.specs.declared.call.Call.TheVariants.{Send}
-use Rattle.iox_model.specs.Settings.{fails_by_strategy}
+use Rattle.iox_model.specs.declared.way.Way.{Way}
 use Rattle.iox_tables.specs.HubStates.Tables.{HandleState}
 use Rattle.iox_control.specs.Entries.{handle_state}
 use Rattle.iox_control_request_copies.specs.Sendings.{reply_of_send, request_outcome}
@@ -9,7 +10,8 @@ use Rattle.iox_control_releasing.specs.Goings.{StaysTidy}
 use Rattle.iox_hub.specs.Hubs.{HubState}
 use Rattle.iox_hub.proofs.Named.{found_is_handle}
 use Rattle.iox_hub.proofs.SendingFits.{fits_request_sent}
-use Rattle.iox_hub.proofs.SendingHubs.{fails_as_told, given_of, hub_goes_on_as, loan_is_request, port_is_there, request_of_hub, sent_is_pending, strategy_told, whole_then}
+use Rattle.iox_hub.proofs.SendingHubs.{given_of, hub_goes_on_as, loan_is_request, port_is_there, request_of_hub, sent_is_pending, whole_then}
+use Rattle.iox_hub.proofs.Handling.{as_told, fails_as_told, hub_of}
 use Rattle.iox_hub.specs.Keeping.{IsOther}
 use Rattle.iox_hub.proofs.KeepingCalls.{left_keeps, request_sent_keeps}
 use Rattle.iox_hub.proofs.hub.Hub.send_request.Goals as goal
@@ -32,15 +34,15 @@ invariant_of-self g c =
     (request_of_hub c.self.invariant c.args.self.now c.self.view_is c.args.node c.args.number c.requires.has) c.in-Some.ensures)
     c.send_request-requested.result (c.send_request-requested.ensures.left (handle_state c.in-Some.entry) (sym c.in-Some.ensures)))
     (λ x. c.send_request-requested.ensures.whole (handle_state c.in-Some.entry) (sym c.in-Some.ensures) (given_of c.self.invariant x)
-    (fails_as_told c.self.invariant x c.ports.result.now.ports c.ports.ensures.ports c.in-Some.entry.port c.find.result c.find.ensures c.in-Some-find.port c.in-Some-find.is))
+    (fails_as_told (hub_of c.self.invariant) c.ports.result.now.ports c.ports.ensures.ports c.in-Some.entry.port c.find.result c.find.ensures c.in-Some-find.port c.in-Some-find.is _ c.find-handler.ensures x))
 
 pub returns-clause-reply : goal.returns-clause-reply
 returns-clause-reply g c =
     rw (← c.self.view_is)
     (λ h there p at.
     c.send_request-requested.ensures.reply h there
-    ∙ ap (λ s. request_outcome (λ w. fails_by_strategy s) c.self.inside.control.tables h)
-    (strategy_told c.self.invariant c.self.invariant.reached.0 c.ports.result.now.ports c.ports.ensures.ports c.in-Some.entry.port c.find.result c.find.ensures c.in-Some-find.port c.in-Some-find.is
+    ∙ ap (λ (f : Way → Bool). request_outcome f c.self.inside.control.tables h)
+    (as_told (hub_of c.self.invariant) c.ports.result.now.ports c.ports.ensures.ports c.in-Some.entry.port c.find.result c.find.ensures c.in-Some-find.port c.in-Some-find.is _ c.find-handler.ensures
     p h.port (ap (λ (k : HandleState). k.port) (sym (same_Some (handle_state c.in-Some.entry) h (c.in-Some.ensures ∙ there)))) at))
 
 pub returns-clause-whole : goal.returns-clause-whole
@@ -48,7 +50,7 @@ returns-clause-whole g c =
     rw (← c.self.view_is)
     (λ x. whole_then c.self.invariant c.send_request-requested.new.control c.drop_words.new.self c.args.node (Send c.args.number) (reply_of_send c.send_request-requested.result) x
     (c.send_request-requested.ensures.whole (handle_state c.in-Some.entry) (sym c.in-Some.ensures) (given_of c.self.invariant x)
-    (fails_as_told c.self.invariant x c.ports.result.now.ports c.ports.ensures.ports c.in-Some.entry.port c.find.result c.find.ensures c.in-Some-find.port c.in-Some-find.is))
+    (fails_as_told (hub_of c.self.invariant) c.ports.result.now.ports c.ports.ensures.ports c.in-Some.entry.port c.find.result c.find.ensures c.in-Some-find.port c.in-Some-find.is _ c.find-handler.ensures x))
     (c.drop_words.ensures.shown x))
 
 pub returns-clause-has : goal.returns-clause-has

@@ -1,0 +1,4 @@
+pub mod Listed
+pub mod Answering
+pub mod Failures
+pub mod Shown

@@ -1,0 +1,5 @@
+pub mod Answers
+pub mod Failing
+pub mod Handlers
+-- for proofs of this crate alone
+pub mod AlwaysLaws
