@@ -21,7 +21,6 @@ use Rattle.iox_model.specs.Runs.{IsReachableState}
 use Rattle.iox_model.specs.Settings.{is_count}
 use Rattle.iox_model.specs.States.{Fixed, Handle, Port, State}
 use Rattle.iox_model.specs.WholeCalls.{IsDone, IsWholeCall, UnlessRefused, left_by, moved_by, replied, sent_reply, spent}
-use Rattle.iox_laws.specs.MessageLaws.Sendings.{copied_order}
 use Rattle.iox_laws.proofs.WeaveLaws.MapLemmas.{either}
 use Rattle.iox_laws.proofs.WeaveLaws.WholeLemmas.{moved_by-fixed}
 use Rattle.iox_hub_laws.proofs.Arrivals.{EndsSo, Fits, IsRefusal}
@@ -29,6 +28,7 @@ use Rattle.iox_hub_laws.proofs.Moments.{ended_fits, moments_fit}
 use Rattle.iox_hub_laws.proofs.Phases.{loaning_fits}
 use Rattle.iox_hub_laws.proofs.Brought.{CameTo, LeavesSo, apart, done_leaves, goes_to, starts_quiet, to_client, to_servers, within}
 use Rattle.iceoryx2_ports.proofs.Resting.{HaveAsBefore}
+use Rattle.iox_laws.specs.CallFunctions.Copies.{copied_order}
 
 module _ (z : State) (reached : IsReachableState z) (node n : ℕ) (p : Port) (client : p.role ≡ Client) (known : is_connected_port z.fixed p.number ≡ true)
     (k : ℕ) (words : List ℕ) where

@@ -3,6 +3,7 @@ pub use Rattle.iox_model.specs.Commands
 pub use Rattle.iox_model.specs.Makings as MachineMakings
 pub use Rattle.iox_model.specs.Messages
 pub use Rattle.iox_model.specs.WholeCalls
+pub use Rattle.iox_model.specs.declared.backpressure.BackpressureAction
 pub use Rattle.iox_model.specs.declared.call.Call
 pub use Rattle.iox_model.specs.declared.kind.Kind
 pub use Rattle.iox_model.specs.declared.kind.Role
@@ -16,6 +17,7 @@ pub use Rattle.iox_tables.specs.HubLoans.Counts
 pub use Rattle.iox_tables.specs.HubStates.States
 pub use Rattle.iox_hub_laws.specs.Copying
 pub use Rattle.iox_hub_laws.specs.Fillings
+pub use Rattle.iox_hub_laws.specs.HandlerWords
 pub use Rattle.iox_hub_laws.specs.Headers as HubHeaders
 pub use Rattle.iox_hub_laws.specs.Hubs
 pub use Rattle.iox_hub_laws.specs.Keeping as HubKeeping

@@ -1,5 +1,5 @@
 -- Pools that closures choose for the ports that factories make.
-use Rattle.std.specs.Prelude.{◌≡◌, ℕ, Option, None, Some}
+use Rattle.std.specs.Prelude.{◌≡◌, ℕ, List, Option, None, Some}
 use Rattle.iox_types.specs.declared.identifiers.system_id.UniqueSystemId.{UniqueSystemId}
 use Rattle.iox_types.specs.Layouts.{as_usize}
 use Rattle.iox_model.specs.declared.kind.Role.{Role}
@@ -8,14 +8,15 @@ use Rattle.iox_model.specs.Makings.{IsHubCommand, worst_pool}
 use Rattle.iox_tables.specs.HubStates.States.{Given, limits_of}
 use Rattle.iox_hub_laws.specs.Options.{Options}
 use Rattle.iox_hub_laws.specs.Hubs.{HubState, given_by, state_of_hub}
-use Rattle.iox_hub_laws.specs.Making.{IsChosenBy, options_of}
+use Rattle.iox_hub_laws.specs.Making.{IsChosenBy, options_of, options_with}
 
 -- What a port is made with whose pool a closure chooses.
-pub record MadeWith (F : Type 0) : Type 0 where
+pub record MadeWith (F H : Type 0) : Type 0 where
   pub node : ℕ
   pub id : UniqueSystemId
   pub options : Options
   pub closure : F
+  pub handler : Option H
 
 -- the most messages that a port of that role needs, if a `usize` counts them
 abbrev pub most_needed : Given → HubState → Role → Options → Option ℕ
@@ -38,11 +39,13 @@ pub record HaveItsPool (h : HubState) (role : Role) (answers : ℕ → ℕ → T
   pub uncounted : (x : Given) → most_needed x h role old ≡ None → new ≡ old
   pub others : new ≡ record old { pool = new.pool }
 
--- The making is one command of the machine, with the pool that the closure chooses.
+-- The making is one command of the machine, with the pool that the closure chooses, and with a handler
+-- of these words or with none.
 abbrev pub IsMadeWithItsPool :
-    HubState → ℕ → Role → UniqueSystemId → (ℕ → ℕ → Type 0) → Options → Reply → HubState → Type 0
-IsMadeWithItsPool old node role id answers o reply new =
+    HubState → ℕ → Role → UniqueSystemId → (ℕ → ℕ → Type 0) → Options → Option (List ℕ) → Reply
+    → HubState → Type 0
+IsMadeWithItsPool old node role id answers o handler reply new =
     (chosen : Options) × HaveItsPool old role answers o chosen
     × ((x : Given)
-    → IsHubCommand (state_of_hub x old) node (Create role id (options_of chosen)) reply
+    → IsHubCommand (state_of_hub x old) node (Create role id (options_with chosen handler)) reply
     (state_of_hub x new))

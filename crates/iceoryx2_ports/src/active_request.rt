@@ -35,7 +35,7 @@ use crate::headers::request_header;
 use crate::loans::lend_response;
 use crate::releases::release_handle;
 use crate::response_mut::{ResponseMut, ResponseMutUninit};
-use iox_hub_laws::Hub;
+use iox_hub_laws::{Backpressure, Hub};
 use iox_model::kind::Kind;
 use iox_store::{Many, One, Payload};
 use iox_types::RequestHeader;
@@ -69,7 +69,7 @@ impl<Q: Payload, QH: Words, P: Payload, PH: Words> ActiveRequest<Q, QH, P, PH> {
     }
 
     /// The payload of the request.
-    pub fn payload<'a>(&self, hub: &'a Hub<Q, QH, P, PH>) -> &'a [Q::Element]
+    pub fn payload<'a, H: Backpressure>(&self, hub: &'a Hub<Q, QH, P, PH, H>) -> &'a [Q::Element]
         requires has { HasValue hub.now self.now.node self.now.number kinds.ActiveRequest }
         ensures words { flat_map Q.Element.words result.now
             ≡ (message_in hub.now self.now.node self.now.number).payload }
@@ -83,7 +83,10 @@ impl<Q: Payload, QH: Words, P: Payload, PH: Words> ActiveRequest<Q, QH, P, PH> {
     }
 
     /// The first element of the request, if it has one.
-    pub fn first<'a>(&self, hub: &'a Hub<Q, QH, P, PH>) -> Option<&'a Q::Element>
+    pub fn first<'a, H: Backpressure>(
+        &self,
+        hub: &'a Hub<Q, QH, P, PH, H>,
+    ) -> Option<&'a Q::Element>
         requires has { HasValue hub.now self.now.node self.now.number kinds.ActiveRequest }
         ensures words { IfSome result (λ element.
             BeginsWith (message_in hub.now self.now.node self.now.number).payload
@@ -95,7 +98,7 @@ impl<Q: Payload, QH: Words, P: Payload, PH: Words> ActiveRequest<Q, QH, P, PH> {
     }
 
     /// The user header of the request.
-    pub fn user_header<'a>(&self, hub: &'a Hub<Q, QH, P, PH>) -> &'a QH
+    pub fn user_header<'a, H: Backpressure>(&self, hub: &'a Hub<Q, QH, P, PH, H>) -> &'a QH
         requires has { HasValue hub.now self.now.node self.now.number kinds.ActiveRequest }
         ensures words { QH.words result.now
             ≡ (message_in hub.now self.now.node self.now.number).user }
@@ -109,7 +112,10 @@ impl<Q: Payload, QH: Words, P: Payload, PH: Words> ActiveRequest<Q, QH, P, PH> {
     }
 
     /// The header of the request. It fails where its client was made for an id that no node has.
-    pub fn header(&self, hub: &Hub<Q, QH, P, PH>) -> Result<RequestHeader, UniqueNodeIdError>
+    pub fn header<H: Backpressure>(
+        &self,
+        hub: &Hub<Q, QH, P, PH, H>,
+    ) -> Result<RequestHeader, UniqueNodeIdError>
         requires has { HasValue hub.now self.now.node self.now.number kinds.ActiveRequest }
         ensures header { result ≡ request_header_of
             (header_in hub.now self.now.node self.now.number) }
@@ -119,7 +125,7 @@ impl<Q: Payload, QH: Words, P: Payload, PH: Words> ActiveRequest<Q, QH, P, PH> {
     }
 
     /// The id of the client that sent the request.
-    pub fn origin(&self, hub: &Hub<Q, QH, P, PH>) -> UniqueClientId
+    pub fn origin<H: Backpressure>(&self, hub: &Hub<Q, QH, P, PH, H>) -> UniqueClientId
         requires has { HasValue hub.now self.now.node self.now.number kinds.ActiveRequest }
         ensures id { result ≡ (header_in hub.now self.now.node self.now.number).port_id }
         ensures shown { IsHeaderShown hub.now self.now.node self.now.number }
@@ -129,7 +135,7 @@ impl<Q: Payload, QH: Words, P: Payload, PH: Words> ActiveRequest<Q, QH, P, PH> {
     }
 
     /// Whether the request is still open.
-    pub fn is_connected(&self, hub: &Hub<Q, QH, P, PH>) -> bool
+    pub fn is_connected<H: Backpressure>(&self, hub: &Hub<Q, QH, P, PH, H>) -> bool
         requires has { HasValue hub.now self.now.node self.now.number kinds.ActiveRequest }
         ensures whole { (x : Given) → IsWholeCall (state_of_hub x hub.now) self.now.node
             (calls.IsConnected self.now.number) (Answer result) (state_of_hub x hub.now) }
@@ -140,7 +146,7 @@ impl<Q: Payload, QH: Words, P: Payload, PH: Words> ActiveRequest<Q, QH, P, PH> {
     }
 
     /// Whether its client told that it wants no more responses.
-    pub fn has_disconnect_hint(&self, hub: &Hub<Q, QH, P, PH>) -> bool
+    pub fn has_disconnect_hint<H: Backpressure>(&self, hub: &Hub<Q, QH, P, PH, H>) -> bool
         requires has { HasValue hub.now self.now.node self.now.number kinds.ActiveRequest }
         ensures whole { (x : Given) → IsWholeCall (state_of_hub x hub.now) self.now.node
             (calls.HasHint self.now.number) (Answer result) (state_of_hub x hub.now) }
@@ -149,7 +155,7 @@ impl<Q: Payload, QH: Words, P: Payload, PH: Words> ActiveRequest<Q, QH, P, PH> {
     }
 
     /// Whether the hub still has it.
-    pub fn exists(&self, hub: &Hub<Q, QH, P, PH>) -> bool
+    pub fn exists<H: Backpressure>(&self, hub: &Hub<Q, QH, P, PH, H>) -> bool
         ensures { IsTrue result
             ↔ HasValue hub.now self.now.node self.now.number kinds.ActiveRequest }
     {
@@ -157,7 +163,7 @@ impl<Q: Payload, QH: Words, P: Payload, PH: Words> ActiveRequest<Q, QH, P, PH> {
     }
 
     /// Gives it up. Where the hub no longer has it, nothing changes.
-    pub fn release(self, hub: &mut Hub<Q, QH, P, PH>)
+    pub fn release<H: Backpressure>(self, hub: &mut Hub<Q, QH, P, PH, H>)
         ensures released { IsReleased hub.old self.node self.number kinds.ActiveRequest hub.new }
         ensures idle { GivesBack hub.old self.node self.number kinds.ActiveRequest hub.new }
     {
@@ -173,9 +179,9 @@ impl<Q: Payload, QH: Words, P: Payload, PH: Words> ActiveRequest<Q, QH, P, PH> {
 
 impl<Q: Payload, QH: Words, E: Words, PH: Words> ActiveRequest<Q, QH, One<E>, PH> {
     /// Loans a response that is not filled yet.
-    pub fn loan_uninit(
+    pub fn loan_uninit<H: Backpressure>(
         &self,
-        hub: &mut Hub<Q, QH, One<E>, PH>,
+        hub: &mut Hub<Q, QH, One<E>, PH, H>,
     ) -> Result<ResponseMutUninit<Q, QH, One<E>, PH>, LoanError>
         requires has { HasValue hub.old self.now.node self.now.number kinds.ActiveRequest }
         ensures whole { (x : Given) → IsWholeCall (state_of_hub x hub.old) self.now.node
@@ -211,9 +217,9 @@ impl<Q: Payload, QH: Words, E: Words, PH: Words> ActiveRequest<Q, QH, One<E>, PH
     }
 
     /// Loans a response that is filled with the default.
-    pub fn loan(
+    pub fn loan<H: Backpressure>(
         &self,
-        hub: &mut Hub<Q, QH, One<E>, PH>,
+        hub: &mut Hub<Q, QH, One<E>, PH, H>,
     ) -> Result<ResponseMut<Q, QH, One<E>, PH>, LoanError>
         requires has { HasValue hub.old self.now.node self.now.number kinds.ActiveRequest }
         requires default { IsSome hub.old.response.default }
@@ -252,9 +258,9 @@ impl<Q: Payload, QH: Words, E: Words, PH: Words> ActiveRequest<Q, QH, One<E>, PH
 
 impl<Q: Payload, QH: Words, E: Words, PH: Words> ActiveRequest<Q, QH, Many<E>, PH> {
     /// Loans a response for so many elements, none of which is filled yet.
-    pub fn loan_slice_uninit(
+    pub fn loan_slice_uninit<H: Backpressure>(
         &self,
-        hub: &mut Hub<Q, QH, Many<E>, PH>,
+        hub: &mut Hub<Q, QH, Many<E>, PH, H>,
         elements: usize,
     ) -> Result<ResponseMutUninit<Q, QH, Many<E>, PH>, LoanError>
         requires has { HasValue hub.old self.now.node self.now.number kinds.ActiveRequest }
@@ -291,9 +297,9 @@ impl<Q: Payload, QH: Words, E: Words, PH: Words> ActiveRequest<Q, QH, Many<E>, P
     }
 
     /// Loans a response of so many elements, each filled with the default.
-    pub fn loan_slice(
+    pub fn loan_slice<H: Backpressure>(
         &self,
-        hub: &mut Hub<Q, QH, Many<E>, PH>,
+        hub: &mut Hub<Q, QH, Many<E>, PH, H>,
         elements: usize,
     ) -> Result<ResponseMut<Q, QH, Many<E>, PH>, LoanError>
         requires has { HasValue hub.old self.now.node self.now.number kinds.ActiveRequest }

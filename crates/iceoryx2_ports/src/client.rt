@@ -30,7 +30,7 @@ use crate::errors::{ConnectionFailure, LoanError};
 use crate::loans::lend_request;
 use crate::releases::release_port;
 use crate::request_mut::{RequestMut, RequestMutUninit};
-use iox_hub_laws::Hub;
+use iox_hub_laws::{Backpressure, Hub};
 use iox_model::kind::Kind;
 use iox_store::{Many, One, Payload};
 use iox_types::BackpressureStrategy;
@@ -61,7 +61,7 @@ impl<Q: Payload, QH: Words, P: Payload, PH: Words> Client<Q, QH, P, PH> {
     }
 
     /// Its id.
-    pub fn id(&self, hub: &Hub<Q, QH, P, PH>) -> UniqueClientId
+    pub fn id<H: Backpressure>(&self, hub: &Hub<Q, QH, P, PH, H>) -> UniqueClientId
         requires has { HasValue hub.now self.now.node self.now.number kinds.Client }
         ensures id { result ≡ id_in hub.now self.now.number }
         ensures shown { IsIdShown hub.now self.now.number }
@@ -70,7 +70,10 @@ impl<Q: Payload, QH: Words, P: Payload, PH: Words> Client<Q, QH, P, PH> {
     }
 
     /// What it does at a full server.
-    pub fn backpressure_strategy(&self, hub: &Hub<Q, QH, P, PH>) -> BackpressureStrategy
+    pub fn backpressure_strategy<H: Backpressure>(
+        &self,
+        hub: &Hub<Q, QH, P, PH, H>,
+    ) -> BackpressureStrategy
         requires has { HasValue hub.now self.now.node self.now.number kinds.Client }
         ensures { (x : Given) → option_map (λ p. p.strategy)
             (port_at (state_of_hub x hub.now).fixed self.now.number) ≡ Some result }
@@ -79,7 +82,7 @@ impl<Q: Payload, QH: Words, P: Payload, PH: Words> Client<Q, QH, P, PH> {
     }
 
     /// The greatest length of its requests.
-    pub fn initial_max_slice_len(&self, hub: &Hub<Q, QH, P, PH>) -> u64
+    pub fn initial_max_slice_len<H: Backpressure>(&self, hub: &Hub<Q, QH, P, PH, H>) -> u64
         requires has { HasValue hub.now self.now.node self.now.number kinds.Client }
         ensures { (x : Given) → option_map (λ p. p.longest)
             (port_at (state_of_hub x hub.now).fixed self.now.number) ≡ Some result }
@@ -88,7 +91,10 @@ impl<Q: Payload, QH: Words, P: Payload, PH: Words> Client<Q, QH, P, PH> {
     }
 
     /// Does nothing: ports are connected as they are made.
-    pub fn update_connections(&self, _hub: &Hub<Q, QH, P, PH>) -> Result<(), ConnectionFailure>
+    pub fn update_connections<H: Backpressure>(
+        &self,
+        _hub: &Hub<Q, QH, P, PH, H>,
+    ) -> Result<(), ConnectionFailure>
         requires has { HasValue _hub.now self.now.node self.now.number kinds.Client }
         ensures { IsOk result }
     {
@@ -96,14 +102,14 @@ impl<Q: Payload, QH: Words, P: Payload, PH: Words> Client<Q, QH, P, PH> {
     }
 
     /// Whether the hub still has it.
-    pub fn exists(&self, hub: &Hub<Q, QH, P, PH>) -> bool
+    pub fn exists<H: Backpressure>(&self, hub: &Hub<Q, QH, P, PH, H>) -> bool
         ensures { IsTrue result ↔ HasValue hub.now self.now.node self.now.number kinds.Client }
     {
         hub.has(self.node, self.number, Kind::Client, 0)
     }
 
     /// Gives it up. Where the hub no longer has it, nothing changes.
-    pub fn release(self, hub: &mut Hub<Q, QH, P, PH>)
+    pub fn release<H: Backpressure>(self, hub: &mut Hub<Q, QH, P, PH, H>)
         ensures { IsReleased hub.old self.node self.number kinds.Client hub.new }
     {
         let Client {
@@ -117,9 +123,9 @@ impl<Q: Payload, QH: Words, P: Payload, PH: Words> Client<Q, QH, P, PH> {
 
 impl<E: Words, QH: Words, P: Payload, PH: Words> Client<One<E>, QH, P, PH> {
     /// Loans a request that is not filled yet.
-    pub fn loan_uninit(
+    pub fn loan_uninit<H: Backpressure>(
         &self,
-        hub: &mut Hub<One<E>, QH, P, PH>,
+        hub: &mut Hub<One<E>, QH, P, PH, H>,
     ) -> Result<RequestMutUninit<One<E>, QH, P, PH>, LoanError>
         requires has { HasValue hub.old self.now.node self.now.number kinds.Client }
         ensures whole { (x : Given) → IsWholeCall (state_of_hub x hub.old) self.now.node
@@ -154,9 +160,9 @@ impl<E: Words, QH: Words, P: Payload, PH: Words> Client<One<E>, QH, P, PH> {
     }
 
     /// Loans a request that is filled with the default.
-    pub fn loan(
+    pub fn loan<H: Backpressure>(
         &self,
-        hub: &mut Hub<One<E>, QH, P, PH>,
+        hub: &mut Hub<One<E>, QH, P, PH, H>,
     ) -> Result<RequestMut<One<E>, QH, P, PH>, LoanError>
         requires has { HasValue hub.old self.now.node self.now.number kinds.Client }
         requires default { IsSome hub.old.request.default }
@@ -194,9 +200,9 @@ impl<E: Words, QH: Words, P: Payload, PH: Words> Client<One<E>, QH, P, PH> {
 
 impl<E: Words, QH: Words, P: Payload, PH: Words> Client<Many<E>, QH, P, PH> {
     /// Loans a request for so many elements, none of which is filled yet.
-    pub fn loan_slice_uninit(
+    pub fn loan_slice_uninit<H: Backpressure>(
         &self,
-        hub: &mut Hub<Many<E>, QH, P, PH>,
+        hub: &mut Hub<Many<E>, QH, P, PH, H>,
         elements: usize,
     ) -> Result<RequestMutUninit<Many<E>, QH, P, PH>, LoanError>
         requires has { HasValue hub.old self.now.node self.now.number kinds.Client }
@@ -232,9 +238,9 @@ impl<E: Words, QH: Words, P: Payload, PH: Words> Client<Many<E>, QH, P, PH> {
     }
 
     /// Loans a request of so many elements, each filled with the default.
-    pub fn loan_slice(
+    pub fn loan_slice<H: Backpressure>(
         &self,
-        hub: &mut Hub<Many<E>, QH, P, PH>,
+        hub: &mut Hub<Many<E>, QH, P, PH, H>,
         elements: usize,
     ) -> Result<RequestMut<Many<E>, QH, P, PH>, LoanError>
         requires has { HasValue hub.old self.now.node self.now.number kinds.Client }

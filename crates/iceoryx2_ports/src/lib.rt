@@ -41,8 +41,8 @@ pub use errors::{
     ServerCreateError,
 };
 pub use iox_hub_laws::{
-    Hub, MessageShape, Part, PreallocatedRequestsOverride, PreallocatedResponseOverride, Settings,
-    default_settings,
+    Always, Backpressure, BackpressureAction, BackpressureInfo, Hub, MessageShape, Part,
+    PreallocatedRequestsOverride, PreallocatedResponseOverride, Settings, default_settings,
 };
 pub use iox_model::command::{PortCommand, PortOptions};
 pub use iox_model::kind::{Kind, Role};

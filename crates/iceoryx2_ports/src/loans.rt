@@ -24,13 +24,13 @@ ghost use Rattle.iceoryx2_ports.specs.declared.errors.LoanError.TheVariants.{Out
 ghost use Rattle.iceoryx2_ports.specs.declared.errors.LoanError.TheVariants.{WantOfMemory};
 
 use crate::errors::LoanError;
-use iox_hub_laws::{Hub, Lent, LoanRefusal};
+use iox_hub_laws::{Backpressure, Hub, Lent, LoanRefusal};
 use iox_store::Payload;
 use iox_words::Words;
 
 /// Loans a request of that client, and tells its number.
-pub(crate) fn lend_request<Q: Payload, QH: Words, P: Payload, PH: Words>(
-    hub: &mut Hub<Q, QH, P, PH>,
+pub(crate) fn lend_request<Q: Payload, QH: Words, P: Payload, PH: Words, H: Backpressure>(
+    hub: &mut Hub<Q, QH, P, PH, H>,
     node: u64,
     client: u64,
     elements: usize,
@@ -75,8 +75,8 @@ pub(crate) fn lend_request<Q: Payload, QH: Words, P: Payload, PH: Words>(
 }
 
 /// Loans a response to that active request, and tells its number.
-pub(crate) fn lend_response<Q: Payload, QH: Words, P: Payload, PH: Words>(
-    hub: &mut Hub<Q, QH, P, PH>,
+pub(crate) fn lend_response<Q: Payload, QH: Words, P: Payload, PH: Words, H: Backpressure>(
+    hub: &mut Hub<Q, QH, P, PH, H>,
     node: u64,
     number: u64,
     hint: usize,

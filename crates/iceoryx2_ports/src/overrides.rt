@@ -1,18 +1,22 @@
 //! Pools that closures choose for the ports that factories make.
 ghost use Rattle.iceoryx2_ports.specs.Overrides.{HaveItsPool};
 
-use iox_hub_laws::{Hub, Options, PreallocatedRequestsOverride, PreallocatedResponseOverride};
+use iox_hub_laws::{
+    Backpressure, Hub, Options, PreallocatedRequestsOverride, PreallocatedResponseOverride,
+};
 use iox_model::kind::Role;
 use iox_store::Payload;
 use iox_words::Words;
 
 /// These options, with the pool that the closure chooses for a port of that role.
-pub(crate) fn with_pool<Q: Payload, QH: Words, P: Payload, PH: Words, F: Fn(usize) -> usize + Drop>(
-    hub: &Hub<Q, QH, P, PH>,
-    role: Role,
-    options: Options,
-    callback: F,
-) -> Options
+pub(crate) fn with_pool<
+    Q: Payload,
+    QH: Words,
+    P: Payload,
+    PH: Words,
+    H: Backpressure,
+    F: Fn(usize) -> usize + Drop,
+>(hub: &Hub<Q, QH, P, PH, H>, role: Role, options: Options, callback: F) -> Options
     requires { F.IsAlwaysCallable callback }
     ensures { HaveItsPool hub.now role (F.post callback) options result }
 {

@@ -27,7 +27,7 @@ use crate::errors::ReceiveError;
 use crate::headers::request_header;
 use crate::releases::release_handle;
 use crate::response::Response;
-use iox_hub_laws::{Hub, Received, receive_response};
+use iox_hub_laws::{Backpressure, Hub, Received, receive_response};
 use iox_model::kind::Kind;
 use iox_store::Payload;
 use iox_types::RequestHeader;
@@ -71,9 +71,9 @@ impl<Q: Payload, QH: Words, P: Payload, PH: Words> PendingResponse<Q, QH, P, PH>
 
     /// Receives a response, if one is there: one to its own request, that waits, comes next on its
     /// way and is new to the client. A response to another request is released and skipped.
-    pub fn receive(
+    pub fn receive<H: Backpressure>(
         &self,
-        hub: &mut Hub<Q, QH, P, PH>,
+        hub: &mut Hub<Q, QH, P, PH, H>,
     ) -> Result<Option<Response<Q, QH, P, PH>>, ReceiveError>
         requires has { HasValue hub.old self.now.node self.now.number kinds.PendingResponse }
         requires calls { HasCallsLeft hub.old }
@@ -113,7 +113,7 @@ impl<Q: Payload, QH: Words, P: Payload, PH: Words> PendingResponse<Q, QH, P, PH>
 
     /// Whether a response waits. It may be one to another request, so that nothing is received
     /// then.
-    pub fn has_response(&self, hub: &Hub<Q, QH, P, PH>) -> bool
+    pub fn has_response<H: Backpressure>(&self, hub: &Hub<Q, QH, P, PH, H>) -> bool
         requires has { HasValue hub.now self.now.node self.now.number kinds.PendingResponse }
         ensures whole { (x : Given) → IsWholeCall (state_of_hub x hub.now) self.now.node
             (calls.HasResponse self.now.number) (Answer result) (state_of_hub x hub.now) }
@@ -122,7 +122,7 @@ impl<Q: Payload, QH: Words, P: Payload, PH: Words> PendingResponse<Q, QH, P, PH>
     }
 
     /// Tells each server that has the request open that its client wants no more responses.
-    pub fn set_disconnect_hint(&self, hub: &mut Hub<Q, QH, P, PH>)
+    pub fn set_disconnect_hint<H: Backpressure>(&self, hub: &mut Hub<Q, QH, P, PH, H>)
         requires has { HasValue hub.old self.now.node self.now.number kinds.PendingResponse }
         ensures left { hub.new ≡ with_control hub.old hub.new.control }
         ensures whole { (x : Given) → IsWholeCall (state_of_hub x hub.old) self.now.node
@@ -136,7 +136,7 @@ impl<Q: Payload, QH: Words, P: Payload, PH: Words> PendingResponse<Q, QH, P, PH>
     }
 
     /// The payload of the request.
-    pub fn payload<'a>(&self, hub: &'a Hub<Q, QH, P, PH>) -> &'a [Q::Element]
+    pub fn payload<'a, H: Backpressure>(&self, hub: &'a Hub<Q, QH, P, PH, H>) -> &'a [Q::Element]
         requires has { HasValue hub.now self.now.node self.now.number kinds.PendingResponse }
         ensures words { flat_map Q.Element.words result.now
             ≡ (message_in hub.now self.now.node self.now.number).payload }
@@ -150,7 +150,7 @@ impl<Q: Payload, QH: Words, P: Payload, PH: Words> PendingResponse<Q, QH, P, PH>
     }
 
     /// The user header of the request.
-    pub fn user_header<'a>(&self, hub: &'a Hub<Q, QH, P, PH>) -> &'a QH
+    pub fn user_header<'a, H: Backpressure>(&self, hub: &'a Hub<Q, QH, P, PH, H>) -> &'a QH
         requires has { HasValue hub.now self.now.node self.now.number kinds.PendingResponse }
         ensures words { QH.words result.now
             ≡ (message_in hub.now self.now.node self.now.number).user }
@@ -164,7 +164,10 @@ impl<Q: Payload, QH: Words, P: Payload, PH: Words> PendingResponse<Q, QH, P, PH>
     }
 
     /// The header of the request. It fails where its client was made for an id that no node has.
-    pub fn header(&self, hub: &Hub<Q, QH, P, PH>) -> Result<RequestHeader, UniqueNodeIdError>
+    pub fn header<H: Backpressure>(
+        &self,
+        hub: &Hub<Q, QH, P, PH, H>,
+    ) -> Result<RequestHeader, UniqueNodeIdError>
         requires has { HasValue hub.now self.now.node self.now.number kinds.PendingResponse }
         ensures header { result ≡ request_header_of
             (header_in hub.now self.now.node self.now.number) }
@@ -174,7 +177,7 @@ impl<Q: Payload, QH: Words, P: Payload, PH: Words> PendingResponse<Q, QH, P, PH>
     }
 
     /// Whether the request is still open.
-    pub fn is_connected(&self, hub: &Hub<Q, QH, P, PH>) -> bool
+    pub fn is_connected<H: Backpressure>(&self, hub: &Hub<Q, QH, P, PH, H>) -> bool
         requires has { HasValue hub.now self.now.node self.now.number kinds.PendingResponse }
         ensures whole { (x : Given) → IsWholeCall (state_of_hub x hub.now) self.now.node
             (calls.IsConnected self.now.number) (Answer result) (state_of_hub x hub.now) }
@@ -183,7 +186,7 @@ impl<Q: Payload, QH: Words, P: Payload, PH: Words> PendingResponse<Q, QH, P, PH>
     }
 
     /// Whether the hub still has it.
-    pub fn exists(&self, hub: &Hub<Q, QH, P, PH>) -> bool
+    pub fn exists<H: Backpressure>(&self, hub: &Hub<Q, QH, P, PH, H>) -> bool
         ensures { IsTrue result
             ↔ HasValue hub.now self.now.node self.now.number kinds.PendingResponse }
     {
@@ -191,7 +194,7 @@ impl<Q: Payload, QH: Words, P: Payload, PH: Words> PendingResponse<Q, QH, P, PH>
     }
 
     /// Gives it up. Where the hub no longer has it, nothing changes.
-    pub fn release(self, hub: &mut Hub<Q, QH, P, PH>)
+    pub fn release<H: Backpressure>(self, hub: &mut Hub<Q, QH, P, PH, H>)
         ensures { IsReleased hub.old self.node self.number kinds.PendingResponse hub.new }
     {
         let PendingResponse {

@@ -1,13 +1,15 @@
 //! The making of clients.
-ghost use Rattle.std.specs.Prelude.{◌≡◌, ◌≢◌, ℕ, IfErr, IfOk, OnErr, Some};
+ghost use Rattle.std.specs.Prelude.{◌≡◌, ◌≢◌, ℕ, IfErr, IfOk, None, OnErr, Some};
+ghost use Rattle.std.specs.Option.{option_map};
 ghost use Rattle.iox_model.specs.declared.kind.Kind.TheVariants as kinds;
 ghost use Rattle.iox_model.specs.declared.kind.Role.TheVariants as roles;
 ghost use Rattle.iox_model.specs.Commands.{Create};
 ghost use Rattle.iox_model.specs.Makings.{IsHubCommand};
 ghost use Rattle.iox_tables.specs.HubStates.States.{Given};
+ghost use Rattle.iox_hub_laws.specs.HandlerWords.{shown_by};
 ghost use Rattle.iox_hub_laws.specs.Hubs.{HasValue, state_of_hub};
 ghost use Rattle.iox_hub_laws.specs.Keeping.{HaveSameShapes, KeepsAll};
-ghost use Rattle.iox_hub_laws.specs.Making.{LeavesMessages, StaysAs, options_of};
+ghost use Rattle.iox_hub_laws.specs.Making.{LeavesMessages, StaysAs, options_with};
 ghost use Rattle.iox_hub_laws.specs.Sends.{NothingComes};
 ghost use Rattle.iceoryx2_ports.specs.LoanLimits.{LendsNone};
 ghost use Rattle.iceoryx2_ports.specs.Makings.{first_options, reply_of_client};
@@ -17,7 +19,7 @@ ghost use Rattle.iceoryx2_ports.specs.declared.errors.ClientCreateError.TheVaria
 
 use crate::client::Client;
 use crate::errors::ClientCreateError;
-use iox_hub_laws::{Hub, NotMade, Options};
+use iox_hub_laws::{Backpressure, Hub, NotMade, Options};
 use iox_model::kind::Role;
 use iox_store::Payload;
 use iox_types::identifiers::UniqueSystemId;
@@ -33,19 +35,28 @@ pub use overriding::PreallocatedClient;
 /// What a client is made with. Where nothing was said, the service's settings hold.
 #[derive(Drop)]
 #[derive_where(Debug)]
-pub struct PortFactoryClient<Q, QH, P, PH> {
+pub struct PortFactoryClient<Q, QH, P, PH, H = ()> {
     node: u64,
     node_id: UniqueSystemId,
     options: Options,
+    #[derive_where(skip)]
+    handler: Option<H>,
     of: PhantomData<(Q, QH, P, PH)>,
 }
 
-impl<Q: Payload, QH: Words, P: Payload, PH: Words> PortFactoryClient<Q, QH, P, PH> {
+impl<Q: Payload, QH: Words, P: Payload, PH: Words, H: Backpressure> PortFactoryClient<
+    Q,
+    QH,
+    P,
+    PH,
+    H,
+> {
     /// A client of this node, whose messages have at most one element.
     pub fn new(node: u64, node_id: UniqueSystemId) -> Self
         ensures node { result.node ≡ node }
         ensures id { result.node_id ≡ node_id }
         ensures options { result.options ≡ first_options }
+        ensures handler { result.handler ≡ None }
     {
         PortFactoryClient {
             node,
@@ -57,6 +68,7 @@ impl<Q: Payload, QH: Words, P: Payload, PH: Words> PortFactoryClient<Q, QH, P, P
                 allocation: None,
                 loaned_responses: None,
             },
+            handler: None,
             of: PhantomData,
         }
     }
@@ -108,14 +120,26 @@ impl<Q: Payload, QH: Words, P: Payload, PH: Words> PortFactoryClient<Q, QH, P, P
         PortFactoryClient { options, ..self }
     }
 
+    /// Lets that handler say what comes of a request for a full server, in place of the strategy. It
+    /// is asked about each full server by itself.
+    pub fn set_backpressure_handler(self, handler: H) -> Self
+        ensures { result ≡ record self { handler = Some handler } }
+    {
+        PortFactoryClient {
+            handler: Some(handler),
+            ..self
+        }
+    }
+
     /// Makes the client. Where it is refused, all stays.
     pub fn create(
         self,
         alloc: Global,
-        hub: &mut Hub<Q, QH, P, PH>,
+        hub: &mut Hub<Q, QH, P, PH, H>,
     ) -> Result<Client<Q, QH, P, PH>, ClientCreateError>
         ensures whole { (x : Given) → IsHubCommand (state_of_hub x hub.old) self.node
-            (Create roles.Client self.node_id (options_of self.options)) (reply_of_client result)
+            (Create roles.Client self.node_id (options_with self.options
+            (option_map (shown_by H.action) self.handler))) (reply_of_client result)
             (state_of_hub x hub.new) }
         ensures node { IfOk result (λ client. client.node ≡ self.node) }
         ensures has { IfOk result (λ client.
@@ -132,7 +156,14 @@ impl<Q: Payload, QH: Words, P: Payload, PH: Words> PortFactoryClient<Q, QH, P, P
         ensures refused { IfErr result (λ error. error ≢ FailedToDeployThreadsafetyPolicy) }
     {
         hub.is_in_order();
-        match hub.make_port(alloc, self.node, Role::Client, self.node_id, self.options) {
+        match hub.make_port(
+            alloc,
+            self.node,
+            Role::Client,
+            self.node_id,
+            self.options,
+            self.handler,
+        ) {
             Ok(number) => {
                 hub.is_in_order();
                 Ok(Client::new(self.node, number))

@@ -6,14 +6,14 @@ ghost use Rattle.iceoryx2_ports.specs.Idling.{GivesBack};
 ghost use Rattle.iceoryx2_ports.specs.Releases.{IsReleased};
 ghost use Rattle.iceoryx2_ports.specs.Rooms.{GivesRoomBack};
 
-use iox_hub_laws::Hub;
+use iox_hub_laws::{Backpressure, Hub};
 use iox_model::kind::Kind;
 use iox_store::Payload;
 use iox_words::Words;
 
 /// Releases the node's handle of that number and kind, if it has one.
-pub(crate) fn release_handle<Q: Payload, QH: Words, P: Payload, PH: Words>(
-    hub: &mut Hub<Q, QH, P, PH>,
+pub(crate) fn release_handle<Q: Payload, QH: Words, P: Payload, PH: Words, H: Backpressure>(
+    hub: &mut Hub<Q, QH, P, PH, H>,
     node: u64,
     number: u64,
     kind: Kind,
@@ -31,8 +31,8 @@ pub(crate) fn release_handle<Q: Payload, QH: Words, P: Payload, PH: Words>(
 }
 
 /// Releases the node's port of that number and kind, if it has one.
-pub(crate) fn release_port<Q: Payload, QH: Words, P: Payload, PH: Words>(
-    hub: &mut Hub<Q, QH, P, PH>,
+pub(crate) fn release_port<Q: Payload, QH: Words, P: Payload, PH: Words, H: Backpressure>(
+    hub: &mut Hub<Q, QH, P, PH, H>,
     node: u64,
     number: u64,
     kind: Kind,

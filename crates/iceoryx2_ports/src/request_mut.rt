@@ -33,7 +33,7 @@ use crate::errors::{RequestSendError, SendError};
 use crate::headers::request_header;
 use crate::pending_response::PendingResponse;
 use crate::releases::release_handle;
-use iox_hub_laws::{Hub, Requested, Written, send_request};
+use iox_hub_laws::{Backpressure, Hub, Requested, Written, send_request};
 use iox_model::kind::Kind;
 use iox_store::{One, Payload};
 use iox_types::RequestHeader;
@@ -77,9 +77,9 @@ impl<Q: Payload, QH: Words, P: Payload, PH: Words> RequestMutUninit<Q, QH, P, PH
 
     /// Fills the request with copies of these elements. Where they are not as many as it is loaned
     /// for, nothing changes, and the loan is given back.
-    pub fn write_from_slice(
+    pub fn write_from_slice<H: Backpressure>(
         self,
-        hub: &mut Hub<Q, QH, P, PH>,
+        hub: &mut Hub<Q, QH, P, PH, H>,
         values: &[Q::Element],
     ) -> Result<RequestMut<Q, QH, P, PH>, Self>
         requires has { HasValue hub.old self.node self.number kinds.RequestMutUninit }
@@ -124,7 +124,10 @@ impl<Q: Payload, QH: Words, P: Payload, PH: Words> RequestMutUninit<Q, QH, P, PH
     }
 
     /// The header of the request. It fails where its client was made for an id that no node has.
-    pub fn header(&self, hub: &Hub<Q, QH, P, PH>) -> Result<RequestHeader, UniqueNodeIdError>
+    pub fn header<H: Backpressure>(
+        &self,
+        hub: &Hub<Q, QH, P, PH, H>,
+    ) -> Result<RequestHeader, UniqueNodeIdError>
         requires has { HasValue hub.now self.now.node self.now.number kinds.RequestMutUninit }
         ensures header { result ≡ request_header_of
             (header_in hub.now self.now.node self.now.number) }
@@ -135,7 +138,7 @@ impl<Q: Payload, QH: Words, P: Payload, PH: Words> RequestMutUninit<Q, QH, P, PH
     }
 
     /// Whether the hub still has it.
-    pub fn exists(&self, hub: &Hub<Q, QH, P, PH>) -> bool
+    pub fn exists<H: Backpressure>(&self, hub: &Hub<Q, QH, P, PH, H>) -> bool
         ensures { IsTrue result
             ↔ HasValue hub.now self.now.node self.now.number kinds.RequestMutUninit }
     {
@@ -143,7 +146,7 @@ impl<Q: Payload, QH: Words, P: Payload, PH: Words> RequestMutUninit<Q, QH, P, PH
     }
 
     /// Gives it up. Where the hub no longer has it, nothing changes.
-    pub fn release(self, hub: &mut Hub<Q, QH, P, PH>)
+    pub fn release<H: Backpressure>(self, hub: &mut Hub<Q, QH, P, PH, H>)
         ensures { IsReleased hub.old self.node self.number kinds.RequestMutUninit hub.new }
     {
         let RequestMutUninit {
@@ -158,9 +161,9 @@ impl<Q: Payload, QH: Words, P: Payload, PH: Words> RequestMutUninit<Q, QH, P, PH
 
 impl<E: Words, QH: Words, P: Payload, PH: Words> RequestMutUninit<One<E>, QH, P, PH> {
     /// Fills the request with that value.
-    pub fn write_payload(
+    pub fn write_payload<H: Backpressure>(
         self,
-        hub: &mut Hub<One<E>, QH, P, PH>,
+        hub: &mut Hub<One<E>, QH, P, PH, H>,
         value: E,
     ) -> RequestMut<One<E>, QH, P, PH>
         requires has { HasValue hub.old self.node self.number kinds.RequestMutUninit }
@@ -214,7 +217,7 @@ impl<Q: Payload, QH: Words, P: Payload, PH: Words> RequestMut<Q, QH, P, PH> {
     }
 
     /// The payload of the request.
-    pub fn payload<'a>(&self, hub: &'a Hub<Q, QH, P, PH>) -> &'a [Q::Element]
+    pub fn payload<'a, H: Backpressure>(&self, hub: &'a Hub<Q, QH, P, PH, H>) -> &'a [Q::Element]
         requires has { HasValue hub.now self.now.node self.now.number kinds.RequestMut }
         ensures words { flat_map Q.Element.words result.now
             ≡ (message_in hub.now self.now.node self.now.number).payload }
@@ -228,7 +231,7 @@ impl<Q: Payload, QH: Words, P: Payload, PH: Words> RequestMut<Q, QH, P, PH> {
     }
 
     /// The user header of the request.
-    pub fn user_header<'a>(&self, hub: &'a Hub<Q, QH, P, PH>) -> &'a QH
+    pub fn user_header<'a, H: Backpressure>(&self, hub: &'a Hub<Q, QH, P, PH, H>) -> &'a QH
         requires has { HasValue hub.now self.now.node self.now.number kinds.RequestMut }
         ensures words { QH.words result.now
             ≡ (message_in hub.now self.now.node self.now.number).user }
@@ -242,7 +245,10 @@ impl<Q: Payload, QH: Words, P: Payload, PH: Words> RequestMut<Q, QH, P, PH> {
     }
 
     /// The header of the request. It fails where its client was made for an id that no node has.
-    pub fn header(&self, hub: &Hub<Q, QH, P, PH>) -> Result<RequestHeader, UniqueNodeIdError>
+    pub fn header<H: Backpressure>(
+        &self,
+        hub: &Hub<Q, QH, P, PH, H>,
+    ) -> Result<RequestHeader, UniqueNodeIdError>
         requires has { HasValue hub.now self.now.node self.now.number kinds.RequestMut }
         ensures header { result ≡ request_header_of
             (header_in hub.now self.now.node self.now.number) }
@@ -252,9 +258,9 @@ impl<Q: Payload, QH: Words, P: Payload, PH: Words> RequestMut<Q, QH, P, PH> {
     }
 
     /// Sends the request to all servers. Where that fails, the request is lost.
-    pub fn send(
+    pub fn send<H: Backpressure>(
         self,
-        hub: &mut Hub<Q, QH, P, PH>,
+        hub: &mut Hub<Q, QH, P, PH, H>,
     ) -> Result<PendingResponse<Q, QH, P, PH>, RequestSendError>
         requires has { HasValue hub.old self.node self.number kinds.RequestMut }
         requires calls { HasCallsLeft hub.old }
@@ -297,14 +303,14 @@ impl<Q: Payload, QH: Words, P: Payload, PH: Words> RequestMut<Q, QH, P, PH> {
     }
 
     /// Whether the hub still has it.
-    pub fn exists(&self, hub: &Hub<Q, QH, P, PH>) -> bool
+    pub fn exists<H: Backpressure>(&self, hub: &Hub<Q, QH, P, PH, H>) -> bool
         ensures { IsTrue result ↔ HasValue hub.now self.now.node self.now.number kinds.RequestMut }
     {
         hub.has(self.node, self.number, Kind::RequestMut, self.hint)
     }
 
     /// Gives it up. Where the hub no longer has it, nothing changes.
-    pub fn release(self, hub: &mut Hub<Q, QH, P, PH>)
+    pub fn release<H: Backpressure>(self, hub: &mut Hub<Q, QH, P, PH, H>)
         ensures { IsReleased hub.old self.node self.number kinds.RequestMut hub.new }
     {
         let RequestMut {

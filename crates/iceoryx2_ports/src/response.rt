@@ -16,7 +16,7 @@ ghost use Rattle.iceoryx2_ports.specs.Rooms.{GivesRoomBack};
 
 use crate::headers::response_header;
 use crate::releases::release_handle;
-use iox_hub_laws::Hub;
+use iox_hub_laws::{Backpressure, Hub};
 use iox_model::kind::Kind;
 use iox_store::Payload;
 use iox_types::ResponseHeader;
@@ -48,7 +48,7 @@ impl<Q: Payload, QH: Words, P: Payload, PH: Words> Response<Q, QH, P, PH> {
     }
 
     /// The payload of the response.
-    pub fn payload<'a>(&self, hub: &'a Hub<Q, QH, P, PH>) -> &'a [P::Element]
+    pub fn payload<'a, H: Backpressure>(&self, hub: &'a Hub<Q, QH, P, PH, H>) -> &'a [P::Element]
         requires has { HasValue hub.now self.now.node self.now.number kinds.Response }
         ensures words { flat_map P.Element.words result.now
             ≡ (message_in hub.now self.now.node self.now.number).payload }
@@ -62,7 +62,10 @@ impl<Q: Payload, QH: Words, P: Payload, PH: Words> Response<Q, QH, P, PH> {
     }
 
     /// The first element of the response, if it has one.
-    pub fn first<'a>(&self, hub: &'a Hub<Q, QH, P, PH>) -> Option<&'a P::Element>
+    pub fn first<'a, H: Backpressure>(
+        &self,
+        hub: &'a Hub<Q, QH, P, PH, H>,
+    ) -> Option<&'a P::Element>
         requires has { HasValue hub.now self.now.node self.now.number kinds.Response }
         ensures words { IfSome result (λ element.
             BeginsWith (message_in hub.now self.now.node self.now.number).payload
@@ -74,7 +77,7 @@ impl<Q: Payload, QH: Words, P: Payload, PH: Words> Response<Q, QH, P, PH> {
     }
 
     /// The user header of the response.
-    pub fn user_header<'a>(&self, hub: &'a Hub<Q, QH, P, PH>) -> &'a PH
+    pub fn user_header<'a, H: Backpressure>(&self, hub: &'a Hub<Q, QH, P, PH, H>) -> &'a PH
         requires has { HasValue hub.now self.now.node self.now.number kinds.Response }
         ensures words { PH.words result.now
             ≡ (message_in hub.now self.now.node self.now.number).user }
@@ -88,7 +91,10 @@ impl<Q: Payload, QH: Words, P: Payload, PH: Words> Response<Q, QH, P, PH> {
     }
 
     /// The header of the response. It fails where its server was made for an id that no node has.
-    pub fn header(&self, hub: &Hub<Q, QH, P, PH>) -> Result<ResponseHeader, UniqueNodeIdError>
+    pub fn header<H: Backpressure>(
+        &self,
+        hub: &Hub<Q, QH, P, PH, H>,
+    ) -> Result<ResponseHeader, UniqueNodeIdError>
         requires has { HasValue hub.now self.now.node self.now.number kinds.Response }
         ensures header { result ≡ response_header_of
             (header_in hub.now self.now.node self.now.number) }
@@ -98,7 +104,7 @@ impl<Q: Payload, QH: Words, P: Payload, PH: Words> Response<Q, QH, P, PH> {
     }
 
     /// The id of the server that sent the response.
-    pub fn origin(&self, hub: &Hub<Q, QH, P, PH>) -> UniqueServerId
+    pub fn origin<H: Backpressure>(&self, hub: &Hub<Q, QH, P, PH, H>) -> UniqueServerId
         requires has { HasValue hub.now self.now.node self.now.number kinds.Response }
         ensures id { result ≡ (header_in hub.now self.now.node self.now.number).port_id }
         ensures shown { IsHeaderShown hub.now self.now.node self.now.number }
@@ -108,14 +114,14 @@ impl<Q: Payload, QH: Words, P: Payload, PH: Words> Response<Q, QH, P, PH> {
     }
 
     /// Whether the hub still has it.
-    pub fn exists(&self, hub: &Hub<Q, QH, P, PH>) -> bool
+    pub fn exists<H: Backpressure>(&self, hub: &Hub<Q, QH, P, PH, H>) -> bool
         ensures { IsTrue result ↔ HasValue hub.now self.now.node self.now.number kinds.Response }
     {
         hub.has(self.node, self.number, Kind::Response, self.hint)
     }
 
     /// Gives it up. Where the hub no longer has it, nothing changes.
-    pub fn release(self, hub: &mut Hub<Q, QH, P, PH>)
+    pub fn release<H: Backpressure>(self, hub: &mut Hub<Q, QH, P, PH, H>)
         ensures released { IsReleased hub.old self.node self.number kinds.Response hub.new }
         ensures idle { GivesBack hub.old self.node self.number kinds.Response hub.new }
         ensures room { GivesRoomBack hub.old self.node self.number kinds.Response hub.new }

@@ -31,7 +31,7 @@ mod payloads;
 use crate::errors::SendError;
 use crate::headers::response_header;
 use crate::releases::release_handle;
-use iox_hub_laws::{Hub, Responded, Written, send_response};
+use iox_hub_laws::{Backpressure, Hub, Responded, Written, send_response};
 use iox_model::kind::Kind;
 use iox_store::{One, Payload};
 use iox_types::ResponseHeader;
@@ -75,9 +75,9 @@ impl<Q: Payload, QH: Words, P: Payload, PH: Words> ResponseMutUninit<Q, QH, P, P
 
     /// Fills the response with copies of these elements. Where they are not as many as it is loaned
     /// for, nothing changes, and the loan is given back.
-    pub fn write_from_slice(
+    pub fn write_from_slice<H: Backpressure>(
         self,
-        hub: &mut Hub<Q, QH, P, PH>,
+        hub: &mut Hub<Q, QH, P, PH, H>,
         values: &[P::Element],
     ) -> Result<ResponseMut<Q, QH, P, PH>, Self>
         requires has { HasValue hub.old self.node self.number kinds.ResponseMutUninit }
@@ -122,7 +122,10 @@ impl<Q: Payload, QH: Words, P: Payload, PH: Words> ResponseMutUninit<Q, QH, P, P
     }
 
     /// The header of the response. It fails where its server was made for an id that no node has.
-    pub fn header(&self, hub: &Hub<Q, QH, P, PH>) -> Result<ResponseHeader, UniqueNodeIdError>
+    pub fn header<H: Backpressure>(
+        &self,
+        hub: &Hub<Q, QH, P, PH, H>,
+    ) -> Result<ResponseHeader, UniqueNodeIdError>
         requires has { HasValue hub.now self.now.node self.now.number kinds.ResponseMutUninit }
         ensures header { result ≡ response_header_of
             (header_in hub.now self.now.node self.now.number) }
@@ -133,7 +136,7 @@ impl<Q: Payload, QH: Words, P: Payload, PH: Words> ResponseMutUninit<Q, QH, P, P
     }
 
     /// Whether the hub still has it.
-    pub fn exists(&self, hub: &Hub<Q, QH, P, PH>) -> bool
+    pub fn exists<H: Backpressure>(&self, hub: &Hub<Q, QH, P, PH, H>) -> bool
         ensures { IsTrue result
             ↔ HasValue hub.now self.now.node self.now.number kinds.ResponseMutUninit }
     {
@@ -141,7 +144,7 @@ impl<Q: Payload, QH: Words, P: Payload, PH: Words> ResponseMutUninit<Q, QH, P, P
     }
 
     /// Gives it up. Where the hub no longer has it, nothing changes.
-    pub fn release(self, hub: &mut Hub<Q, QH, P, PH>)
+    pub fn release<H: Backpressure>(self, hub: &mut Hub<Q, QH, P, PH, H>)
         ensures { IsReleased hub.old self.node self.number kinds.ResponseMutUninit hub.new }
     {
         let ResponseMutUninit {
@@ -156,9 +159,9 @@ impl<Q: Payload, QH: Words, P: Payload, PH: Words> ResponseMutUninit<Q, QH, P, P
 
 impl<Q: Payload, QH: Words, E: Words, PH: Words> ResponseMutUninit<Q, QH, One<E>, PH> {
     /// Fills the response with that value.
-    pub fn write_payload(
+    pub fn write_payload<H: Backpressure>(
         self,
-        hub: &mut Hub<Q, QH, One<E>, PH>,
+        hub: &mut Hub<Q, QH, One<E>, PH, H>,
         value: E,
     ) -> ResponseMut<Q, QH, One<E>, PH>
         requires has { HasValue hub.old self.node self.number kinds.ResponseMutUninit }
@@ -213,7 +216,7 @@ impl<Q: Payload, QH: Words, P: Payload, PH: Words> ResponseMut<Q, QH, P, PH> {
     }
 
     /// The payload of the response.
-    pub fn payload<'a>(&self, hub: &'a Hub<Q, QH, P, PH>) -> &'a [P::Element]
+    pub fn payload<'a, H: Backpressure>(&self, hub: &'a Hub<Q, QH, P, PH, H>) -> &'a [P::Element]
         requires has { HasValue hub.now self.now.node self.now.number kinds.ResponseMut }
         ensures words { flat_map P.Element.words result.now
             ≡ (message_in hub.now self.now.node self.now.number).payload }
@@ -227,7 +230,7 @@ impl<Q: Payload, QH: Words, P: Payload, PH: Words> ResponseMut<Q, QH, P, PH> {
     }
 
     /// The user header of the response.
-    pub fn user_header<'a>(&self, hub: &'a Hub<Q, QH, P, PH>) -> &'a PH
+    pub fn user_header<'a, H: Backpressure>(&self, hub: &'a Hub<Q, QH, P, PH, H>) -> &'a PH
         requires has { HasValue hub.now self.now.node self.now.number kinds.ResponseMut }
         ensures words { PH.words result.now
             ≡ (message_in hub.now self.now.node self.now.number).user }
@@ -241,7 +244,10 @@ impl<Q: Payload, QH: Words, P: Payload, PH: Words> ResponseMut<Q, QH, P, PH> {
     }
 
     /// The header of the response. It fails where its server was made for an id that no node has.
-    pub fn header(&self, hub: &Hub<Q, QH, P, PH>) -> Result<ResponseHeader, UniqueNodeIdError>
+    pub fn header<H: Backpressure>(
+        &self,
+        hub: &Hub<Q, QH, P, PH, H>,
+    ) -> Result<ResponseHeader, UniqueNodeIdError>
         requires has { HasValue hub.now self.now.node self.now.number kinds.ResponseMut }
         ensures header { result ≡ response_header_of
             (header_in hub.now self.now.node self.now.number) }
@@ -251,7 +257,7 @@ impl<Q: Payload, QH: Words, P: Payload, PH: Words> ResponseMut<Q, QH, P, PH> {
     }
 
     /// Sends the response to its client. Where that fails, the response is lost.
-    pub fn send(self, hub: &mut Hub<Q, QH, P, PH>) -> Result<(), SendError>
+    pub fn send<H: Backpressure>(self, hub: &mut Hub<Q, QH, P, PH, H>) -> Result<(), SendError>
         requires has { HasValue hub.old self.node self.number kinds.ResponseMut }
         requires calls { HasCallsLeft hub.old }
         ensures whole { (x : Given) → IsWholeCall (state_of_hub x hub.old) self.node
@@ -287,14 +293,14 @@ impl<Q: Payload, QH: Words, P: Payload, PH: Words> ResponseMut<Q, QH, P, PH> {
     }
 
     /// Whether the hub still has it.
-    pub fn exists(&self, hub: &Hub<Q, QH, P, PH>) -> bool
+    pub fn exists<H: Backpressure>(&self, hub: &Hub<Q, QH, P, PH, H>) -> bool
         ensures { IsTrue result ↔ HasValue hub.now self.now.node self.now.number kinds.ResponseMut }
     {
         hub.has(self.node, self.number, Kind::ResponseMut, self.hint)
     }
 
     /// Gives it up. Where the hub no longer has it, nothing changes.
-    pub fn release(self, hub: &mut Hub<Q, QH, P, PH>)
+    pub fn release<H: Backpressure>(self, hub: &mut Hub<Q, QH, P, PH, H>)
         ensures { IsReleased hub.old self.node self.number kinds.ResponseMut hub.new }
     {
         let ResponseMut {

@@ -26,7 +26,7 @@ ghost use Rattle.iceoryx2_ports.specs.declared.errors.ReceiveError.TheVariants.{
 use crate::active_request::ActiveRequest;
 use crate::errors::{ConnectionFailure, ReceiveError};
 use crate::releases::release_port;
-use iox_hub_laws::{Hub, Received, receive_request};
+use iox_hub_laws::{Backpressure, Hub, Received, receive_request};
 use iox_model::kind::Kind;
 use iox_store::Payload;
 use iox_types::BackpressureStrategy;
@@ -57,9 +57,9 @@ impl<Q: Payload, QH: Words, P: Payload, PH: Words> Server<Q, QH, P, PH> {
     /// Receives a request, if one is there: one that waits, comes next on its way, and is new to
     /// the server. Without fire-and-forget a request that its client gave up is released and
     /// skipped.
-    pub fn receive(
+    pub fn receive<H: Backpressure>(
         &self,
-        hub: &mut Hub<Q, QH, P, PH>,
+        hub: &mut Hub<Q, QH, P, PH, H>,
     ) -> Result<Option<ActiveRequest<Q, QH, P, PH>>, ReceiveError>
         requires has { HasValue hub.old self.now.node self.now.number kinds.Server }
         requires calls { HasCallsLeft hub.old }
@@ -98,7 +98,10 @@ impl<Q: Payload, QH: Words, P: Payload, PH: Words> Server<Q, QH, P, PH> {
     }
 
     /// Whether a request waits. It may be one that is skipped, so that nothing is received then.
-    pub fn has_requests(&self, hub: &Hub<Q, QH, P, PH>) -> Result<bool, ConnectionFailure>
+    pub fn has_requests<H: Backpressure>(
+        &self,
+        hub: &Hub<Q, QH, P, PH, H>,
+    ) -> Result<bool, ConnectionFailure>
         requires has { HasValue hub.now self.now.node self.now.number kinds.Server }
         ensures whole { IfOk result (λ waits. (x : Given)
             → IsWholeCall (state_of_hub x hub.now) self.now.node
@@ -109,7 +112,7 @@ impl<Q: Payload, QH: Words, P: Payload, PH: Words> Server<Q, QH, P, PH> {
     }
 
     /// Its id.
-    pub fn id(&self, hub: &Hub<Q, QH, P, PH>) -> UniqueServerId
+    pub fn id<H: Backpressure>(&self, hub: &Hub<Q, QH, P, PH, H>) -> UniqueServerId
         requires has { HasValue hub.now self.now.node self.now.number kinds.Server }
         ensures id { result ≡ id_in hub.now self.now.number }
         ensures shown { IsIdShown hub.now self.now.number }
@@ -118,7 +121,10 @@ impl<Q: Payload, QH: Words, P: Payload, PH: Words> Server<Q, QH, P, PH> {
     }
 
     /// What it does at a full client.
-    pub fn backpressure_strategy(&self, hub: &Hub<Q, QH, P, PH>) -> BackpressureStrategy
+    pub fn backpressure_strategy<H: Backpressure>(
+        &self,
+        hub: &Hub<Q, QH, P, PH, H>,
+    ) -> BackpressureStrategy
         requires has { HasValue hub.now self.now.node self.now.number kinds.Server }
         ensures { (x : Given) → option_map (λ p. p.strategy)
             (port_at (state_of_hub x hub.now).fixed self.now.number) ≡ Some result }
@@ -127,7 +133,7 @@ impl<Q: Payload, QH: Words, P: Payload, PH: Words> Server<Q, QH, P, PH> {
     }
 
     /// The greatest length of its responses.
-    pub fn initial_max_slice_len(&self, hub: &Hub<Q, QH, P, PH>) -> u64
+    pub fn initial_max_slice_len<H: Backpressure>(&self, hub: &Hub<Q, QH, P, PH, H>) -> u64
         requires has { HasValue hub.now self.now.node self.now.number kinds.Server }
         ensures { (x : Given) → option_map (λ p. p.longest)
             (port_at (state_of_hub x hub.now).fixed self.now.number) ≡ Some result }
@@ -136,7 +142,10 @@ impl<Q: Payload, QH: Words, P: Payload, PH: Words> Server<Q, QH, P, PH> {
     }
 
     /// Does nothing: ports are connected as they are made.
-    pub fn update_connections(&self, _hub: &Hub<Q, QH, P, PH>) -> Result<(), ConnectionFailure>
+    pub fn update_connections<H: Backpressure>(
+        &self,
+        _hub: &Hub<Q, QH, P, PH, H>,
+    ) -> Result<(), ConnectionFailure>
         requires has { HasValue _hub.now self.now.node self.now.number kinds.Server }
         ensures { IsOk result }
     {
@@ -144,14 +153,14 @@ impl<Q: Payload, QH: Words, P: Payload, PH: Words> Server<Q, QH, P, PH> {
     }
 
     /// Whether the hub still has it.
-    pub fn exists(&self, hub: &Hub<Q, QH, P, PH>) -> bool
+    pub fn exists<H: Backpressure>(&self, hub: &Hub<Q, QH, P, PH, H>) -> bool
         ensures { IsTrue result ↔ HasValue hub.now self.now.node self.now.number kinds.Server }
     {
         hub.has(self.node, self.number, Kind::Server, 0)
     }
 
     /// Gives it up. Where the hub no longer has it, nothing changes.
-    pub fn release(self, hub: &mut Hub<Q, QH, P, PH>)
+    pub fn release<H: Backpressure>(self, hub: &mut Hub<Q, QH, P, PH, H>)
         ensures { IsReleased hub.old self.node self.number kinds.Server hub.new }
     {
         let Server {

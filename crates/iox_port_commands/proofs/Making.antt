@@ -1,9 +1,7 @@
 -- Makings that lack memory, and options of the code.
-use Rattle.std.specs.Prelude.{◌≡◌, ℕ, false, List, Option, Some, None, is_some, refl}
-use Rattle.std.specs.Option.{option_map}
-use Rattle.std.proofs.Common.{subst, ap, true≢false}
+use Rattle.std.specs.Prelude.{◌≡◌, ℕ}
+use Rattle.std.proofs.Common.{subst}
 use Rattle.iox_types.specs.declared.identifiers.system_id.UniqueSystemId.{UniqueSystemId}
-use Rattle.iox_model.specs.declared.command.PortOptions as the_options
 use Rattle.iox_model.specs.declared.kind.Role.{Role}
 use Rattle.iox_model.specs.declared.reply.Reply.TheVariants.{Refused}
 use Rattle.iox_model.specs.Commands.{Create, Options}
@@ -14,7 +12,6 @@ use Rattle.iox_hub.specs.NotMade.TheVariants.{DataSegment}
 use Rattle.iox_hub.specs.MadePorts.{refusal_of}
 use Rattle.iox_hub.specs.Hubs.{HubState, state_of_hub}
 use Rattle.iox_port_commands.specs.Applying.{LacksMemory}
-use Rattle.iox_port_commands.specs.Asking.{options_for}
 
 -- a port that gets no data segment lacks memory
 pub wanting : (old new : HubState) (node : ℕ) (role : Role) (id : UniqueSystemId) (o : Options) (reason : NotMade) → reason ≡ DataSegment
@@ -22,23 +19,3 @@ pub wanting : (old new : HubState) (node : ℕ) (role : Role) (id : UniqueSystem
     → LacksMemory old node (Create role id o) new
 wanting old new node role id o reason is whole x =
     subst (λ (r : NotMade). IsHubCommand (state_of_hub x old) node (Create role id o) (Refused (refusal_of role r)) (state_of_hub x new)) is (whole x)
-
-none_so : {H : Type 0} (words : H → List ℕ) (h : Option H) → is_some h ≡ false → None ≡ option_map words h
-none_so words None e = refl
-none_so words (Some h) e = absurd (true≢false e)
-
--- these options, with that handler
-abbrev pub handled : {H : Type 0} → the_options.PortOptions H → Option (List ℕ) → Options
-handled o h = record {
-  max_slice_len = o.max_slice_len;
-  pool = o.pool;
-  strategy = o.strategy;
-  allocation = o.allocation;
-  loaned_responses = o.loaned_responses;
-  handler = h;
-}
-
--- options with no handler are those of a hub
-pub without_handler : {H : Type 0} (words : H → List ℕ) (o : the_options.PortOptions H) → is_some o.handler ≡ false
-    → handled o None ≡ options_for words o
-without_handler words o e = ap (handled o) (none_so words o.handler e)

@@ -4,7 +4,7 @@ use Rattle.std.specs.declared.vec.Vec.{Vec}
 use Rattle.std.proofs.Common.{sym, subst}
 use Rattle.iox_model.specs.declared.command.PortCommand as the_command
 use Rattle.iox_model.specs.declared.reply.PortReply as the_reply
-use Rattle.iox_model.specs.Commands.{HubCommand, PortReply, Reply, answer_of, asking}
+use Rattle.iox_model.specs.Commands.{HubCommand, PortReply, answer_of, asking}
 use Rattle.iox_model.specs.Makings.{IsHubCommand}
 use Rattle.iox_hub.specs.Hubs.{HubState, nothing_given, state_of_hub}
 use Rattle.iox_hub.specs.Keeping.{HaveSameShapes}

@@ -1,5 +1,5 @@
 -- What a command of a hub comes to.
-use Rattle.std.specs.Prelude.{◌≡◌, ℕ, List, IsSome}
+use Rattle.std.specs.Prelude.{ℕ, List, IsSome}
 use Rattle.std.specs.declared.vec.Vec.{Vec}
 use Rattle.iox_model.specs.declared.command.Command.TheVariants.{Port}
 use Rattle.iox_model.specs.declared.command.PortCommand as the_command

@@ -6,6 +6,8 @@ pub mod Memory
 pub mod Applying
 -- what clauses cite of hubs, for the crates above
 pub use Rattle.iox_hub.specs.Hubs
+pub use Rattle.iox_hub.specs.HandlerWords
+pub use Rattle.iox_hub.specs.Handlers
 pub use Rattle.iox_hub.specs.Keeping
 pub use Rattle.iox_hub.specs.Lending
 pub use Rattle.iox_hub.specs.Listings

@@ -5,6 +5,7 @@ ghost use Rattle.iox_model.specs.declared.reply.PortReply.TheVariants.{Refused};
 ghost use Rattle.iox_model.specs.declared.reply.Refusal.TheVariants as refusals;
 ghost use Rattle.iox_hub.specs.Making.{StaysAs};
 ghost use Rattle.iox_hub.specs.Keeping.{HaveSameShapes};
+ghost use Rattle.iox_hub.specs.HandlerWords.{shown_by};
 ghost use Rattle.iox_port_commands.specs.Applying.{GrowsIfLentFor, HadMemoryFor, HaveDefaults};
 ghost use Rattle.iox_port_commands.specs.Applying.{IsApplied, LacksMemoryFor};
 ghost use Rattle.iox_port_commands.specs.Asking.{is_making, takes_memory};
@@ -20,7 +21,7 @@ use crate::receives::receive;
 use crate::releases::release;
 use crate::sends::send;
 use crate::writing::write;
-use iox_hub::Hub;
+use iox_hub::{Backpressure, Hub};
 use iox_model::command::PortCommand;
 use iox_model::kind::Role;
 use iox_model::reply::{PortReply, Refusal};
@@ -29,20 +30,20 @@ use iox_words::Words;
 use std::alloc::{AllocError, Global};
 
 /// Each command by its own call.
-fn dispatch<Q: Payload, QH: Words, P: Payload, PH: Words, H: Words, C>(
-    hub: &mut Hub<Q, QH, P, PH>,
+fn dispatch<Q: Payload, QH: Words, P: Payload, PH: Words, H: Backpressure, C>(
+    hub: &mut Hub<Q, QH, P, PH, H>,
     alloc: Global,
     command: PortCommand<Elements<Q::Element, P::Element>, H>,
 ) -> Result<PortReply<Vec<u64>, C>, AllocError>
     requires { HaveDefaults hub.old }
-    ensures whole { IfOk result (λ reply. IsApplied Q.Element.words P.Element.words H.words hub.old
-        command reply hub.new) }
+    ensures whole { IfOk result (λ reply. IsApplied Q.Element.words P.Element.words
+        (shown_by H.action) hub.old command reply hub.new) }
     ensures memory { IfOk result (λ reply. tells_want reply ≡ false) }
-    ensures wanting { OnErr result
-        (LacksMemoryFor Q.Element.words P.Element.words H.words hub.old command hub.new) }
+    ensures wanting { OnErr result (LacksMemoryFor Q.Element.words P.Element.words
+        (shown_by H.action) hub.old command hub.new) }
     ensures takes { OnErr result ((is_making command || takes_memory command) ≡ true) }
-    ensures grows { OnErr result (GrowsIfLentFor Q.Element.words P.Element.words H.words hub.old
-        command) }
+    ensures grows { OnErr result (GrowsIfLentFor Q.Element.words P.Element.words (shown_by H.action)
+        hub.old command) }
     ensures unchanged { OnErr result (StaysAs hub.old hub.new) }
 {
     // One place for the replies of all calls: each place is cleared before it is filled.
@@ -86,22 +87,22 @@ fn dispatch<Q: Payload, QH: Words, P: Payload, PH: Words, H: Words, C>(
 ///
 /// It fails only where there is no memory for a port, for what is read, or for a message that has to
 /// grow, and changes nothing then. Its replies are those of the machine with memory. For a port that
-/// is too large or has a handler, a hub never has memory.
-pub fn try_apply<Q: Payload, QH: Words, P: Payload, PH: Words, H: Words, C>(
-    hub: &mut Hub<Q, QH, P, PH>,
+/// is too large, a hub never has memory.
+pub fn try_apply<Q: Payload, QH: Words, P: Payload, PH: Words, H: Backpressure, C>(
+    hub: &mut Hub<Q, QH, P, PH, H>,
     alloc: Global,
     command: PortCommand<Elements<Q::Element, P::Element>, H>,
 ) -> Result<PortReply<Vec<u64>, C>, AllocError>
     requires { HaveDefaults hub.old }
-    ensures whole { IfOk result (λ reply. IsApplied Q.Element.words P.Element.words H.words hub.old
-        command reply hub.new) }
-    ensures memory { IfOk result (λ reply. HadMemoryFor Q.Element.words P.Element.words H.words
-        hub.old command reply) }
-    ensures wanting { OnErr result
-        (LacksMemoryFor Q.Element.words P.Element.words H.words hub.old command hub.new) }
+    ensures whole { IfOk result (λ reply. IsApplied Q.Element.words P.Element.words
+        (shown_by H.action) hub.old command reply hub.new) }
+    ensures memory { IfOk result (λ reply. HadMemoryFor Q.Element.words P.Element.words
+        (shown_by H.action) hub.old command reply) }
+    ensures wanting { OnErr result (LacksMemoryFor Q.Element.words P.Element.words
+        (shown_by H.action) hub.old command hub.new) }
     ensures takes { OnErr result ((is_making command || takes_memory command) ≡ true) }
-    ensures grows { OnErr result (GrowsIfLentFor Q.Element.words P.Element.words H.words hub.old
-        command) }
+    ensures grows { OnErr result (GrowsIfLentFor Q.Element.words P.Element.words (shown_by H.action)
+        hub.old command) }
     ensures unchanged { OnErr result (StaysAs hub.old hub.new) }
     ensures shapes { HaveSameShapes hub.old hub.new }
     ensures defaults { HaveDefaults hub.new }
@@ -133,17 +134,17 @@ fn lacking<C>(making: bool) -> PortReply<Vec<u64>, C>
 /// The same as [`try_apply`], where want of memory is a reply as well: `UnableToCreateDataSegment`
 /// for a port, `WantOfMemory` for a read, and for a loan or a copy whose message must grow. No other
 /// command is refused so.
-pub fn apply<Q: Payload, QH: Words, P: Payload, PH: Words, H: Words, C>(
-    hub: &mut Hub<Q, QH, P, PH>,
+pub fn apply<Q: Payload, QH: Words, P: Payload, PH: Words, H: Backpressure, C>(
+    hub: &mut Hub<Q, QH, P, PH, H>,
     alloc: Global,
     command: PortCommand<Elements<Q::Element, P::Element>, H>,
 ) -> PortReply<Vec<u64>, C>
     requires { HaveDefaults hub.old }
-    ensures whole { IsApplied Q.Element.words P.Element.words H.words hub.old command result
-        hub.new }
+    ensures whole { IsApplied Q.Element.words P.Element.words (shown_by H.action) hub.old command
+        result hub.new }
     ensures memory { wants_memory result ≡ true → takes_memory command ≡ true }
-    ensures grows { wants_memory result ≡ true → GrowsIfLentFor Q.Element.words P.Element.words H.words hub.old
-        command }
+    ensures grows { wants_memory result ≡ true → GrowsIfLentFor Q.Element.words P.Element.words
+        (shown_by H.action) hub.old command }
     ensures segment { wants_segment result ≡ true → is_making command ≡ true }
     ensures unchanged { tells_want result ≡ true → StaysAs hub.old hub.new }
     ensures shapes { HaveSameShapes hub.old hub.new }

@@ -9,7 +9,7 @@ ghost use Rattle.iox_port_commands.specs.Applying.{IsCalled};
 ghost use Rattle.iox_port_commands.specs.Telling.{tells_want};
 
 use crate::answers::not_begun;
-use iox_hub::{Asked, Hub};
+use iox_hub::{Asked, Backpressure, Hub};
 use iox_model::kind::Kind;
 use iox_model::reply::PortReply;
 use iox_store::Payload;
@@ -24,8 +24,8 @@ const SPENT: u64 = 1 << 56;
 /// Of what kind the node's value of that number is, of which that may be asked, where it is one of
 /// these two and calls can still be counted.
 #[inline]
-fn begin_at_once<Q: Payload, QH: Words, P: Payload, PH: Words>(
-    hub: &Hub<Q, QH, P, PH>,
+fn begin_at_once<Q: Payload, QH: Words, P: Payload, PH: Words, H: Backpressure>(
+    hub: &Hub<Q, QH, P, PH, H>,
     node: u64,
     number: u64,
     one: Kind,
@@ -45,8 +45,8 @@ fn begin_at_once<Q: Payload, QH: Words, P: Payload, PH: Words>(
 /// Of what kind the node's value of that number is, of which that may be asked, as of values of
 /// these two kinds. Where it may not, the call is answered with the first reason, and nothing
 /// changes.
-pub(crate) fn begin<Q: Payload, QH: Words, P: Payload, PH: Words, C>(
-    hub: &Hub<Q, QH, P, PH>,
+pub(crate) fn begin<Q: Payload, QH: Words, P: Payload, PH: Words, H: Backpressure, C>(
+    hub: &Hub<Q, QH, P, PH, H>,
     node: u64,
     number: u64,
     asked: Asked,
@@ -71,8 +71,8 @@ pub(crate) fn begin<Q: Payload, QH: Words, P: Payload, PH: Words, C>(
 
 /// The same of any kind.
 #[inline(never)]
-fn begin_with_each_test<Q: Payload, QH: Words, P: Payload, PH: Words, C>(
-    hub: &Hub<Q, QH, P, PH>,
+fn begin_with_each_test<Q: Payload, QH: Words, P: Payload, PH: Words, H: Backpressure, C>(
+    hub: &Hub<Q, QH, P, PH, H>,
     node: u64,
     number: u64,
     asked: Asked,

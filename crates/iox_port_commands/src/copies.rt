@@ -15,7 +15,7 @@ ghost use Rattle.iox_port_commands.specs.Telling.{tells_want};
 use crate::answers::{answered, copied};
 use crate::begins::{NOWHERE, begin};
 use crate::elements::Elements;
-use iox_hub::{Asked, Hub};
+use iox_hub::{Asked, Backpressure, Hub};
 use iox_model::kind::{Kind, Role};
 use iox_model::reply::PortReply;
 use iox_store::Payload;
@@ -24,8 +24,8 @@ use std::alloc::AllocError;
 
 /// Sends a request of a client. It fails only where the message has to grow, and there is no memory
 /// for it.
-pub fn copy_request<Q: Payload, QH: Words, P: Payload, PH: Words, C>(
-    hub: &mut Hub<Q, QH, P, PH>,
+pub fn copy_request<Q: Payload, QH: Words, P: Payload, PH: Words, H: Backpressure, C>(
+    hub: &mut Hub<Q, QH, P, PH, H>,
     node: u64,
     number: u64,
     values: &[Q::Element],
@@ -57,8 +57,8 @@ pub fn copy_request<Q: Payload, QH: Words, P: Payload, PH: Words, C>(
 
 /// Sends a response to the client of an active request. It fails only where the message has to grow,
 /// and there is no memory for it.
-pub fn copy_response<Q: Payload, QH: Words, P: Payload, PH: Words, C>(
-    hub: &mut Hub<Q, QH, P, PH>,
+pub fn copy_response<Q: Payload, QH: Words, P: Payload, PH: Words, H: Backpressure, C>(
+    hub: &mut Hub<Q, QH, P, PH, H>,
     node: u64,
     number: u64,
     values: &[P::Element],
@@ -90,8 +90,8 @@ pub fn copy_response<Q: Payload, QH: Words, P: Payload, PH: Words, C>(
 
 /// Sends a message with copies of these elements: a request of a client, or a response to an active
 /// request. It fails only where the message has to grow, and there is no memory for it.
-pub(crate) fn send_copy<Q: Payload, QH: Words, P: Payload, PH: Words, C>(
-    hub: &mut Hub<Q, QH, P, PH>,
+pub(crate) fn send_copy<Q: Payload, QH: Words, P: Payload, PH: Words, H: Backpressure, C>(
+    hub: &mut Hub<Q, QH, P, PH, H>,
     node: u64,
     number: u64,
     payload: &Elements<Q::Element, P::Element>,

@@ -7,7 +7,7 @@ ghost use Rattle.iox_port_commands.specs.Telling.{tells_want};
 
 use crate::answers::lent;
 use crate::begins::{NOWHERE, begin};
-use iox_hub::{Asked, Hub};
+use iox_hub::{Asked, Backpressure, Hub};
 use iox_model::kind::Kind;
 use iox_model::reply::PortReply;
 use iox_store::Payload;
@@ -16,8 +16,8 @@ use std::alloc::AllocError;
 
 /// Lends a message of a client, or for an active request, in which each element is the default. It
 /// fails only where the message has to grow, and there is no memory for it.
-pub(crate) fn loan<Q: Payload, QH: Words, P: Payload, PH: Words, C>(
-    hub: &mut Hub<Q, QH, P, PH>,
+pub(crate) fn loan<Q: Payload, QH: Words, P: Payload, PH: Words, H: Backpressure, C>(
+    hub: &mut Hub<Q, QH, P, PH, H>,
     node: u64,
     number: u64,
     elements: u64,

@@ -23,8 +23,9 @@ pub use applying::{apply, try_apply};
 pub use copies::{copy_request, copy_response};
 pub use elements::Elements;
 pub use iox_hub::{
-    Hub, MessageShape, Options, Part, PreallocatedRequestsOverride, PreallocatedResponseOverride,
-    Settings, default_settings,
+    Always, Backpressure, BackpressureAction, BackpressureInfo, Hub, MessageShape, Options, Part,
+    PreallocatedRequestsOverride, PreallocatedResponseOverride, Settings, default_settings,
+    words_tell_answers,
 };
 pub use makings::make_port;
 pub use methods::ApplyCommand;

@@ -5,15 +5,15 @@ ghost use Rattle.iox_port_commands.specs.Applying.{IsCalled};
 ghost use Rattle.iox_port_commands.specs.Telling.{tells_want};
 
 use crate::begins::{NOWHERE, begin};
-use iox_hub::{Asked, Hub};
+use iox_hub::{Asked, Backpressure, Hub};
 use iox_model::kind::Kind;
 use iox_model::reply::PortReply;
 use iox_store::Payload;
 use iox_words::Words;
 
 /// Whether the request of a pending response, or of an active request, is still open.
-pub(crate) fn is_connected<Q: Payload, QH: Words, P: Payload, PH: Words, C>(
-    hub: &Hub<Q, QH, P, PH>,
+pub(crate) fn is_connected<Q: Payload, QH: Words, P: Payload, PH: Words, H: Backpressure, C>(
+    hub: &Hub<Q, QH, P, PH, H>,
     node: u64,
     number: u64,
 ) -> PortReply<Vec<u64>, C>
@@ -35,8 +35,8 @@ pub(crate) fn is_connected<Q: Payload, QH: Words, P: Payload, PH: Words, C>(
 
 /// Says to each server with which the request of a pending response is open that its client lost
 /// interest.
-pub(crate) fn set_hint<Q: Payload, QH: Words, P: Payload, PH: Words, C>(
-    hub: &mut Hub<Q, QH, P, PH>,
+pub(crate) fn set_hint<Q: Payload, QH: Words, P: Payload, PH: Words, H: Backpressure, C>(
+    hub: &mut Hub<Q, QH, P, PH, H>,
     node: u64,
     number: u64,
 ) -> PortReply<Vec<u64>, C>
@@ -61,8 +61,8 @@ pub(crate) fn set_hint<Q: Payload, QH: Words, P: Payload, PH: Words, C>(
 }
 
 /// Whether the client of an active request gave such a hint.
-pub(crate) fn has_hint<Q: Payload, QH: Words, P: Payload, PH: Words, C>(
-    hub: &Hub<Q, QH, P, PH>,
+pub(crate) fn has_hint<Q: Payload, QH: Words, P: Payload, PH: Words, H: Backpressure, C>(
+    hub: &Hub<Q, QH, P, PH, H>,
     node: u64,
     number: u64,
 ) -> PortReply<Vec<u64>, C>
@@ -84,8 +84,8 @@ pub(crate) fn has_hint<Q: Payload, QH: Words, P: Payload, PH: Words, C>(
 }
 
 /// Whether a request waits for a server.
-pub(crate) fn has_requests<Q: Payload, QH: Words, P: Payload, PH: Words, C>(
-    hub: &Hub<Q, QH, P, PH>,
+pub(crate) fn has_requests<Q: Payload, QH: Words, P: Payload, PH: Words, H: Backpressure, C>(
+    hub: &Hub<Q, QH, P, PH, H>,
     node: u64,
     number: u64,
 ) -> PortReply<Vec<u64>, C>
@@ -107,8 +107,8 @@ pub(crate) fn has_requests<Q: Payload, QH: Words, P: Payload, PH: Words, C>(
 }
 
 /// Whether a response waits for a pending response.
-pub(crate) fn has_response<Q: Payload, QH: Words, P: Payload, PH: Words, C>(
-    hub: &Hub<Q, QH, P, PH>,
+pub(crate) fn has_response<Q: Payload, QH: Words, P: Payload, PH: Words, H: Backpressure, C>(
+    hub: &Hub<Q, QH, P, PH, H>,
     node: u64,
     number: u64,
 ) -> PortReply<Vec<u64>, C>

@@ -8,7 +8,7 @@ ghost use Rattle.iox_port_commands.specs.Telling.{tells_want};
 
 use crate::begins::{NOWHERE, begin};
 use crate::word_lists::words_of;
-use iox_hub::{Asked, Hub};
+use iox_hub::{Asked, Backpressure, Hub};
 use iox_model::kind::Kind;
 use iox_model::reply::PortReply;
 use iox_store::Payload;
@@ -16,8 +16,8 @@ use iox_words::Words;
 use std::alloc::{AllocError, Global};
 
 /// The words of a request, where there is memory for them.
-fn read_request<Q: Payload, QH: Words, P: Payload, PH: Words, C>(
-    hub: &Hub<Q, QH, P, PH>,
+fn read_request<Q: Payload, QH: Words, P: Payload, PH: Words, H: Backpressure, C>(
+    hub: &Hub<Q, QH, P, PH, H>,
     alloc: Global,
     node: u64,
     number: u64,
@@ -35,8 +35,8 @@ fn read_request<Q: Payload, QH: Words, P: Payload, PH: Words, C>(
 }
 
 /// The words of a response, where there is memory for them.
-fn read_response<Q: Payload, QH: Words, P: Payload, PH: Words, C>(
-    hub: &Hub<Q, QH, P, PH>,
+fn read_response<Q: Payload, QH: Words, P: Payload, PH: Words, H: Backpressure, C>(
+    hub: &Hub<Q, QH, P, PH, H>,
     alloc: Global,
     node: u64,
     number: u64,
@@ -55,8 +55,8 @@ fn read_response<Q: Payload, QH: Words, P: Payload, PH: Words, C>(
 
 /// The words of a handle's message: those of its user header, and then those of its elements. It
 /// fails only where there is no memory for them.
-pub fn read<Q: Payload, QH: Words, P: Payload, PH: Words, C>(
-    hub: &Hub<Q, QH, P, PH>,
+pub fn read<Q: Payload, QH: Words, P: Payload, PH: Words, H: Backpressure, C>(
+    hub: &Hub<Q, QH, P, PH, H>,
     alloc: Global,
     node: u64,
     number: u64,

@@ -6,15 +6,15 @@ ghost use Rattle.iox_port_commands.specs.Telling.{tells_want};
 
 use crate::answers::received;
 use crate::begins::{NOWHERE, begin};
-use iox_hub::{Asked, Hub};
+use iox_hub::{Asked, Backpressure, Hub};
 use iox_model::kind::Kind;
 use iox_model::reply::PortReply;
 use iox_store::Payload;
 use iox_words::Words;
 
 /// Receives a request for a server, or a response for a pending response.
-pub fn receive<Q: Payload, QH: Words, P: Payload, PH: Words, C>(
-    hub: &mut Hub<Q, QH, P, PH>,
+pub fn receive<Q: Payload, QH: Words, P: Payload, PH: Words, H: Backpressure, C>(
+    hub: &mut Hub<Q, QH, P, PH, H>,
     node: u64,
     number: u64,
 ) -> PortReply<Vec<u64>, C>

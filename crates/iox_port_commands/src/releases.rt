@@ -5,15 +5,15 @@ ghost use Rattle.iox_port_commands.specs.Applying.{IsCalled};
 ghost use Rattle.iox_port_commands.specs.Telling.{tells_want};
 
 use crate::begins::{NOWHERE, begin};
-use iox_hub::{Asked, Hub};
+use iox_hub::{Asked, Backpressure, Hub};
 use iox_model::kind::Kind;
 use iox_model::reply::PortReply;
 use iox_store::Payload;
 use iox_words::Words;
 
 /// Releases a handle, or the own value of a port.
-pub(crate) fn release<Q: Payload, QH: Words, P: Payload, PH: Words, C>(
-    hub: &mut Hub<Q, QH, P, PH>,
+pub(crate) fn release<Q: Payload, QH: Words, P: Payload, PH: Words, H: Backpressure, C>(
+    hub: &mut Hub<Q, QH, P, PH, H>,
     node: u64,
     number: u64,
 ) -> PortReply<Vec<u64>, C>

@@ -6,15 +6,15 @@ ghost use Rattle.iox_port_commands.specs.Telling.{tells_want};
 
 use crate::answers::{requested, responded};
 use crate::begins::{NOWHERE, begin};
-use iox_hub::{Asked, Hub};
+use iox_hub::{Asked, Backpressure, Hub};
 use iox_model::kind::Kind;
 use iox_model::reply::PortReply;
 use iox_store::Payload;
 use iox_words::Words;
 
 /// Sends a filled loan.
-pub(crate) fn send<Q: Payload, QH: Words, P: Payload, PH: Words, C>(
-    hub: &mut Hub<Q, QH, P, PH>,
+pub(crate) fn send<Q: Payload, QH: Words, P: Payload, PH: Words, H: Backpressure, C>(
+    hub: &mut Hub<Q, QH, P, PH, H>,
     node: u64,
     number: u64,
 ) -> PortReply<Vec<u64>, C>

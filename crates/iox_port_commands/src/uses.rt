@@ -18,14 +18,14 @@ use iox_words::Words;
 use std::alloc::Global;
 use std::convert::Infallible;
 
-/// What a hub of such messages is asked. A handler would be a number.
-type Command<E> = PortCommand<Elements<E, u64>, u64>;
+/// What a hub of such messages is asked. Its ports have no handlers.
+type Command<E> = PortCommand<Elements<E, u64>, ()>;
 
 /// What it answers.
 type Reply = PortReply<Vec<u64>, Infallible>;
 
 /// The options of a port for which the service's settings hold.
-fn plain() -> PortOptions<u64> {
+fn plain() -> PortOptions<()> {
     PortOptions {
         max_slice_len: 4,
         pool: None,

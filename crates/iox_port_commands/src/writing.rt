@@ -10,15 +10,15 @@ ghost use Rattle.iox_port_commands.specs.Telling.{tells_want};
 use crate::answers::written;
 use crate::begins::{NOWHERE, begin};
 use crate::elements::Elements;
-use iox_hub::{Asked, Hub};
+use iox_hub::{Asked, Backpressure, Hub};
 use iox_model::kind::{Kind, Role};
 use iox_model::reply::PortReply;
 use iox_store::Payload;
 use iox_words::Words;
 
 /// Fills a loaned request.
-fn write_request<Q: Payload, QH: Words, P: Payload, PH: Words, C>(
-    hub: &mut Hub<Q, QH, P, PH>,
+fn write_request<Q: Payload, QH: Words, P: Payload, PH: Words, H: Backpressure, C>(
+    hub: &mut Hub<Q, QH, P, PH, H>,
     node: u64,
     number: u64,
     values: &[Q::Element],
@@ -42,8 +42,8 @@ fn write_request<Q: Payload, QH: Words, P: Payload, PH: Words, C>(
 }
 
 /// Fills a loaned response.
-fn write_response<Q: Payload, QH: Words, P: Payload, PH: Words, C>(
-    hub: &mut Hub<Q, QH, P, PH>,
+fn write_response<Q: Payload, QH: Words, P: Payload, PH: Words, H: Backpressure, C>(
+    hub: &mut Hub<Q, QH, P, PH, H>,
     node: u64,
     number: u64,
     values: &[P::Element],
@@ -67,8 +67,8 @@ fn write_response<Q: Payload, QH: Words, P: Payload, PH: Words, C>(
 }
 
 /// Fills a loan with copies of these elements, whatever was filled.
-pub(crate) fn write<Q: Payload, QH: Words, P: Payload, PH: Words, C>(
-    hub: &mut Hub<Q, QH, P, PH>,
+pub(crate) fn write<Q: Payload, QH: Words, P: Payload, PH: Words, H: Backpressure, C>(
+    hub: &mut Hub<Q, QH, P, PH, H>,
     node: u64,
     number: u64,
     payload: &Elements<Q::Element, P::Element>,

@@ -18,13 +18,17 @@ ghost use Rattle.iceoryx2_ports.specs.Responses.{ReachesAsker};
 use super::ActiveRequest;
 use crate::copies::error_of_test;
 use crate::errors::{LoanError, SendError};
-use iox_hub_laws::{Answered, Hub, copy_response};
+use iox_hub_laws::{Answered, Backpressure, Hub, copy_response};
 use iox_store::{One, Payload};
 use iox_words::Words;
 
 impl<Q: Payload, QH: Words, E: Words, PH: Words> ActiveRequest<Q, QH, One<E>, PH> {
     /// Sends a response with that value to the client. What clients gave back is got back first.
-    pub fn send_copy(&self, hub: &mut Hub<Q, QH, One<E>, PH>, value: E) -> Result<(), SendError>
+    pub fn send_copy<H: Backpressure>(
+        &self,
+        hub: &mut Hub<Q, QH, One<E>, PH, H>,
+        value: E,
+    ) -> Result<(), SendError>
         requires has { HasValue hub.old self.now.node self.now.number kinds.ActiveRequest }
         requires small { FitsInMemory E.row }
         ensures whole { (x : Given) → IsWholeCall (state_of_hub x hub.old) self.now.node

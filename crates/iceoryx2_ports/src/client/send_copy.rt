@@ -22,15 +22,15 @@ use super::Client;
 use crate::copies::error_of_test;
 use crate::errors::{LoanError, RequestSendError, SendError};
 use crate::pending_response::PendingResponse;
-use iox_hub_laws::{Copied, Hub, copy_request};
+use iox_hub_laws::{Backpressure, Copied, Hub, copy_request};
 use iox_store::{One, Payload};
 use iox_words::Words;
 
 impl<E: Words, QH: Words, P: Payload, PH: Words> Client<One<E>, QH, P, PH> {
     /// Sends a request with that value to all servers. What servers gave back is got back first.
-    pub fn send_copy(
+    pub fn send_copy<H: Backpressure>(
         &self,
-        hub: &mut Hub<One<E>, QH, P, PH>,
+        hub: &mut Hub<One<E>, QH, P, PH, H>,
         value: E,
     ) -> Result<PendingResponse<One<E>, QH, P, PH>, RequestSendError>
         requires has { HasValue hub.old self.now.node self.now.number kinds.Client }

@@ -2,6 +2,8 @@
 ghost use Rattle.std.specs.Prelude.{◌≡◌, ◌≢◌, IfErr, IfOk, OnErr};
 ghost use Rattle.iox_model.specs.declared.kind.Kind.TheVariants as kinds;
 ghost use Rattle.iox_model.specs.declared.kind.Role.TheVariants as roles;
+ghost use Rattle.std.specs.Option.{option_map};
+ghost use Rattle.iox_hub_laws.specs.HandlerWords.{shown_by};
 ghost use Rattle.iox_hub_laws.specs.Hubs.{HasValue};
 ghost use Rattle.iox_hub_laws.specs.Keeping.{HaveSameShapes, KeepsAll};
 ghost use Rattle.iox_hub_laws.specs.Making.{LeavesMessages, StaysAs};
@@ -17,7 +19,7 @@ use super::PortFactoryServer;
 use crate::errors::ServerCreateError;
 use crate::overrides::with_pool;
 use crate::server::Server;
-use iox_hub_laws::Hub;
+use iox_hub_laws::{Backpressure, Hub};
 use iox_model::kind::Role;
 use iox_store::Payload;
 use iox_words::Words;
@@ -26,34 +28,42 @@ use std::marker::Model;
 
 /// What a server is made with, where a closure chooses how many responses it has memory for.
 #[derive(Drop)]
-pub struct PreallocatedServer<Q, QH, P, PH, F> {
-    factory: PortFactoryServer<Q, QH, P, PH>,
+pub struct PreallocatedServer<Q, QH, P, PH, H, F> {
+    factory: PortFactoryServer<Q, QH, P, PH, H>,
     callback: F,
 }
 
-impl<Q, QH, P, PH, F> Model for PreallocatedServer<Q, QH, P, PH, F> {
-    ghost Value = { MadeWith F };
+impl<Q, QH, P, PH, H, F> Model for PreallocatedServer<Q, QH, P, PH, H, F> {
+    ghost Value = { MadeWith F H };
 
     ghost view = { λ it. record {
       node = it.factory.node;
       id = it.factory.node_id;
       options = it.factory.options;
       closure = it.callback;
+      handler = it.factory.handler;
     } };
 }
 
-impl<Q: Payload, QH: Words, P: Payload, PH: Words> PortFactoryServer<Q, QH, P, PH> {
+impl<Q: Payload, QH: Words, P: Payload, PH: Words, H: Backpressure> PortFactoryServer<
+    Q,
+    QH,
+    P,
+    PH,
+    H,
+> {
     /// Lets that closure choose how many responses the server has memory for. It is asked with the
     /// most that are ever needed; what it answers is raised to 1, and lowered to that. With fewer
     /// than are needed, a loan may find no memory.
     pub fn override_response_preallocation<F: Fn(usize) -> usize + Drop>(
         self,
         callback: F,
-    ) -> PreallocatedServer<Q, QH, P, PH, F>
+    ) -> PreallocatedServer<Q, QH, P, PH, H, F>
         ensures node { result.node ≡ self.node }
         ensures id { result.id ≡ self.node_id }
         ensures options { result.options ≡ self.options }
         ensures closure { result.closure ≡ callback }
+        ensures handler { result.handler ≡ self.handler }
     {
         PreallocatedServer {
             factory: self,
@@ -62,22 +72,24 @@ impl<Q: Payload, QH: Words, P: Payload, PH: Words> PortFactoryServer<Q, QH, P, P
     }
 }
 
-impl<Q: Payload, QH: Words, P: Payload, PH: Words, F: Fn(usize) -> usize + Drop> PreallocatedServer<
-    Q,
-    QH,
-    P,
-    PH,
-    F,
-> {
+impl<
+    Q: Payload,
+    QH: Words,
+    P: Payload,
+    PH: Words,
+    H: Backpressure,
+    F: Fn(usize) -> usize + Drop,
+> PreallocatedServer<Q, QH, P, PH, H, F> {
     /// Makes the server. Where it is refused, all stays.
     pub fn create(
         self,
         alloc: Global,
-        hub: &mut Hub<Q, QH, P, PH>,
+        hub: &mut Hub<Q, QH, P, PH, H>,
     ) -> Result<Server<Q, QH, P, PH>, ServerCreateError>
         requires { F.IsAlwaysCallable self.closure }
         ensures whole { IsMadeWithItsPool hub.old self.node roles.Server self.id
-            (F.post self.closure) self.options (reply_of_server result) hub.new }
+            (F.post self.closure) self.options (option_map (shown_by H.action) self.handler)
+            (reply_of_server result) hub.new }
         ensures node { IfOk result (λ server. server.node ≡ self.node) }
         ensures has { IfOk result (λ server.
             HasValue hub.new server.node server.number kinds.Server) }

@@ -10,13 +10,13 @@ ghost use Rattle.iox_hub_laws.specs.Keeping.{HaveSameShapes, KeepsOthers};
 ghost use Rattle.iox_hub_laws.specs.Reads.{message_in};
 
 use super::{RequestMut, RequestMutUninit};
-use iox_hub_laws::Hub;
+use iox_hub_laws::{Backpressure, Hub};
 use iox_store::Payload;
 use iox_words::Words;
 
 impl<Q: Payload, QH: Words, P: Payload, PH: Words> RequestMutUninit<Q, QH, P, PH> {
     /// Gives the request another user header.
-    pub fn set_user_header(&self, hub: &mut Hub<Q, QH, P, PH>, user_header: QH)
+    pub fn set_user_header<H: Backpressure>(&self, hub: &mut Hub<Q, QH, P, PH, H>, user_header: QH)
         requires has { HasValue hub.old self.now.node self.now.number kinds.RequestMutUninit }
         ensures set { FillsLoan hub.old self.now.node self.now.number false
             (with_user (message_in hub.old self.now.node self.now.number) (QH.words user_header))
@@ -29,7 +29,7 @@ impl<Q: Payload, QH: Words, P: Payload, PH: Words> RequestMutUninit<Q, QH, P, PH
     }
 
     /// The payload of the request, as far as it is filled.
-    pub fn payload<'a>(&self, hub: &'a Hub<Q, QH, P, PH>) -> &'a [Q::Element]
+    pub fn payload<'a, H: Backpressure>(&self, hub: &'a Hub<Q, QH, P, PH, H>) -> &'a [Q::Element]
         requires has { HasValue hub.now self.now.node self.now.number kinds.RequestMutUninit }
         ensures { flat_map Q.Element.words result.now
             ≡ (message_in hub.now self.now.node self.now.number).payload }
@@ -38,7 +38,7 @@ impl<Q: Payload, QH: Words, P: Payload, PH: Words> RequestMutUninit<Q, QH, P, PH
     }
 
     /// The user header of the request.
-    pub fn user_header<'a>(&self, hub: &'a Hub<Q, QH, P, PH>) -> &'a QH
+    pub fn user_header<'a, H: Backpressure>(&self, hub: &'a Hub<Q, QH, P, PH, H>) -> &'a QH
         requires has { HasValue hub.now self.now.node self.now.number kinds.RequestMutUninit }
         ensures { QH.words result.now
             ≡ (message_in hub.now self.now.node self.now.number).user }
@@ -47,7 +47,7 @@ impl<Q: Payload, QH: Words, P: Payload, PH: Words> RequestMutUninit<Q, QH, P, PH
     }
 
     /// Whether all its elements are filled.
-    pub fn is_filled(&self, hub: &Hub<Q, QH, P, PH>) -> bool
+    pub fn is_filled<H: Backpressure>(&self, hub: &Hub<Q, QH, P, PH, H>) -> bool
         requires has { HasValue hub.now self.now.node self.now.number kinds.RequestMutUninit }
         ensures filled { IsTrue result ↔ (message_in hub.now self.now.node self.now.number).filled
             ≡ (message_in hub.now self.now.node self.now.number).elements }
@@ -58,7 +58,7 @@ impl<Q: Payload, QH: Words, P: Payload, PH: Words> RequestMutUninit<Q, QH, P, PH
     }
 
     /// Fills its next element.
-    pub fn write_next(&self, hub: &mut Hub<Q, QH, P, PH>, value: Q::Element)
+    pub fn write_next<H: Backpressure>(&self, hub: &mut Hub<Q, QH, P, PH, H>, value: Q::Element)
         requires has { HasValue hub.old self.now.node self.now.number kinds.RequestMutUninit }
         requires room { (message_in hub.old self.now.node self.now.number).filled
             < (message_in hub.old self.now.node self.now.number).elements }
@@ -74,7 +74,10 @@ impl<Q: Payload, QH: Words, P: Payload, PH: Words> RequestMutUninit<Q, QH, P, PH
 
     /// The filled request, if each of its elements is filled. Else nothing changes, and the loan is
     /// given back.
-    pub fn assume_init(self, hub: &mut Hub<Q, QH, P, PH>) -> Result<RequestMut<Q, QH, P, PH>, Self>
+    pub fn assume_init<H: Backpressure>(
+        self,
+        hub: &mut Hub<Q, QH, P, PH, H>,
+    ) -> Result<RequestMut<Q, QH, P, PH>, Self>
         requires has { HasValue hub.old self.node self.number kinds.RequestMutUninit }
         ensures all { IsOk result ↔ (message_in hub.old self.node self.number).filled
             ≡ (message_in hub.old self.node self.number).elements }
@@ -108,9 +111,9 @@ impl<Q: Payload, QH: Words, P: Payload, PH: Words> RequestMutUninit<Q, QH, P, PH
 
     /// Fills the request, each element with what the closure answers for its index, whatever was
     /// filled.
-    pub fn write_from_fn<F: FnMut(usize) -> Q::Element>(
+    pub fn write_from_fn<H: Backpressure, F: FnMut(usize) -> Q::Element>(
         self,
-        hub: &mut Hub<Q, QH, P, PH>,
+        hub: &mut Hub<Q, QH, P, PH, H>,
         f: F,
     ) -> RequestMut<Q, QH, P, PH>
         requires has { HasValue hub.old self.node self.number kinds.RequestMutUninit }
@@ -143,7 +146,7 @@ impl<Q: Payload, QH: Words, P: Payload, PH: Words> RequestMutUninit<Q, QH, P, PH
 
 impl<Q: Payload, QH: Words, P: Payload, PH: Words> RequestMut<Q, QH, P, PH> {
     /// Gives the request another user header.
-    pub fn set_user_header(&self, hub: &mut Hub<Q, QH, P, PH>, user_header: QH)
+    pub fn set_user_header<H: Backpressure>(&self, hub: &mut Hub<Q, QH, P, PH, H>, user_header: QH)
         requires has { HasValue hub.old self.now.node self.now.number kinds.RequestMut }
         ensures set { FillsLoan hub.old self.now.node self.now.number false
             (with_user (message_in hub.old self.now.node self.now.number) (QH.words user_header))

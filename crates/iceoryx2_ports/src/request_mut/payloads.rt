@@ -20,14 +20,18 @@ ghost use Rattle.iceoryx2_ports.specs.Payloads.{reply_of_put};
 ghost use Rattle.iceoryx2_ports.specs.Reaching.{KeepsRoom};
 
 use super::RequestMut;
-use iox_hub_laws::{Hub, Written};
+use iox_hub_laws::{Backpressure, Hub, Written};
 use iox_store::{One, Payload};
 use iox_words::Words;
 
 impl<Q: Payload, QH: Words, P: Payload, PH: Words> RequestMut<Q, QH, P, PH> {
     /// Puts copies of these elements in place of those that the request has, and says whether they
     /// are as many. Where they are not, nothing changes.
-    pub fn set_payload_from_slice(&self, hub: &mut Hub<Q, QH, P, PH>, values: &[Q::Element]) -> bool
+    pub fn set_payload_from_slice<H: Backpressure>(
+        &self,
+        hub: &mut Hub<Q, QH, P, PH, H>,
+        values: &[Q::Element],
+    ) -> bool
         requires has { HasValue hub.old self.now.node self.now.number kinds.RequestMut }
         ensures whole { (x : Given) → IsWholeCall (state_of_hub x hub.old) self.now.node
             (Write self.now.number (payload_of roles.Client (length values.now)
@@ -55,7 +59,7 @@ impl<Q: Payload, QH: Words, P: Payload, PH: Words> RequestMut<Q, QH, P, PH> {
 
 impl<E: Words, QH: Words, P: Payload, PH: Words> RequestMut<One<E>, QH, P, PH> {
     /// Puts that value in place of the one that the request has.
-    pub fn set_payload(&self, hub: &mut Hub<One<E>, QH, P, PH>, value: E)
+    pub fn set_payload<H: Backpressure>(&self, hub: &mut Hub<One<E>, QH, P, PH, H>, value: E)
         requires has { HasValue hub.old self.now.node self.now.number kinds.RequestMut }
         requires small { FitsInMemory E.row }
         requires one { (message_in hub.old self.now.node self.now.number).elements ≡ 1 }

@@ -10,13 +10,13 @@ ghost use Rattle.iox_hub_laws.specs.Keeping.{HaveSameShapes, KeepsOthers};
 ghost use Rattle.iox_hub_laws.specs.Reads.{message_in};
 
 use super::{ResponseMut, ResponseMutUninit};
-use iox_hub_laws::Hub;
+use iox_hub_laws::{Backpressure, Hub};
 use iox_store::Payload;
 use iox_words::Words;
 
 impl<Q: Payload, QH: Words, P: Payload, PH: Words> ResponseMutUninit<Q, QH, P, PH> {
     /// Gives the response another user header.
-    pub fn set_user_header(&self, hub: &mut Hub<Q, QH, P, PH>, user_header: PH)
+    pub fn set_user_header<H: Backpressure>(&self, hub: &mut Hub<Q, QH, P, PH, H>, user_header: PH)
         requires has { HasValue hub.old self.now.node self.now.number kinds.ResponseMutUninit }
         ensures set { FillsLoan hub.old self.now.node self.now.number false
             (with_user (message_in hub.old self.now.node self.now.number) (PH.words user_header))
@@ -29,7 +29,7 @@ impl<Q: Payload, QH: Words, P: Payload, PH: Words> ResponseMutUninit<Q, QH, P, P
     }
 
     /// The payload of the response, as far as it is filled.
-    pub fn payload<'a>(&self, hub: &'a Hub<Q, QH, P, PH>) -> &'a [P::Element]
+    pub fn payload<'a, H: Backpressure>(&self, hub: &'a Hub<Q, QH, P, PH, H>) -> &'a [P::Element]
         requires has { HasValue hub.now self.now.node self.now.number kinds.ResponseMutUninit }
         ensures { flat_map P.Element.words result.now
             ≡ (message_in hub.now self.now.node self.now.number).payload }
@@ -38,7 +38,7 @@ impl<Q: Payload, QH: Words, P: Payload, PH: Words> ResponseMutUninit<Q, QH, P, P
     }
 
     /// The user header of the response.
-    pub fn user_header<'a>(&self, hub: &'a Hub<Q, QH, P, PH>) -> &'a PH
+    pub fn user_header<'a, H: Backpressure>(&self, hub: &'a Hub<Q, QH, P, PH, H>) -> &'a PH
         requires has { HasValue hub.now self.now.node self.now.number kinds.ResponseMutUninit }
         ensures { PH.words result.now
             ≡ (message_in hub.now self.now.node self.now.number).user }
@@ -47,7 +47,7 @@ impl<Q: Payload, QH: Words, P: Payload, PH: Words> ResponseMutUninit<Q, QH, P, P
     }
 
     /// Whether all its elements are filled.
-    pub fn is_filled(&self, hub: &Hub<Q, QH, P, PH>) -> bool
+    pub fn is_filled<H: Backpressure>(&self, hub: &Hub<Q, QH, P, PH, H>) -> bool
         requires has { HasValue hub.now self.now.node self.now.number kinds.ResponseMutUninit }
         ensures filled { IsTrue result ↔ (message_in hub.now self.now.node self.now.number).filled
             ≡ (message_in hub.now self.now.node self.now.number).elements }
@@ -58,7 +58,7 @@ impl<Q: Payload, QH: Words, P: Payload, PH: Words> ResponseMutUninit<Q, QH, P, P
     }
 
     /// Fills its next element.
-    pub fn write_next(&self, hub: &mut Hub<Q, QH, P, PH>, value: P::Element)
+    pub fn write_next<H: Backpressure>(&self, hub: &mut Hub<Q, QH, P, PH, H>, value: P::Element)
         requires has { HasValue hub.old self.now.node self.now.number kinds.ResponseMutUninit }
         requires room { (message_in hub.old self.now.node self.now.number).filled
             < (message_in hub.old self.now.node self.now.number).elements }
@@ -74,7 +74,10 @@ impl<Q: Payload, QH: Words, P: Payload, PH: Words> ResponseMutUninit<Q, QH, P, P
 
     /// The filled response, if each of its elements is filled. Else nothing changes, and the loan
     /// is given back.
-    pub fn assume_init(self, hub: &mut Hub<Q, QH, P, PH>) -> Result<ResponseMut<Q, QH, P, PH>, Self>
+    pub fn assume_init<H: Backpressure>(
+        self,
+        hub: &mut Hub<Q, QH, P, PH, H>,
+    ) -> Result<ResponseMut<Q, QH, P, PH>, Self>
         requires has { HasValue hub.old self.node self.number kinds.ResponseMutUninit }
         ensures all { IsOk result ↔ (message_in hub.old self.node self.number).filled
             ≡ (message_in hub.old self.node self.number).elements }
@@ -108,9 +111,9 @@ impl<Q: Payload, QH: Words, P: Payload, PH: Words> ResponseMutUninit<Q, QH, P, P
 
     /// Fills the response, each element with what the closure answers for its index, whatever was
     /// filled.
-    pub fn write_from_fn<F: FnMut(usize) -> P::Element>(
+    pub fn write_from_fn<H: Backpressure, F: FnMut(usize) -> P::Element>(
         self,
-        hub: &mut Hub<Q, QH, P, PH>,
+        hub: &mut Hub<Q, QH, P, PH, H>,
         f: F,
     ) -> ResponseMut<Q, QH, P, PH>
         requires has { HasValue hub.old self.node self.number kinds.ResponseMutUninit }
@@ -143,7 +146,7 @@ impl<Q: Payload, QH: Words, P: Payload, PH: Words> ResponseMutUninit<Q, QH, P, P
 
 impl<Q: Payload, QH: Words, P: Payload, PH: Words> ResponseMut<Q, QH, P, PH> {
     /// Gives the response another user header.
-    pub fn set_user_header(&self, hub: &mut Hub<Q, QH, P, PH>, user_header: PH)
+    pub fn set_user_header<H: Backpressure>(&self, hub: &mut Hub<Q, QH, P, PH, H>, user_header: PH)
         requires has { HasValue hub.old self.now.node self.now.number kinds.ResponseMut }
         ensures set { FillsLoan hub.old self.now.node self.now.number false
             (with_user (message_in hub.old self.now.node self.now.number) (PH.words user_header))

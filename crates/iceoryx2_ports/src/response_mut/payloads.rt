@@ -20,14 +20,18 @@ ghost use Rattle.iceoryx2_ports.specs.Payloads.{reply_of_put};
 ghost use Rattle.iceoryx2_ports.specs.Reaching.{KeepsRoom};
 
 use super::ResponseMut;
-use iox_hub_laws::{Hub, Written};
+use iox_hub_laws::{Backpressure, Hub, Written};
 use iox_store::{One, Payload};
 use iox_words::Words;
 
 impl<Q: Payload, QH: Words, P: Payload, PH: Words> ResponseMut<Q, QH, P, PH> {
     /// Puts copies of these elements in place of those that the response has, and says whether they
     /// are as many. Where they are not, nothing changes.
-    pub fn set_payload_from_slice(&self, hub: &mut Hub<Q, QH, P, PH>, values: &[P::Element]) -> bool
+    pub fn set_payload_from_slice<H: Backpressure>(
+        &self,
+        hub: &mut Hub<Q, QH, P, PH, H>,
+        values: &[P::Element],
+    ) -> bool
         requires has { HasValue hub.old self.now.node self.now.number kinds.ResponseMut }
         ensures whole { (x : Given) → IsWholeCall (state_of_hub x hub.old) self.now.node
             (Write self.now.number (payload_of roles.Server (length values.now)
@@ -55,7 +59,7 @@ impl<Q: Payload, QH: Words, P: Payload, PH: Words> ResponseMut<Q, QH, P, PH> {
 
 impl<Q: Payload, QH: Words, E: Words, PH: Words> ResponseMut<Q, QH, One<E>, PH> {
     /// Puts that value in place of the one that the response has.
-    pub fn set_payload(&self, hub: &mut Hub<Q, QH, One<E>, PH>, value: E)
+    pub fn set_payload<H: Backpressure>(&self, hub: &mut Hub<Q, QH, One<E>, PH, H>, value: E)
         requires has { HasValue hub.old self.now.node self.now.number kinds.ResponseMut }
         requires small { FitsInMemory E.row }
         requires one { (message_in hub.old self.now.node self.now.number).elements ≡ 1 }

@@ -1,3 +1,4 @@
+use Rattle.iox_hub.specs.HandlerWords.{shown_by}
 use Rattle.std.specs.Prelude.{Bool, if◌then◌else◌}
 use Rattle.std.proofs.Common.{ap, ◌∙◌}
 use Rattle.iox_model.specs.declared.reply.PortReply.TheVariants.{Refused}
@@ -9,30 +10,30 @@ use Rattle.iox_port_commands.proofs.applying.apply.Goals as goal
 
 pub returns-in-Err-clause-whole : goal.returns-in-Err-clause-whole
 returns-in-Err-clause-whole g c =
-    refused_for_want g.Q.Element.Words.words g.P.Element.Words.words g.H.Words.words c.args.hub.now c.dispatch.new.hub c.args.command c.lacking.result
+    refused_for_want g.Q.Element.Words.words g.P.Element.Words.words (shown_by g.H.Backpressure.action) c.args.hub.now c.dispatch.new.hub c.args.command c.lacking.result
     (c.lacking.ensures ∙ ap (λ (b : Bool). Refused (if b then UnableToCreateDataSegment else WantOfMemory)) c.is_making-making.ensures)
     c.in-Err.ensures.wanting
 
 pub returns-in-Ok-clause-shapes : goal.returns-in-Ok-clause-shapes
 returns-in-Ok-clause-shapes g c =
-    shapes_after g.Q.Element.Words.words g.P.Element.Words.words g.H.Words.words c.args.hub.now c.dispatch.new.hub c.args.command c.dispatch.result
+    shapes_after g.Q.Element.Words.words g.P.Element.Words.words (shown_by g.H.Backpressure.action) c.args.hub.now c.dispatch.new.hub c.args.command c.dispatch.result
     c.dispatch.ensures.whole c.dispatch.ensures.wanting
 
 pub returns-in-Err-clause-shapes : goal.returns-in-Err-clause-shapes
 returns-in-Err-clause-shapes g c =
-    shapes_after g.Q.Element.Words.words g.P.Element.Words.words g.H.Words.words c.args.hub.now c.dispatch.new.hub c.args.command c.dispatch.result
+    shapes_after g.Q.Element.Words.words g.P.Element.Words.words (shown_by g.H.Backpressure.action) c.args.hub.now c.dispatch.new.hub c.args.command c.dispatch.result
     c.dispatch.ensures.whole c.dispatch.ensures.wanting
 
 pub returns-in-Ok-clause-defaults : goal.returns-in-Ok-clause-defaults
 returns-in-Ok-clause-defaults g c =
     let same : HaveSameShapes c.args.hub.now c.dispatch.new.hub =
-    shapes_after g.Q.Element.Words.words g.P.Element.Words.words g.H.Words.words c.args.hub.now c.dispatch.new.hub c.args.command c.dispatch.result
+    shapes_after g.Q.Element.Words.words g.P.Element.Words.words (shown_by g.H.Backpressure.action) c.args.hub.now c.dispatch.new.hub c.args.command c.dispatch.result
     c.dispatch.ensures.whole c.dispatch.ensures.wanting in
     defaults_stay c.args.hub.now c.dispatch.new.hub same c.requires
 
 pub returns-in-Err-clause-defaults : goal.returns-in-Err-clause-defaults
 returns-in-Err-clause-defaults g c =
     let same : HaveSameShapes c.args.hub.now c.dispatch.new.hub =
-    shapes_after g.Q.Element.Words.words g.P.Element.Words.words g.H.Words.words c.args.hub.now c.dispatch.new.hub c.args.command c.dispatch.result
+    shapes_after g.Q.Element.Words.words g.P.Element.Words.words (shown_by g.H.Backpressure.action) c.args.hub.now c.dispatch.new.hub c.args.command c.dispatch.result
     c.dispatch.ensures.whole c.dispatch.ensures.wanting in
     defaults_stay c.args.hub.now c.dispatch.new.hub same c.requires

@@ -4,6 +4,12 @@ use Rattle.iox_tables.specs.HubStates.States.{Given}
 use Rattle.iox_port_commands.proofs.Calling.{on_err, same_stays}
 use Rattle.iox_port_commands.proofs.applying.dispatch.Goals as goal
 
+pub returns-in-Client-clause-whole : goal.returns-in-Client-clause-whole
+returns-in-Client-clause-whole g c = rw c.in-Client.is c.make.ensures.whole
+
+pub returns-in-Server-clause-whole : goal.returns-in-Server-clause-whole
+returns-in-Server-clause-whole g c = rw c.in-Server.is c.make-in-Server.ensures.whole
+
 pub returns-in-Client-clause-wanting : goal.returns-in-Client-clause-wanting
 returns-in-Client-clause-wanting g c = rw c.in-Client.is c.make.ensures.wanting
 

@@ -1,8 +1,9 @@
 use Rattle.std.specs.Prelude.{ℕ, List, refl}
-use Rattle.std.proofs.Common.{subst, subst₂, sym}
+use Rattle.std.proofs.Common.{ap, subst, subst₂, sym}
 use Rattle.iox_hub_laws.specs.Sends.{BringsOnly}
 use Rattle.iox_model.specs.declared.call.Call.TheVariants.{Send}
 use Rattle.iox_model.specs.declared.kind.Kind.TheVariants.{RequestMut}
+use Rattle.iox_model.specs.declared.reply.Reply.TheVariants as replies
 use Rattle.iox_hub_laws.specs.Sendings.{reply_of_send}
 use Rattle.iox_hub_laws.specs.Waiting.{client_in}
 use Rattle.iceoryx2_ports.specs.Asking.{AsksAs, BringsItsRequest, OpensAtServers}
@@ -10,7 +11,13 @@ use Rattle.iceoryx2_ports.proofs.Aside.{loan_asks_as_always}
 use Rattle.iceoryx2_ports.proofs.Reaching.{send_brings_one, send_reaches}
 use Rattle.iceoryx2_ports.proofs.Requested.{send_asks_as, send_brings_its_request, send_opens}
 use Rattle.iceoryx2_ports.proofs.SameShapes.{same_shapes}
+use Rattle.iceoryx2_ports.proofs.Telling.{called_as}
 use Rattle.iceoryx2_ports.proofs.request_mut.RequestMut.send.Goals as goal
+
+pub returns-in-To-clause-whole : goal.returns-in-To-clause-whole
+returns-in-To-clause-whole g c =
+    called_as c.args.hub.now c.send_request.new.hub c.args.self.node (Send c.args.self.number) (replies.Sent c.in-To.servers) (replies.Sent c.new.result.servers)
+    (ap replies.Sent (sym c.new.ensures.servers)) c.in-To.ensures.whole
 
 pub returns-in-To-clause-only : goal.returns-in-To-clause-only
 returns-in-To-clause-only g c =

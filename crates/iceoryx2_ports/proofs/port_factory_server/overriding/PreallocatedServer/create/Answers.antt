@@ -1,3 +1,5 @@
+use Rattle.std.specs.Option.{option_map}
+use Rattle.iox_hub_laws.specs.HandlerWords.{shown_by}
 use Rattle.std.specs.Prelude.{ℕ}
 use Rattle.iox_model.specs.declared.kind.Role.TheVariants as roles
 use Rattle.iceoryx2_ports.specs.Makings.{reply_of_server}
@@ -8,6 +10,6 @@ use Rattle.iceoryx2_ports.proofs.port_factory_server.overriding.PreallocatedServ
 pub returns-clause-whole : goal.returns-clause-whole
 returns-clause-whole g c =
     subst
-    (λ (it : MadeWith _).
-    IsMadeWithItsPool c.args.hub.now it.node roles.Server it.id (λ (n : ℕ). g.F.Fn.post it.closure (n, tt)) it.options (reply_of_server c.create.result) c.create.new.hub)
+    (λ (it : MadeWith _ _).
+    IsMadeWithItsPool c.args.hub.now it.node roles.Server it.id (λ (n : ℕ). g.F.Fn.post it.closure (n, tt)) it.options (option_map (shown_by g.H.Backpressure.action) it.handler) (reply_of_server c.create.result) c.create.new.hub)
     c.self.view_is (c.with_pool-options.result, c.with_pool-options.ensures, c.create.ensures.whole)
