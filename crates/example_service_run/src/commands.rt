@@ -3,7 +3,7 @@ use crate::lengths::id;
 use iceoryx2_wire::{Command, Elements, Opener, PortCommand, PortOptions, UniqueNodeId};
 use std::alloc::{AllocError, Global};
 
-/// A command. No port has a backpressure handler, so its type does not matter.
+/// A command. No port has a backpressure handler, so its type is the unit.
 pub type TheCommand<'a> = Command<Elements<u8, u64>, (), &'a Opener>;
 
 const OPTIONS: PortOptions<()> = PortOptions {

@@ -8,7 +8,7 @@ use Rattle.iox_model.specs.declared.command.Command as the_command
 use Rattle.iox_model.specs.declared.command.Command.TheVariants as commands
 use Rattle.iox_model.specs.declared.command.PortCommand as the_port_command
 use Rattle.iox_model.specs.declared.reply.Refusal as the_refusal
-use Rattle.iox_model.specs.Commands.{Command, Refusal, Reply}
+use Rattle.iox_model.specs.Commands.{Command, Reply}
 use Rattle.iox_model.specs.Settings.{Limits}
 use Rattle.iox_model.specs.States.{State}
 use Rattle.iox_service_laws.specs.MessageShape.{MessageShape}

@@ -10,6 +10,7 @@ pub use Rattle.iox_model.specs.Peers
 pub use Rattle.iox_model.specs.Runs
 pub use Rattle.iox_model.specs.Services as Machine
 pub use Rattle.iox_model.specs.States
+pub use Rattle.iox_model.specs.declared.backpressure.BackpressureAction
 pub use Rattle.iox_model.specs.declared.command.Command
 pub use Rattle.iox_model.specs.declared.kind.Role
 pub use Rattle.iox_model.specs.declared.reply.Refusal
@@ -17,6 +18,7 @@ pub use Rattle.iox_model.specs.declared.reply.Reply
 pub use Rattle.iox_members.specs.Registering
 pub use Rattle.iox_members.specs.Registers
 pub use Rattle.iox_members.specs.Steps
+pub use Rattle.iox_service_laws.specs.HandlerWords
 pub use Rattle.iox_service_laws.specs.Settings
 pub use Rattle.iox_service_laws.specs.Listings
 pub use Rattle.iox_service_laws.specs.Shapes
@@ -65,6 +67,18 @@ pub use Rattle.iox_service_laws.specs.ListingLaws
 pub use Rattle.iox_service_laws.specs.Refusing
 pub use Rattle.iox_service_laws.specs.Ledgers
 pub use Rattle.iox_service_laws.specs.OrderLaws
+-- for types of callers: values as words, words in parts, or of values that pass a test, and the
+-- words of std's types
+pub use Rattle.iox_words.specs.WordLists
+pub use Rattle.iox_words.specs.WordParts
+pub use Rattle.iox_words.specs.WordLaws
+pub use Rattle.iox_words.specs.WhereLaws
+pub use Rattle.iox_words.specs.Numbers
+pub use Rattle.iox_words.specs.NumberLaws
+pub use Rattle.iox_words.specs.SignedLaws
+pub use Rattle.iox_words.specs.PlainLaws
+pub use Rattle.iox_words.specs.declared.word_list.Words
+pub use Rattle.iox_words.specs.declared.zero_copy_send.ZeroCopySend
 -- in reading order: a service with its description, its own messages, and its commands
 pub mod Services
 pub mod OwnTypes

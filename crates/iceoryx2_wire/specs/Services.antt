@@ -7,7 +7,7 @@ use Rattle.iox_model.specs.declared.command.Command.TheVariants.{Join}
 use Rattle.iox_model.specs.declared.reply.Refusal as the_refusal
 use Rattle.iox_model.specs.declared.reply.Reply.TheVariants as replies
 use Rattle.iox_model.specs.Commands.{Refusal}
-use Rattle.iox_model.specs.Defaults.{follow}
+use Rattle.iox_service_laws.specs.HandlerWords.{action_in}
 use Rattle.iox_model.specs.Runs.{IsCreation}
 use Rattle.iox_model.specs.Services.{IsCommand}
 use Rattle.iox_model.specs.Settings.{Limits}
@@ -47,7 +47,7 @@ pub record IsMade (l : Limits) (own : MessageTypes) (identity : ServiceIdentity)
     pub asked : Option Refusal
     pub tests : IsAskedOfCreator own description.types asked
     pub creation :
-        IsCreation l follow id asked (answer_in cause_of (λ s. replies.Node 0) result)
+        IsCreation l action_in id asked (answer_in cause_of (λ s. replies.Node 0) result)
         (made_by result)
     pub says : IfOk result (λ s. s.description ≡ description)
     pub named : IfOk result (λ s. s.identity ≡ identity)

@@ -15,13 +15,19 @@ use crate::service::Service;
 use iox_attributes::AttributeVerificationError;
 use iox_model::reply::Refusal;
 use iox_openers::ServiceDescription;
-use iox_service_laws::{MessageShape, Settings};
+use iox_service_laws::{Backpressure, MessageShape, Settings};
 use iox_store::Payload;
 use iox_types::identifiers::UniqueSystemId;
 use iox_words::ZeroCopySend;
 use std::alloc::Global;
 
-impl<Q: Payload, QH: ZeroCopySend, P: Payload, PH: ZeroCopySend> Service<Q, QH, P, PH>
+impl<Q: Payload, QH: ZeroCopySend, P: Payload, PH: ZeroCopySend, H: Backpressure> Service<
+    Q,
+    QH,
+    P,
+    PH,
+    H,
+>
 where
     Q::Element: ZeroCopySend,
     P::Element: ZeroCopySend,

@@ -27,7 +27,10 @@ pub use iox_model::reply::{Refusal, Reply};
 pub use iox_names::ServiceName;
 pub use iox_names::attribute::{AttributeKey, AttributeValue};
 pub use iox_openers::{MessageTypes, ServiceDescription};
-pub use iox_service_laws::{Elements, Settings, default_settings};
+pub use iox_service_laws::{
+    Always, Backpressure, BackpressureAction, BackpressureInfo, Elements, Settings,
+    default_settings,
+};
 pub use iox_store::{Many, One, Payload};
 pub use iox_types::identifiers::{UniqueClientId, UniqueNodeId, UniqueServerId, UniqueSystemId};
 pub use iox_types::{

@@ -8,12 +8,13 @@ ghost use Rattle.iox_service_laws.specs.Listings.{ids_of_role};
 ghost use Rattle.iceoryx2_wire.specs.Services.{service_of};
 
 use crate::service::Service;
+use iox_service_laws::Backpressure;
 use iox_store::Payload;
 use iox_types::identifiers::{UniqueClientId, UniqueNodeId, UniqueServerId};
 use iox_words::{CallbackProgression, Words};
 use std::alloc::{AllocError, Global};
 
-impl<Q: Payload, QH: Words, P: Payload, PH: Words> Service<Q, QH, P, PH> {
+impl<Q: Payload, QH: Words, P: Payload, PH: Words, H: Backpressure> Service<Q, QH, P, PH, H> {
     /// The numbers of the nodes that are there, dead ones too, ascending. It fails only for want
     /// of memory.
     pub fn list_nodes(&self, alloc: Global) -> Result<Vec<u64>, AllocError>

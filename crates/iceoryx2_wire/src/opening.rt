@@ -8,11 +8,12 @@ use crate::service::Service;
 use iox_attributes::{AttributeVerificationError, AttributeVerifier};
 use iox_model::reply::Refusal;
 use iox_openers::MessageTypes;
+use iox_service_laws::Backpressure;
 use iox_store::Payload;
 use iox_types::identifiers::UniqueSystemId;
 use iox_words::Words;
 
-impl<Q: Payload, QH: Words, P: Payload, PH: Words> Service<Q, QH, P, PH> {
+impl<Q: Payload, QH: Words, P: Payload, PH: Words, H: Backpressure> Service<Q, QH, P, PH, H> {
     /// A node opens the service, with these four numbers as its id; its number is how many joined
     /// before it. `types` are those of its messages, and the verifier has what it requires. An
     /// attribute that is missing is lent from the verifier.

@@ -11,6 +11,7 @@ use crate::service::Service;
 use iox_attributes::AttributeVerificationError;
 use iox_model::reply::Refusal;
 use iox_openers::MessageTypes;
+use iox_service_laws::Backpressure;
 use iox_store::Payload;
 use iox_types::{
     MessageTypeDetails, RequestHeader, ResponseHeader, TypeDetail, TypeDetailError, TypeVariant,
@@ -83,7 +84,13 @@ where
     None
 }
 
-impl<Q: Payload, QH: ZeroCopySend, P: Payload, PH: ZeroCopySend> Service<Q, QH, P, PH>
+impl<Q: Payload, QH: ZeroCopySend, P: Payload, PH: ZeroCopySend, H: Backpressure> Service<
+    Q,
+    QH,
+    P,
+    PH,
+    H,
+>
 where
     Q::Element: ZeroCopySend,
     P::Element: ZeroCopySend,

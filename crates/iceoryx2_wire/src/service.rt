@@ -8,6 +8,7 @@ use crate::identity::ServiceIdentity;
 use iox_members::Nodes;
 use iox_names::ServiceName;
 use iox_openers::ServiceDescription;
+use iox_service_laws::Backpressure;
 use iox_store::Payload;
 use iox_words::Words;
 use std::fmt;
@@ -15,18 +16,19 @@ use std::marker::Model;
 
 /// A service: which one it is, what its creator and its openers are compared with, its nodes, and
 /// all their ports, with requests of `Q` and user headers `QH`, and with responses of `P` and user
-/// headers `PH`.
+/// headers `PH`. Ports may have handlers of `H`; where they have none, it is the unit.
 ///
 /// It shows a state of the machine that copies messages (`service_of`). Which one it is, and what
 /// it says of itself, never changes.
 #[derive(Drop)]
-pub struct Service<Q: Payload, QH: Words, P: Payload, PH: Words> {
+pub struct Service<Q: Payload, QH: Words, P: Payload, PH: Words, H: Backpressure = ()> {
     pub(crate) identity: ServiceIdentity,
     pub(crate) description: ServiceDescription,
-    pub(crate) nodes: iox_service_laws::Service<Q, QH, P, PH>,
+    pub(crate) nodes: iox_service_laws::Service<Q, QH, P, PH, H>,
 }
 
-impl<Q: Payload, QH: Words, P: Payload, PH: Words> Model for Service<Q, QH, P, PH> {
+impl<Q: Payload, QH: Words, P: Payload, PH: Words, H: Backpressure> Model
+    for Service<Q, QH, P, PH, H> {
     ghost use Rattle.iceoryx2_wire.specs.Services.{DescribedService};
 
     ghost Value = { DescribedService };
@@ -39,14 +41,15 @@ impl<Q: Payload, QH: Words, P: Payload, PH: Words> Model for Service<Q, QH, P, P
 }
 
 /// Its name and its number alone, since its tables are long.
-impl<Q: Payload, QH: Words, P: Payload, PH: Words> fmt::Debug for Service<Q, QH, P, PH> {
+impl<Q: Payload, QH: Words, P: Payload, PH: Words, H: Backpressure> fmt::Debug
+    for Service<Q, QH, P, PH, H> {
     fn fmt<W: fmt::Write>(&self, f: &mut fmt::Formatter<W>) -> fmt::Result {
         let ServiceIdentity { name, number } = &self.identity;
         write!(f, "Service {{ name: {name:?}, number: {number}, .. }}")
     }
 }
 
-impl<Q: Payload, QH: Words, P: Payload, PH: Words> Service<Q, QH, P, PH> {
+impl<Q: Payload, QH: Words, P: Payload, PH: Words, H: Backpressure> Service<Q, QH, P, PH, H> {
     /// The name of the service.
     #[inline]
     pub fn name(&self) -> &ServiceName
@@ -66,7 +69,7 @@ impl<Q: Payload, QH: Words, P: Payload, PH: Words> Service<Q, QH, P, PH> {
     /// The nodes and ports of the service, with neither name nor description. Each of its `laws`
     /// holds of them.
     #[inline]
-    pub fn nodes(&self) -> &iox_service_laws::Service<Q, QH, P, PH>
+    pub fn nodes(&self) -> &iox_service_laws::Service<Q, QH, P, PH, H>
         ensures { result.now ≡ self.now.nodes }
     {
         &self.nodes

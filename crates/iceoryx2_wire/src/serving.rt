@@ -5,6 +5,7 @@ ghost use Rattle.iox_openers.specs.Causes.{cause_of};
 ghost use Rattle.iox_service_laws.specs.Given.{command_given, is_listing};
 ghost use Rattle.iox_service_laws.specs.Memory.{WantsRightly};
 ghost use Rattle.iox_service_laws.specs.Served.{IsListingAt};
+ghost use Rattle.iox_service_laws.specs.HandlerWords.{shown_by};
 ghost use Rattle.iceoryx2_wire.specs.Services.{service_of};
 ghost use Rattle.iceoryx2_wire.specs.Serving.{IsAnswered, IsAnsweredWithMemory, IsGivenAs};
 ghost use Rattle.iceoryx2_wire.specs.Serving.{IsRunOf, MayFindNoMemory, WantsToGrowFor};
@@ -15,7 +16,7 @@ use iox_attributes::AttributeVerificationError;
 use iox_model::command::Command;
 use iox_model::reply::{Refusal, Reply};
 use iox_openers::ServiceDescription;
-use iox_service_laws::Elements;
+use iox_service_laws::{Backpressure, Elements};
 use iox_store::Payload;
 use iox_words::Words;
 use std::alloc::{AllocError, Global};
@@ -45,23 +46,23 @@ fn compared<'a, Q, P, H>(
     }
 }
 
-impl<Q: Payload, QH: Words, P: Payload, PH: Words> Service<Q, QH, P, PH> {
+impl<Q: Payload, QH: Words, P: Payload, PH: Words, H: Backpressure> Service<Q, QH, P, PH, H> {
     /// Answers a command, where there is memory for it. Its replies are those of the machine with
     /// memory. It fails only where there is none for a join, for a port, for what is read, for a
     /// message that must grow or for a listing, and changes nothing then.
     ///
-    /// For a port that is too large or has a handler, a service never has memory. Nor has it for a
-    /// join once 2^64 - 1 nodes joined.
-    pub fn try_serve<'a, H: Words>(
+    /// For a port that is too large, a service never has memory. Nor has it for a join once 2^64 - 1
+    /// nodes joined.
+    pub fn try_serve<'a>(
         &mut self,
         alloc: Global,
         command: Command<Elements<Q::Element, P::Element>, H, &'a Opener>,
     ) -> Result<Reply<Vec<u64>, AttributeVerificationError<'a>>, AllocError>
         ensures answered { IfOk result (λ reply. IsAnsweredWithMemory Q.Element.words
-            P.Element.words H.words self.old.description (service_of self.old) command.entry reply
-            (service_of self.new)) }
-        ensures wanting { OnErr result (MayFindNoMemory Q.Element.words P.Element.words H.words
-            self.old.description (service_of self.old) command.entry) }
+            P.Element.words (shown_by H.action) self.old.description (service_of self.old)
+            command.entry reply (service_of self.new)) }
+        ensures wanting { OnErr result (MayFindNoMemory Q.Element.words P.Element.words
+            (shown_by H.action) self.old.description (service_of self.old) command.entry) }
         ensures says { self.new.description ≡ self.old.description }
         ensures identity { self.new.identity ≡ self.old.identity }
         ensures unchanged { OnErr result (self.new ≡ self.old) }
@@ -74,16 +75,17 @@ impl<Q: Payload, QH: Words, P: Payload, PH: Words> Service<Q, QH, P, PH> {
     /// itself, as by `open`. It fails only for want of memory for a listing, and changes nothing
     /// then. Want of memory for a join, for a port, for a read and for a message that must grow
     /// is a reply, as the machine has it; no other command is told so.
-    pub fn serve<'a, H: Words>(
+    pub fn serve<'a>(
         &mut self,
         alloc: Global,
         command: Command<Elements<Q::Element, P::Element>, H, &'a Opener>,
     ) -> Result<Reply<Vec<u64>, AttributeVerificationError<'a>>, AllocError>
-        ensures answered { IfOk result (λ reply. IsAnswered Q.Element.words P.Element.words H.words
-            self.old.description (service_of self.old) command.entry reply (service_of self.new)) }
+        ensures answered { IfOk result (λ reply. IsAnswered Q.Element.words P.Element.words
+            (shown_by H.action) self.old.description (service_of self.old) command.entry reply
+            (service_of self.new)) }
         ensures want { IfOk result (λ reply. WantsRightly command.entry reply) }
         ensures grows { IfOk result (λ reply. WantsToGrowFor Q.Element.words P.Element.words
-            H.words self.old.description (service_of self.old) command.entry reply) }
+            (shown_by H.action) self.old.description (service_of self.old) command.entry reply) }
         ensures says { self.new.description ≡ self.old.description }
         ensures identity { self.new.identity ≡ self.old.identity }
         ensures unchanged { OnErr result (self.new ≡ self.old) }
@@ -96,16 +98,17 @@ impl<Q: Payload, QH: Words, P: Payload, PH: Words> Service<Q, QH, P, PH> {
     }
 
     /// The same of any command, at a greater cost for one of a port or a handle.
-    fn serve_compared<'a, H: Words>(
+    fn serve_compared<'a>(
         &mut self,
         alloc: Global,
         command: Command<Elements<Q::Element, P::Element>, H, &'a Opener>,
     ) -> Result<Reply<Vec<u64>, AttributeVerificationError<'a>>, AllocError>
-        ensures answered { IfOk result (λ reply. IsAnswered Q.Element.words P.Element.words H.words
-            self.old.description (service_of self.old) command.entry reply (service_of self.new)) }
+        ensures answered { IfOk result (λ reply. IsAnswered Q.Element.words P.Element.words
+            (shown_by H.action) self.old.description (service_of self.old) command.entry reply
+            (service_of self.new)) }
         ensures want { IfOk result (λ reply. WantsRightly command.entry reply) }
         ensures grows { IfOk result (λ reply. WantsToGrowFor Q.Element.words P.Element.words
-            H.words self.old.description (service_of self.old) command.entry reply) }
+            (shown_by H.action) self.old.description (service_of self.old) command.entry reply) }
         ensures says { self.new.description ≡ self.old.description }
         ensures identity { self.new.identity ≡ self.old.identity }
         ensures unchanged { OnErr result (self.new ≡ self.old) }
@@ -119,15 +122,15 @@ impl<Q: Payload, QH: Words, P: Payload, PH: Words> Service<Q, QH, P, PH> {
     /// the command whose reply finds no room, and before a listing for which there is no memory;
     /// what was answered until then stays. So where there is room for one reply more, the command
     /// before which it ends is a listing.
-    pub fn run<'a, H: Words>(
+    pub fn run<'a>(
         &mut self,
         alloc: Global,
         commands: Vec<Command<Elements<Q::Element, P::Element>, H, &'a Opener>>,
         replies: &mut Vec<Reply<Vec<u64>, AttributeVerificationError<'a>>>,
     ) -> Result<(), AllocError>
-        ensures ran { IsRunOf Q.Element.words P.Element.words H.words self.old.description
-            (service_of self.old) commands.entry.items replies.old.items replies.new.items
-            (service_of self.new) }
+        ensures ran { IsRunOf Q.Element.words P.Element.words (shown_by H.action)
+            self.old.description (service_of self.old) commands.entry.items replies.old.items
+            replies.new.items (service_of self.new) }
         ensures says { self.new.description ≡ self.old.description }
         ensures identity { self.new.identity ≡ self.old.identity }
         ensures whole { OnOk result

@@ -51,7 +51,7 @@ pub fn cleans_up(
 pub fn runs<'a>(
     service: &mut Bytes,
     alloc: Global,
-    commands: Vec<Command<Elements<u8, u64>, u64, &'a Opener>>,
+    commands: Vec<Command<Elements<u8, u64>, (), &'a Opener>>,
 ) -> Result<Vec<Reply<Vec<u64>, AttributeVerificationError<'a>>>, AllocError>
     ensures each { IfOk result (λ replies. vec_len replies ≡ vec_len commands.entry) }
     ensures served { IsServed (service_of service.new) }

@@ -117,7 +117,7 @@ fn declares_dead(service: &mut Bytes, alloc: Global, node: u64) -> bool
     ensures { result ≡ true → (c : machine.Command) × (c ≡ DeclareDead node)
         × IsCommand (service_of service.old) c Done (service_of service.new) }
 {
-    let death: Command<Elements<u8, u64>, u64, &Opener> = Command::DeclareDead { node };
+    let death: Command<Elements<u8, u64>, (), &Opener> = Command::DeclareDead { node };
     match service.serve(alloc, death) {
         Ok(Reply::Done) => true,
         _ => false,
@@ -139,7 +139,7 @@ pub fn goes_on_without<'a>(
     alloc: Global,
     node: u64,
     number: u64,
-    commands: Vec<Command<Elements<u8, u64>, u64, &'a Opener>>,
+    commands: Vec<Command<Elements<u8, u64>, (), &'a Opener>>,
     replies: &mut Vec<Reply<Vec<u64>, AttributeVerificationError<'a>>>,
 ) -> bool
     ensures { result ≡ true →
@@ -160,14 +160,14 @@ pub fn asks_when_dead<'a>(
     alloc: Global,
     node: u64,
     number: u64,
-    commands: Vec<Command<Elements<u8, u64>, u64, &'a Opener>>,
+    commands: Vec<Command<Elements<u8, u64>, (), &'a Opener>>,
     replies: &mut Vec<Reply<Vec<u64>, AttributeVerificationError<'a>>>,
 ) -> Option<Reply<Vec<u64>, AttributeVerificationError<'static>>>
     ensures { (cause : causes.AttributeVerificationError → machine.Cause) →
         IfSome result (λ reply. reply_given cause reply
         ≡ Refused (if is_member (service_of service.new) node then NodeIsDead else UnknownNode)) }
 {
-    let asks: PortCommand<Elements<u8, u64>, u64> = PortCommand::HasRequests { node, number };
+    let asks: PortCommand<Elements<u8, u64>, ()> = PortCommand::HasRequests { node, number };
     if goes_on_without(service, alloc, node, number, commands, replies) {
         Some(service.port(alloc, asks))
     } else {

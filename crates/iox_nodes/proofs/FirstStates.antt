@@ -1,11 +1,11 @@
 -- A service as it is made, and why none is.
-use Rattle.std.specs.Prelude.{◌≡◌, ℕ, [], true, false, Option, Some, None, IsSome, Ok, Err, refl}
+use Rattle.std.specs.Prelude.{◌≡◌, [], true, false, Option, Some, None, IsSome, Ok, Err, refl}
 use Rattle.std.proofs.Common.{ap, ap₂, subst, sym, ◌∙◌}
 use Rattle.iox_types.specs.declared.identifiers.system_id.UniqueSystemId.{UniqueSystemId}
 use Rattle.iox_types.specs.Identifiers.{is_node_id}
 use Rattle.iox_model.specs.declared.reply.Refusal as the_refusal
 use Rattle.iox_model.specs.declared.reply.Refusal.TheVariants.{InvalidNodeId, LimitTooLarge, WantOfMemory}
-use Rattle.iox_model.specs.Defaults.{follow}
+use Rattle.iox_port_commands.specs.HandlerWords.{action_in}
 use Rattle.iox_model.specs.Runs.{IsServed, created, creation_refusal, is_too_large}
 use Rattle.iox_model.specs.Settings.{IsShape, Limits, Shape}
 use Rattle.iox_model.specs.States.{Members}
@@ -21,7 +21,7 @@ use Rattle.iox_nodes.specs.Shown.{IsService, ServiceTables, given_for, limits_fo
 use Rattle.iox_nodes.proofs.Reaching.{requests_make_sense, responses_make_sense}
 
 pub first_state : (s : HubSettings) (q p : Shape) (id : UniqueSystemId) (x : Members) (h : HubState) → x ≡ first_members id → h ≡ new_hub s q p
-    → state_of x h ≡ created (limits_for s q p) follow id
+    → state_of x h ≡ created (limits_for s q p) action_in id
 first_state s q p id x h members hub =
     ap₂ state_of members hub
     ∙ (each_start_is_shown (given_by (given_for (first_members id)) (new_hub s q p)) (started s)).state (limits_for s q p) refl
@@ -32,7 +32,7 @@ pub first_service : (s : HubSettings) (q p : Shape) (id : UniqueSystemId) (x : M
 first_service s q p id x h members hub reached valid small requests responses = record {
   served = subst IsServed (sym (first_state s q p id x h members hub)) (record {
     limits = limits_for s q p;
-    acts = follow;
+    acts = action_in;
     id = id;
     request = subst (λ (v : HubState). IsShape v.request) hub (requests_make_sense (state_of_hub reached.0 h) reached.1);
     response = subst (λ (v : HubState). IsShape v.response) hub (responses_make_sense (state_of_hub reached.0 h) reached.1);
@@ -71,5 +71,5 @@ pub creation_wants : {C : Type 0} (l : Limits) (id : UniqueSystemId) (asked : Op
 creation_wants l id asked valid is small cause = (false, rw valid (rw is (rw small (refl, refl))))
 
 pub creation_done : {C : Type 0} (l : Limits) (id : UniqueSystemId) (asked : Option (the_refusal.Refusal C)) (v : ServiceTables)
-    → is_node_id id ≡ true → asked ≡ None → is_too_large l ≡ false → service_of v ≡ created l follow id → IsCreated {C = C} l id asked (Ok v)
+    → is_node_id id ≡ true → asked ≡ None → is_too_large l ≡ false → service_of v ≡ created l action_in id → IsCreated {C = C} l id asked (Ok v)
 creation_done l id asked v valid is small made cause = (true, rw valid (rw is (rw small (refl, ap Some made))))

@@ -43,7 +43,7 @@ use Rattle.iox_nodes.proofs.Leading.{any_cause, joined_so}
 pub stays_so : (x : RegisteredMembers) (old new : HubState) → StaysAs old new → tables_of x new ≡ tables_of x old
 stays_so x old new stays =
     ap (tables_of x) stays.others
-    ∙ ap (λ t. record { members = x.members; registry = x.registry; tables = t; words = old.words; request = old.request; response = old.response }) stays.tables
+    ∙ ap (λ t. record { members = x.members; registry = x.registry; tables = t; words = old.words; request = old.request; response = old.response; handlers = old.handlers }) stays.tables
 
 -- and so does the state
 stays_shown : (x : Members) (old new : HubState) → StaysAs old new → state_of x new ≡ state_of x old

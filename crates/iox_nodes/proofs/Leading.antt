@@ -1,5 +1,5 @@
 -- What the calls of nodes lead to, and that it is a service again.
-use Rattle.std.specs.Prelude.{◌≡◌, ℕ, ⊤, [], Bool, true, false, not, Option, Some, None, Result, Ok, Err, IfOk, OnErr, IsSome, refl}
+use Rattle.std.specs.Prelude.{◌≡◌, ℕ, ⊤, [], Bool, true, false, not, Option, Result, Ok, Err, IfOk, IsSome, refl}
 use Rattle.std.specs.Option.{option_map}
 use Rattle.std.proofs.Common.{ap, subst, sym, ◌∙◌}
 use Rattle.iox_types.specs.declared.identifiers.system_id.UniqueSystemId.{UniqueSystemId}

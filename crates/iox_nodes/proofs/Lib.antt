@@ -7,5 +7,5 @@ pub mod Running
 pub mod Having
 pub mod Lacking
 pub mod Wanting
-pub mod Still
+pub mod Marks
 pub mod Questions

@@ -5,6 +5,7 @@ pub mod Given
 pub mod Memory
 pub mod Served
 -- what clauses of services cite of hubs and of commands, for the crates above
+pub use Rattle.iox_port_commands.specs.HandlerWords
 pub use Rattle.iox_port_commands.specs.Settings
 pub use Rattle.iox_port_commands.specs.MessageShape
 pub use Rattle.iox_port_commands.specs.Part

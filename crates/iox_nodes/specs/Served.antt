@@ -12,13 +12,13 @@ use Rattle.iox_model.specs.declared.reply.Refusal as the_refusal
 use Rattle.iox_model.specs.declared.reply.Reply as the_reply
 use Rattle.iox_model.specs.declared.reply.Reply.TheVariants as replies
 use Rattle.iox_model.specs.Commands.{Cause, Command}
-use Rattle.iox_model.specs.Defaults.{follow}
 use Rattle.iox_model.specs.Runs.{IsCreation, IsRun}
 use Rattle.iox_model.specs.Services.{IsCommand}
 use Rattle.iox_model.specs.Settings.{Limits}
 use Rattle.iox_model.specs.States.{State}
 use Rattle.iox_openers.specs.Causes.{with_cause}
 use Rattle.iox_members.specs.Steps.{answer_in}
+use Rattle.iox_port_commands.specs.HandlerWords.{action_in}
 use Rattle.iox_port_commands.specs.Asking.{command_for}
 use Rattle.iox_port_commands.specs.declared.elements.Elements.{Elements}
 use Rattle.iox_nodes.specs.Given.{command_given, is_listing, reply_given}
@@ -32,14 +32,14 @@ abbrev pub made_in : {E : Type 0} → Result ServiceTables E → Option State
 made_in (Ok service) = Some (service_of service)
 made_in (Err e) = None
 
--- The creation of a service with these limits is answered so; no handler is ever asked. `asked` is
--- the first of the creator's tests by types that fails.
+-- The creation of a service with these limits is answered so; handlers answer by their words. `asked`
+-- is the first of the creator's tests by types that fails.
 abbrev pub IsCreated :
     {C : Type 0} → Limits → UniqueSystemId → Option (the_refusal.Refusal C)
     → Result ServiceTables (the_refusal.Refusal C) → Type 0
 IsCreated {C = C} l id asked result =
     (cause : C → Cause)
-    → IsCreation l follow id (option_map (with_cause cause) asked)
+    → IsCreation l action_in id (option_map (with_cause cause) asked)
     (answer_in cause (λ service. replies.Node 0) result) (made_in result)
 
 -- ---- commands

@@ -1,7 +1,7 @@
 -- The state of a service: its nodes, and what its hub shows.
 use Rattle.std.specs.Prelude.{◌≡◌, List, [], Option, None}
 use Rattle.iox_types.specs.declared.identifiers.system_id.UniqueSystemId.{UniqueSystemId}
-use Rattle.iox_model.specs.Defaults.{follow, words}
+use Rattle.iox_model.specs.Defaults.{words}
 use Rattle.iox_model.specs.Runs.{IsServed}
 use Rattle.iox_model.specs.Settings.{Limits, Shape}
 use Rattle.iox_model.specs.States.{Members, State}
@@ -9,15 +9,17 @@ use Rattle.iox_members.specs.Nodes.{RegisteredMembers, room_in}
 use Rattle.iox_members.specs.Registers.{Registrations}
 use Rattle.iox_tables.specs.HubStates.States.{Given}
 use Rattle.iox_tables.specs.HubStates.Tables.{HubSettings, HubTables}
+use Rattle.iox_port_commands.specs.HandlerWords.{action_in}
+use Rattle.iox_port_commands.specs.Handlers.{PortWords}
 use Rattle.iox_port_commands.specs.Hubs.{HubState, state_of_hub}
 use Rattle.iox_port_commands.specs.Words.{Carried}
 use Rattle.iox_port_commands.specs.Applying.{HaveDefaults}
 
--- these nodes, and no handlers
+-- these nodes, and the answers of handlers by their words
 abbrev pub given_for : Members → Given
 given_for x = record {
   members = x;
-  acts = follow;
+  acts = action_in;
   handler = λ n. None;
   request = words 7;
   response = words 6;
@@ -31,7 +33,7 @@ abbrev pub state_of : Members → HubState → State
 state_of x h = state_of_hub (given_for x) h
 
 -- What a service keeps: its nodes, what is registered of them, the tables of its hub, what messages
--- carry, and what they are made of.
+-- carry, what they are made of, and the ports that have a handler.
 pub record ServiceTables : Type 0 where
   pub members : Members
   pub registry : Registrations UniqueSystemId
@@ -39,6 +41,7 @@ pub record ServiceTables : Type 0 where
   pub words : List (Option Carried)
   pub request : Shape
   pub response : Shape
+  pub handlers : List PortWords
 
 -- what a service with these nodes and that hub keeps
 abbrev pub tables_of : RegisteredMembers → HubState → ServiceTables
@@ -49,6 +52,7 @@ tables_of x h = record {
   words = h.words;
   request = h.request;
   response = h.response;
+  handlers = h.handlers;
 }
 
 -- the machine's state that these tables show
@@ -59,6 +63,7 @@ service_of v =
       words = v.words;
       request = v.request;
       response = v.response;
+      handlers = v.handlers;
     })
 
 -- the limits that these settings ask for, with such messages

@@ -4,6 +4,7 @@ ghost use Rattle.iox_model.specs.declared.command.Command.TheVariants.{Port};
 ghost use Rattle.iox_model.specs.Handles.{has};
 ghost use Rattle.iox_nodes.specs.Memory.{IsAnsweredWithMemory, MayFindNoMemory, PortWantsRightly};
 ghost use Rattle.iox_nodes.specs.Memory.{WantsToGrowFor, want_of};
+ghost use Rattle.iox_port_commands.specs.HandlerWords.{shown_by};
 ghost use Rattle.iox_nodes.specs.Served.{IsPortAnswered};
 ghost use Rattle.iox_nodes.specs.Shown.{service_of};
 ghost use Rattle.iox_port_commands.specs.Asking.{is_making};
@@ -14,7 +15,7 @@ use crate::service::Service;
 use iox_model::command::PortCommand;
 use iox_model::kind::Kind;
 use iox_model::reply::{Refusal, Reply};
-use iox_port_commands::{Elements, apply, try_apply};
+use iox_port_commands::{Backpressure, Elements, apply, try_apply};
 use iox_store::Payload;
 use iox_words::Words;
 use std::alloc::{AllocError, Global};
@@ -39,7 +40,7 @@ pub(crate) fn want_of<C>(making: bool) -> Refusal<C>
     Refusal::WantOfMemory
 }
 
-impl<Q: Payload, QH: Words, P: Payload, PH: Words> Service<Q, QH, P, PH> {
+impl<Q: Payload, QH: Words, P: Payload, PH: Words, H: Backpressure> Service<Q, QH, P, PH, H> {
     /// A node makes a port, or calls a port or a handle by its number. A port gets the id with
     /// which its node joined. It is refused as `UnknownNode` or `NodeIsDead` before all that the
     /// hub tests. Where there is no memory for a port, for what is read or for a message that must
@@ -47,15 +48,15 @@ impl<Q: Payload, QH: Words, P: Payload, PH: Words> Service<Q, QH, P, PH> {
     ///
     /// It stands in its callers, since a call would copy the command and the reply once more.
     #[inline(always)]
-    pub fn port<H: Words, C>(
+    pub fn port<C>(
         &mut self,
         alloc: Global,
         command: PortCommand<Elements<Q::Element, P::Element>, H>,
     ) -> Reply<Vec<u64>, C>
-        ensures answered { IsPortAnswered Q.Element.words P.Element.words H.words
+        ensures answered { IsPortAnswered Q.Element.words P.Element.words (shown_by H.action)
             (service_of self.old) command result (service_of self.new) }
         ensures want { PortWantsRightly command result }
-        ensures grows { WantsToGrowFor {C = C} Q.Element.words P.Element.words H.words
+        ensures grows { WantsToGrowFor {C = C} Q.Element.words P.Element.words (shown_by H.action)
             (service_of self.old) (Port command) result }
     {
         match self.members.living::<C>(asker(&command)) {
@@ -69,16 +70,16 @@ impl<Q: Payload, QH: Words, P: Payload, PH: Words> Service<Q, QH, P, PH> {
     }
 
     /// The same, where there is memory for a port, for what is read and for a message that grows.
-    pub(crate) fn try_port<H: Words, C>(
+    pub(crate) fn try_port<C>(
         &mut self,
         alloc: Global,
         command: PortCommand<Elements<Q::Element, P::Element>, H>,
     ) -> Result<Reply<Vec<u64>, C>, AllocError>
         ensures answered { IfOk result (λ reply. IsAnsweredWithMemory Q.Element.words
-            P.Element.words H.words (service_of self.old) (Port command) reply
+            P.Element.words (shown_by H.action) (service_of self.old) (Port command) reply
             (service_of self.new)) }
         ensures wanting { OnErr result (MayFindNoMemory {C = C} Q.Element.words P.Element.words
-            H.words (service_of self.old) (Port command)) }
+            (shown_by H.action) (service_of self.old) (Port command)) }
         ensures unchanged { OnErr result (self.new ≡ self.old) }
     {
         match self.members.living(asker(&command)) {

@@ -8,6 +8,7 @@ ghost use Rattle.iox_nodes.specs.Shown.{service_of};
 
 use crate::service::Service;
 use iox_model::reply::Refusal;
+use iox_port_commands::Backpressure;
 use iox_store::Payload;
 use iox_types::identifiers::UniqueSystemId;
 use iox_words::Words;
@@ -20,7 +21,7 @@ fn is_wanting<C>(answer: &Result<u64, Refusal<C>>) -> bool
     matches!(answer, Err(Refusal::WantOfMemory))
 }
 
-impl<Q: Payload, QH: Words, P: Payload, PH: Words> Service<Q, QH, P, PH> {
+impl<Q: Payload, QH: Words, P: Payload, PH: Words, H: Backpressure> Service<Q, QH, P, PH, H> {
     /// A node joins, with these four numbers as its id; its number is how many joined before it.
     /// `asked` is the first of its tests of types and attributes that fails, if one does.
     ///

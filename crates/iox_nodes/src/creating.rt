@@ -1,7 +1,7 @@
 //! A service is made.
 ghost use Rattle.std.specs.Prelude.{◌≡◌, IfOk, IsSome, false, true};
 ghost use Rattle.iox_types.specs.Identifiers.{is_node_id};
-ghost use Rattle.iox_model.specs.Defaults.{follow};
+ghost use Rattle.iox_port_commands.specs.HandlerWords.{action_in};
 ghost use Rattle.iox_model.specs.Runs.{created, is_too_large};
 ghost use Rattle.iox_model.specs.Settings.{Shape};
 ghost use Rattle.iox_port_commands.specs.Settings.{settings_of};
@@ -12,7 +12,7 @@ ghost use Rattle.iox_nodes.specs.Served.{IsCreated};
 use crate::service::Service;
 use iox_members::Members;
 use iox_model::reply::Refusal;
-use iox_port_commands::{Hub, MessageShape, Settings};
+use iox_port_commands::{Backpressure, Hub, MessageShape, Settings};
 use iox_store::Payload;
 use iox_types::identifiers::{UniqueNodeId, UniqueSystemId};
 use iox_words::Words;
@@ -29,7 +29,7 @@ fn is_too_large(settings: &Settings) -> bool
     settings.clients > MOST || (settings.servers > MOST || settings.nodes > MOST)
 }
 
-impl<Q: Payload, QH: Words, P: Payload, PH: Words> Service<Q, QH, P, PH> {
+impl<Q: Payload, QH: Words, P: Payload, PH: Words, H: Backpressure> Service<Q, QH, P, PH, H> {
     /// The service of that number, with its first node, which has number 0 and that id. `asked` is
     /// the first of the creator's tests by types that fails, if one does. A limit of 0 is raised to
     /// 1, but for those of what is kept of ports that are gone.
@@ -87,7 +87,7 @@ impl<Q: Payload, QH: Words, P: Payload, PH: Words> Service<Q, QH, P, PH> {
         ensures { IfOk result (λ service. service_of service
             ≡ created (limits_for (settings_of settings)
             (shape_of Q.MANY Q.Element.WORDS Q.Element.words QH.words request)
-            (shape_of P.MANY P.Element.WORDS P.Element.words PH.words response)) follow id) }
+            (shape_of P.MANY P.Element.WORDS P.Element.words PH.words response)) action_in id) }
     {
         let hub = Hub::new(alloc, settings, request, response)?;
         hub.is_in_order();

@@ -13,5 +13,8 @@ mod serving;
 pub mod uses;
 
 pub use iox_members::Nodes;
-pub use iox_port_commands::{Elements, MessageShape, Part, Settings, default_settings};
+pub use iox_port_commands::{
+    Always, Backpressure, BackpressureAction, BackpressureInfo, Elements, MessageShape, Part,
+    Settings, default_settings, words_tell_answers,
+};
 pub use service::Service;

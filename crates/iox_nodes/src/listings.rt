@@ -9,12 +9,13 @@ ghost use Rattle.iox_nodes.specs.Shown.{service_of};
 
 use crate::service::Service;
 use iox_model::kind::Role;
+use iox_port_commands::Backpressure;
 use iox_store::Payload;
 use iox_types::identifiers::{UniqueClientId, UniqueNodeId, UniqueServerId};
 use iox_words::{CallbackProgression, Words};
 use std::alloc::{AllocError, Global};
 
-impl<Q: Payload, QH: Words, P: Payload, PH: Words> Service<Q, QH, P, PH> {
+impl<Q: Payload, QH: Words, P: Payload, PH: Words, H: Backpressure> Service<Q, QH, P, PH, H> {
     /// The numbers of the nodes that are there, dead ones too, ascending. It fails only for want
     /// of memory.
     pub fn list_nodes(&self, alloc: Global) -> Result<Vec<u64>, AllocError>

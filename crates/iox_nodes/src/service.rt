@@ -5,23 +5,25 @@ ghost use Rattle.iox_members.specs.Registering.{AreRegistered};
 ghost use Rattle.iox_nodes.specs.Shown.{service_of};
 
 use iox_members::{Members, Nodes};
-use iox_port_commands::Hub;
+use iox_port_commands::{Backpressure, Hub};
 use iox_store::Payload;
 use iox_words::Words;
 use std::marker::Model;
 
 /// A service: its nodes and all their ports, with requests of `Q` and user headers `QH`, and with
-/// responses of `P` and user headers `PH`.
+/// responses of `P` and user headers `PH`. Ports may have handlers of `H`; where they have none, it
+/// is the unit.
 ///
 /// It shows a state of the machine that copies messages (`service_of`). The machine can reach it by
 /// what the service's own nodes asked, so each law of the machine holds of it.
 #[derive(Drop)]
-pub struct Service<Q: Payload, QH: Words, P: Payload, PH: Words> {
+pub struct Service<Q: Payload, QH: Words, P: Payload, PH: Words, H: Backpressure = ()> {
     pub(crate) members: Members,
-    pub(crate) hub: Hub<Q, QH, P, PH>,
+    pub(crate) hub: Hub<Q, QH, P, PH, H>,
 }
 
-impl<Q: Payload, QH: Words, P: Payload, PH: Words> Model for Service<Q, QH, P, PH> {
+impl<Q: Payload, QH: Words, P: Payload, PH: Words, H: Backpressure> Model
+    for Service<Q, QH, P, PH, H> {
     ghost use Rattle.iox_nodes.specs.Shown.{IsServiceWithRoom, ServiceTables, tables_of};
 
     ghost Value = { ServiceTables };
@@ -31,7 +33,7 @@ impl<Q: Payload, QH: Words, P: Payload, PH: Words> Model for Service<Q, QH, P, P
     ghost invariant = { λ s. IsServiceWithRoom s.members s.hub };
 }
 
-impl<Q: Payload, QH: Words, P: Payload, PH: Words> Service<Q, QH, P, PH> {
+impl<Q: Payload, QH: Words, P: Payload, PH: Words, H: Backpressure> Service<Q, QH, P, PH, H> {
     /// The machine can reach the service's state by what its own nodes asked. This does nothing: it
     /// is there for its contract.
     #[inline]

@@ -5,6 +5,7 @@ ghost use Rattle.iox_model.specs.declared.reply.Reply.TheVariants as replies;
 ghost use Rattle.iox_nodes.specs.Given.{is_listing, reply_to};
 ghost use Rattle.iox_nodes.specs.Memory.{IsAnsweredWithMemory, MayFindNoMemory, WantsRightly};
 ghost use Rattle.iox_nodes.specs.Memory.{WantsToGrowFor, refusal_for_want};
+ghost use Rattle.iox_port_commands.specs.HandlerWords.{shown_by};
 ghost use Rattle.iox_nodes.specs.Served.{IsAnswered, IsListingAt, IsRunOf};
 ghost use Rattle.iox_nodes.specs.Shown.{service_of};
 
@@ -12,7 +13,7 @@ use crate::asks::{is_making, want_of};
 use crate::service::Service;
 use iox_model::command::Command;
 use iox_model::reply::{Refusal, Reply};
-use iox_port_commands::Elements;
+use iox_port_commands::{Backpressure, Elements};
 use iox_store::Payload;
 use iox_words::Words;
 use std::alloc::{AllocError, Global};
@@ -48,22 +49,23 @@ fn refusal_for_want<P, H, V, C>(command: &Command<P, H, V>) -> Option<Refusal<C>
     }
 }
 
-impl<Q: Payload, QH: Words, P: Payload, PH: Words> Service<Q, QH, P, PH> {
+impl<Q: Payload, QH: Words, P: Payload, PH: Words, H: Backpressure> Service<Q, QH, P, PH, H> {
     /// Answers a command, where there is memory for it. Its replies are those of the machine with
     /// memory. It fails only where there is none for a join, for a port, for what is read, for a
     /// message that must grow or for a listing, and changes nothing then.
     ///
-    /// For a port that is too large or has a handler, a service never has memory. Nor has it for a
-    /// join once 2^64 - 1 nodes joined, or where what is asked says `WantOfMemory` itself.
-    pub fn try_serve<H: Words, C: Copy>(
+    /// For a port that is too large, a service never has memory. Nor has it for a join once
+    /// 2^64 - 1 nodes joined, or where what is asked says `WantOfMemory` itself.
+    pub fn try_serve<C: Copy>(
         &mut self,
         alloc: Global,
         command: Command<Elements<Q::Element, P::Element>, H, Option<Refusal<C>>>,
     ) -> Result<Reply<Vec<u64>, C>, AllocError>
         ensures answered { IfOk result (λ reply. IsAnsweredWithMemory Q.Element.words
-            P.Element.words H.words (service_of self.old) command reply (service_of self.new)) }
-        ensures wanting { OnErr result (MayFindNoMemory Q.Element.words P.Element.words H.words
-            (service_of self.old) command) }
+            P.Element.words (shown_by H.action) (service_of self.old) command reply
+            (service_of self.new)) }
+        ensures wanting { OnErr result (MayFindNoMemory Q.Element.words P.Element.words
+            (shown_by H.action) (service_of self.old) command) }
         ensures unchanged { OnErr result (self.new ≡ self.old) }
     {
         match command {
@@ -81,16 +83,16 @@ impl<Q: Payload, QH: Words, P: Payload, PH: Words> Service<Q, QH, P, PH> {
     /// Answers a command. It fails only for want of memory for a listing, and changes nothing then.
     /// Want of memory for a join, for a port, for a read and for a message that must grow is a reply,
     /// as the machine has it; no other command is told so.
-    pub fn serve<H: Words, C: Copy>(
+    pub fn serve<C: Copy>(
         &mut self,
         alloc: Global,
         command: Command<Elements<Q::Element, P::Element>, H, Option<Refusal<C>>>,
     ) -> Result<Reply<Vec<u64>, C>, AllocError>
-        ensures answered { IfOk result (λ reply. IsAnswered Q.Element.words P.Element.words H.words
-            (service_of self.old) command reply (service_of self.new)) }
+        ensures answered { IfOk result (λ reply. IsAnswered Q.Element.words P.Element.words
+            (shown_by H.action) (service_of self.old) command reply (service_of self.new)) }
         ensures want { IfOk result (λ reply. WantsRightly command reply) }
         ensures grows { IfOk result (λ reply. WantsToGrowFor Q.Element.words P.Element.words
-            H.words (service_of self.old) command reply) }
+            (shown_by H.action) (service_of self.old) command reply) }
         ensures unchanged { OnErr result (self.new ≡ self.old) }
         ensures listing { OnErr result (is_listing command ≡ true) }
     {
@@ -101,16 +103,16 @@ impl<Q: Payload, QH: Words, P: Payload, PH: Words> Service<Q, QH, P, PH> {
     }
 
     /// The same of any command, at a greater cost for one of a port or a handle.
-    fn serve_other<H: Words, C: Copy>(
+    fn serve_other<C: Copy>(
         &mut self,
         alloc: Global,
         command: Command<Elements<Q::Element, P::Element>, H, Option<Refusal<C>>>,
     ) -> Result<Reply<Vec<u64>, C>, AllocError>
-        ensures answered { IfOk result (λ reply. IsAnswered Q.Element.words P.Element.words H.words
-            (service_of self.old) command reply (service_of self.new)) }
+        ensures answered { IfOk result (λ reply. IsAnswered Q.Element.words P.Element.words
+            (shown_by H.action) (service_of self.old) command reply (service_of self.new)) }
         ensures want { IfOk result (λ reply. WantsRightly command reply) }
         ensures grows { IfOk result (λ reply. WantsToGrowFor Q.Element.words P.Element.words
-            H.words (service_of self.old) command reply) }
+            (shown_by H.action) (service_of self.old) command reply) }
         ensures unchanged { OnErr result (self.new ≡ self.old) }
         ensures listing { OnErr result (is_listing command ≡ true) }
     {
@@ -128,14 +130,15 @@ impl<Q: Payload, QH: Words, P: Payload, PH: Words> Service<Q, QH, P, PH> {
     /// the command whose reply finds no room, and before a listing for which there is no memory;
     /// what was answered until then stays. So where there is room for one reply more, the command
     /// before which it ends is a listing.
-    pub fn run<H: Words, C: Copy>(
+    pub fn run<C: Copy>(
         &mut self,
         alloc: Global,
         commands: Vec<Command<Elements<Q::Element, P::Element>, H, Option<Refusal<C>>>>,
         replies: &mut Vec<Reply<Vec<u64>, C>>,
     ) -> Result<(), AllocError>
-        ensures ran { IsRunOf Q.Element.words P.Element.words H.words (service_of self.old)
-            commands.items replies.old.items replies.new.items (service_of self.new) }
+        ensures ran { IsRunOf Q.Element.words P.Element.words (shown_by H.action)
+            (service_of self.old) commands.items replies.old.items replies.new.items
+            (service_of self.new) }
         ensures whole { OnOk result (vec_len replies.new ≡ vec_len replies.old + vec_len commands) }
         ensures short { OnErr result
             (vec_len replies.new < vec_len replies.old + vec_len commands) }

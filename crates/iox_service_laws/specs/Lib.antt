@@ -21,6 +21,7 @@ pub use Rattle.iox_laws.specs.ServiceLaws.Refusing
 pub use Rattle.iox_laws.specs.WeaveLaws.Ledgers
 pub use Rattle.iox_laws.specs.WeaveLaws.OrderLaws
 -- what the crates above cite of those below
+pub use Rattle.iox_nodes.specs.HandlerWords
 pub use Rattle.iox_nodes.specs.Served
 pub use Rattle.iox_nodes.specs.Settings
 pub use Rattle.iox_nodes.specs.Shapes

@@ -12,7 +12,10 @@ pub mod uses;
 
 pub use asked::{cleanups_are_releases, listings_are_exact, refusals_leave_the_state};
 pub use gone::{closes_with_the_last_node, keeps_nothing_for_the_gone, the_dead_do_nothing};
-pub use iox_nodes::{Elements, MessageShape, Service, Settings, default_settings};
+pub use iox_nodes::{
+    Always, Backpressure, BackpressureAction, BackpressureInfo, Elements, MessageShape, Service,
+    Settings, default_settings, words_tell_answers,
+};
 pub use limits::{limits_hold, loans_succeed, pools_suffice};
 pub use messages::{
     messages_are_as_delivered, messages_come_at_most_once, messages_come_at_their_request,

@@ -1,12 +1,13 @@
 -- What a service is asked by a line, and what it answers.
-use Rattle.std.specs.Prelude.{◌≡◌, ℕ, Bool, true, false, ◌||◌, if◌then◌else◌, ◌==◌, List, [], ◌∷◌, find, unwrap_or, Option, Some, None, MatchOption, Result, Ok, Err, IfOk, OnErr, IsTrue, refl}
+use Rattle.std.specs.Prelude.{◌≡◌, ℕ, Bool, true, false, not, if◌then◌else◌, ◌==◌, List, [], ◌∷◌, find, unwrap_or, Option, Some, None, is_some, MatchOption, Result, Ok, Err, IfOk, OnErr, IsTrue, refl}
 use Rattle.std.specs.List.{list_any}
 use Rattle.std.specs.Option.{IsSomeAnd}
 use Rattle.std.specs.declared.convert.Infallible.{Infallible}
 use Rattle.std.specs.declared.vec.Vec.{Vec}
 use Rattle.std.proofs.Common.{ap, subst, sym, true≢false, ◌∙◌}
 use Rattle.std.proofs.lemmas.Option.{none-some, same_Some}
-use Rattle.iox_words.specs.Numbers.{no_word, one_word}
+use Rattle.iox_words.specs.Numbers.{one_word}
+use Rattle.iox_nodes.specs.HandlerWords.{following, shown_by}
 use Rattle.iox_types.specs.declared.identifiers.system_id.UniqueSystemId.{UniqueSystemId}
 use Rattle.iox_model.specs.declared.call.Call.TheVariants as calls
 use Rattle.iox_model.specs.declared.command.Command as the_command
@@ -20,7 +21,8 @@ use Rattle.iox_model.specs.declared.reply.Reply as the_reply
 use Rattle.iox_model.specs.declared.reply.Reply.TheVariants.{Refused}
 use Rattle.iox_model.specs.Commands.{Command, Create, Reply, Use}
 use Rattle.iox_model.specs.Handles.{Subject, ThePort, TheHandle, handle_at, port_or_handle, subject}
-use Rattle.iox_model.specs.Makings.{allocation_of, is_large}
+use Rattle.iox_model.specs.Defaults.{follow}
+use Rattle.iox_model.specs.Makings.{allocation_of, is_large, new_port}
 use Rattle.iox_model.specs.Peers.{port_at}
 use Rattle.iox_model.specs.Services.{IsCommand}
 use Rattle.iox_model.specs.Settings.{Limits, is_static}
@@ -32,14 +34,15 @@ use Rattle.iox_nodes.specs.Memory.{IsAnsweredWithMemory, IsDoneWithMemory, MayFi
 use Rattle.iox_nodes.specs.Shown.{ServiceTables, service_of}
 use Rattle.iox_nodes.specs.PortMemory.{MustGrow, lender_by}
 use Rattle.iox_nodes.proofs.Reaching.{limits_stay}
-use Rattle.iox_nodes.proofs.Still.{joins_keep, port_commands_keep}
+use Rattle.iox_nodes.proofs.Marks.{IsLasting, joins_keep, neither, port_commands_keep}
 use Rattle.iox_nodes.specs.Elements.{Elements}
 use Rattle.iox_script.specs.Grammar.{options_of}
 use Rattle.iox_script.specs.Commands.{Options, ServiceCommand, ServiceReply}
 use Rattle.iox_session.specs.Answers.{command_asked, no_cause, options_given, payload_given, reply_given}
 use Rattle.iox_session.specs.Limits.{limits_with}
 use Rattle.iox_session.specs.Sessions.{IsAsked, IsPlain, IsServed, WantsMemory}
-use Rattle.iox_session.specs.Shown.{IsLimited, IsOfScript, IsTold, makes_large}
+use Rattle.iox_session.specs.Shown.{IsLimited, IsOfScript, IsTold, makes_large, script_state}
+use Rattle.iox_session.proofs.Unasked.{served_same}
 
 -- a line does not say that messages grow, and nor does the service
 static_limits : (l : Limits) (role : Role) → IsLimited l → is_static (allocation_of l role) ≡ true
@@ -55,27 +58,45 @@ plain_is_still l role o limited plain =
 pub limited_then : (s : State) (c : Command) (reply : Reply) (t : State) → IsLimited s.fixed.limits → IsCommand s c reply t → IsLimited t.fixed.limits
 limited_then s c reply t limited done = subst IsLimited (sym (limits_stay s c reply t done)) limited
 
--- and so do the messages of ports as long as they are
-still_then : (s t : State) (command : ServiceCommand) (c : Command) (reply : Reply) → Some c ≡ command_asked s command → IsAsked command → IsOfScript s
-    → IsCommand s c reply t → list_any (λ (p : m.Port). p.grows) t.fixed.ports ≡ false
-still_then s t (Join id asked) c reply asks said of done =
-    joins_keep s id None reply t of.still (subst (λ k. IsCommand s k reply t) (same_Some c (Join id None) asks) done)
-still_then s t (Port (ports.Client node id o)) c reply asks said of done =
-    port_commands_keep s node (Create roles.Client id (options_given o)) reply t (plain_is_still s.fixed.limits roles.Client o of.limits said) of.still
+-- no port that a line makes has the mark
+abbrev MakesUnmarked : (m.Port → Bool) → State → Type 0
+MakesUnmarked mark s =
+    (node : ℕ) (role : Role) (o : Options) → IsPlain o → (own : UniqueSystemId) → mark (new_port s.fixed node role own (options_given o)) ≡ false
+
+-- so none has it, as long as none had it
+none_then : (mark : m.Port → Bool) → IsLasting mark → (s t : State) (command : ServiceCommand) (c : Command) (reply : Reply)
+    → Some c ≡ command_asked s command → IsAsked command → MakesUnmarked mark s → list_any mark s.fixed.ports ≡ false
+    → IsCommand s c reply t → list_any mark t.fixed.ports ≡ false
+none_then mark lasts s t (Join id asked) c reply asks said makes none done =
+    joins_keep mark s id None reply t none (subst (λ k. IsCommand s k reply t) (same_Some c (Join id None) asks) done)
+none_then mark lasts s t (Port (ports.Client node id o)) c reply asks said makes none done =
+    port_commands_keep mark lasts s node (Create roles.Client id (options_given o)) reply t (makes node roles.Client o said) none
     (subst (λ k. IsCommand s k reply t) (same_Some c (Port (ports.Client node id (options_given o))) asks) done)
-still_then s t (Port (ports.Server node id o)) c reply asks said of done =
-    port_commands_keep s node (Create roles.Server id (options_given o)) reply t (plain_is_still s.fixed.limits roles.Server o of.limits said) of.still
+none_then mark lasts s t (Port (ports.Server node id o)) c reply asks said makes none done =
+    port_commands_keep mark lasts s node (Create roles.Server id (options_given o)) reply t (makes node roles.Server o said) none
     (subst (λ k. IsCommand s k reply t) (same_Some c (Port (ports.Server node id (options_given o))) asks) done)
-still_then s t (Port (ports.SendCopy node n words)) c reply asks said of done =
-    port_commands_keep s node (Use (calls.SendCopy n (payload_given s node n words))) reply t tt of.still
+none_then mark lasts s t (Port (ports.SendCopy node n words)) c reply asks said makes none done =
+    port_commands_keep mark lasts s node (Use (calls.SendCopy n (payload_given s node n words))) reply t tt none
     (subst (λ k. IsCommand s k reply t) (same_Some c (Port (ports.SendCopy node n (payload_given s node n words))) asks) done)
-still_then s t (Port (ports.Receive node n)) c reply asks said of done =
-    port_commands_keep s node (Use (calls.Receive n)) reply t tt of.still
+none_then mark lasts s t (Port (ports.Receive node n)) c reply asks said makes none done =
+    port_commands_keep mark lasts s node (Use (calls.Receive n)) reply t tt none
     (subst (λ k. IsCommand s k reply t) (same_Some c (Port (ports.Receive node n)) asks) done)
-still_then s t (Port (ports.Read node n)) c reply asks said of done =
-    port_commands_keep s node (Use (calls.Read n)) reply t tt of.still
+none_then mark lasts s t (Port (ports.Read node n)) c reply asks said makes none done =
+    port_commands_keep mark lasts s node (Use (calls.Read n)) reply t tt none
     (subst (λ k. IsCommand s k reply t) (same_Some c (Port (ports.Read node n)) asks) done)
-still_then s t command c reply asks said of done = absurd (none-some c (sym asks))
+none_then mark lasts s t command c reply asks said makes none done = absurd (none-some c (sym asks))
+
+-- a service of a script stays one
+stays_of_script : (s t : State) (command : ServiceCommand) (c : Command) (reply : Reply) → Some c ≡ command_asked s command → IsAsked command
+    → IsOfScript s → IsCommand s c reply t → IsOfScript t
+stays_of_script s t command c reply asks said of done = record {
+  limits = limited_then s c reply t of.limits done;
+  still =
+      none_then (λ (p : m.Port). p.grows) (λ p. refl) s t command c reply asks said
+      (λ node role o plain own. ap not (plain_is_still s.fixed.limits role o of.limits plain)) of.still done;
+  unhandled =
+      none_then (λ (p : m.Port). is_some p.handler) (λ p. refl) s t command c reply asks said (λ node role o plain own. refl) of.unhandled done;
+}
 
 -- what is answered
 pub served_so : (s : State) (command : ServiceCommand) (c : Command) (reply : Reply) (answer : ServiceReply) (s' : State)
@@ -86,14 +107,10 @@ served_so s command c reply answer s' asks told done =
 
 -- ---- where memory is missing
 
-or_false : (a b : Bool) → (a || b) ≡ false → (a ≡ false) × (b ≡ false)
-or_false true b e = absurd (true≢false e)
-or_false false b e = (refl, e)
-
 still_port : (ps : List m.Port) (n : ℕ) (p : m.Port) → find (λ q. q.number == n) ps ≡ Some p → list_any (λ (q : m.Port). q.grows) ps ≡ false → p.grows ≡ false
 still_port [] n p at still = absurd (none-some p at)
 still_port (q ∷ qs) n p at still =
-    step (q.number == n) at (or_false q.grows (list_any (λ (r : m.Port). r.grows) qs) still) (λ e rest. still_port qs n p e rest)
+    step (q.number == n) at (neither q.grows (list_any (λ (r : m.Port). r.grows) qs) still) (λ e rest. still_port qs n p e rest)
   where
     step : (b : Bool) → (if b then Some q else find (λ r. r.number == n) qs) ≡ Some p → (q.grows ≡ false) × (list_any (λ (r : m.Port). r.grows) qs ≡ false)
         → (find (λ r. r.number == n) qs ≡ Some p → list_any (λ (r : m.Port). r.grows) qs ≡ false → p.grows ≡ false) → p.grows ≡ false
@@ -180,20 +197,35 @@ server_large k node id o b requests responses is asked large =
 -- ---- the whole call
 
 -- what is told of a service that is asked
-pub told_served : {Z E : Type 0} (v v' : ServiceTables) (command : ServiceCommand) (c : Command) (r : Result (the_reply.Reply (Vec ℕ Z) Infallible) E)
+told_so : {Z E : Type 0} (v v' : ServiceTables) (command : ServiceCommand) (c : Command) (r : Result (the_reply.Reply (Vec ℕ Z) Infallible) E)
     (large : Bool) (told : Result ServiceReply E) → Some c ≡ command_asked (service_of v) command
     → IfOk r (λ reply. IsDoneWithMemory (service_of v) c (nodes.reply_given no_cause reply) (service_of v'))
     → OnErr r (MayLackMemory (service_of v) c) → OnErr r (v' ≡ v) → IsLimited (service_of v).fixed.limits
     → ((requests responses : Bool) → large ≡ makes_large (limits_with requests responses) command) → IsTold r large told
     → IfOk told (λ answer. IsServed (service_of v) command answer (service_of v'))
-told_served v v' command c (Ok reply) large (Ok answer) asks done lacks stays limited is told =
+told_so v v' command c (Ok reply) large (Ok answer) asks done lacks stays limited is told =
     served_so (service_of v) command c (nodes.reply_given no_cause reply) answer (service_of v') asks told done
-told_served v v' command c (Err e) true (Ok answer) asks done lacks stays limited is told =
+told_so v v' command c (Err e) true (Ok answer) asks done lacks stays limited is told =
     subst (λ (a : ServiceReply). IsServed (service_of v) command a (service_of v')) (sym told)
     (subst (λ w. IsServed (service_of v) command (Refused UnableToCreateDataSegment) (service_of w)) (sym stays)
     (large_so (service_of v) command c asks lacks limited is))
-told_served v v' command c (Err e) false (Ok answer) asks done lacks stays limited is told = absurd told
-told_served v v' command c r large (Err e) asks done lacks stays limited is told = tt
+told_so v v' command c (Err e) false (Ok answer) asks done lacks stays limited is told = absurd told
+told_so v v' command c r large (Err e) asks done lacks stays limited is told = tt
+
+-- and so it is where handlers would follow their ports' strategies
+pub told_served : {Z E : Type 0} (v v' : ServiceTables) (command : ServiceCommand) (c : Command) (r : Result (the_reply.Reply (Vec ℕ Z) Infallible) E)
+    (large : Bool) (told : Result ServiceReply E) → Some c ≡ command_asked (service_of v) command
+    → IfOk r (λ reply. IsDoneWithMemory (service_of v) c (nodes.reply_given no_cause reply) (service_of v'))
+    → OnErr r (MayLackMemory (service_of v) c) → OnErr r (v' ≡ v) → IsOfScript (service_of v)
+    → ((requests responses : Bool) → large ≡ makes_large (limits_with requests responses) command) → IsTold r large told
+    → IfOk told (λ answer. IsServed (script_state v) command answer (script_state v'))
+told_served {E = E} v v' command c r large told asks done lacks stays of is tells =
+    step told (told_so v v' command c r large told asks done lacks stays of.limits is tells)
+  where
+    step : (x : Result ServiceReply E) → IfOk x (λ answer. IsServed (service_of v) command answer (service_of v'))
+        → IfOk x (λ answer. IsServed (script_state v) command answer (script_state v'))
+    step (Ok answer) served = served_same follow (service_of v) of.unhandled command answer (service_of v') served
+    step (Err e) served = served
 
 pub told_stays : {Z E : Type 0} (v v' : ServiceTables) (r : Result (the_reply.Reply (Vec ℕ Z) Infallible) E) (large : Bool) (told : Result ServiceReply E)
     → OnErr r (v' ≡ v) → IsTold r large told → OnErr told (v' ≡ v)
@@ -211,22 +243,20 @@ pub of_script_after : {Z E : Type 0} (v v' : ServiceTables) (command : ServiceCo
     → Some c ≡ command_asked (service_of v) command → IsAsked command
     → IfOk r (λ reply. IsDoneWithMemory (service_of v) c (nodes.reply_given no_cause reply) (service_of v')) → OnErr r (v' ≡ v)
     → IsOfScript (service_of v) → IsOfScript (service_of v')
-of_script_after v v' command c (Ok reply) asks said done stays of = record {
-  limits = limited_then (service_of v) c (nodes.reply_given no_cause reply) (service_of v') of.limits done.done;
-  still = still_then (service_of v) (service_of v') command c (nodes.reply_given no_cause reply) asks said of done.done;
-}
+of_script_after v v' command c (Ok reply) asks said done stays of =
+    stays_of_script (service_of v) (service_of v') command c (nodes.reply_given no_cause reply) asks said of done.done
 of_script_after v v' command c (Err e) asks said done stays of = subst (λ w. IsOfScript (service_of w)) (sym stays) of
 
 -- the same, of what a service says of its answer
 pub done_so : {Z E : Type 0} (s s' : State) (c : the_command.Command (Elements ℕ ℕ) (Unit {0}) (Option (the_refusal.Refusal Infallible)))
     (r : Result (the_reply.Reply (Vec ℕ Z) Infallible) E)
-    → IfOk r (λ reply. IsAnsweredWithMemory one_word one_word no_word s c reply s')
-    → IfOk r (λ reply. IsDoneWithMemory s (command_given one_word one_word no_word no_cause c) (nodes.reply_given no_cause reply) s')
+    → IfOk r (λ reply. IsAnsweredWithMemory one_word one_word (shown_by following) s c reply s')
+    → IfOk r (λ reply. IsDoneWithMemory s (command_given one_word one_word (shown_by following) no_cause c) (nodes.reply_given no_cause reply) s')
 done_so s s' c (Ok reply) answered = answered no_cause
 done_so s s' c (Err e) answered = tt
 
 pub lacks_so : {Z E : Type 0} (s : State) (c : the_command.Command (Elements ℕ ℕ) (Unit {0}) (Option (the_refusal.Refusal Infallible)))
     (r : Result (the_reply.Reply (Vec ℕ Z) Infallible) E)
-    → OnErr r (MayFindNoMemory {C = Infallible} one_word one_word no_word s c) → OnErr r (MayLackMemory s (command_given one_word one_word no_word no_cause c))
+    → OnErr r (MayFindNoMemory {C = Infallible} one_word one_word (shown_by following) s c) → OnErr r (MayLackMemory s (command_given one_word one_word (shown_by following) no_cause c))
 lacks_so s c (Ok reply) lacks = tt
 lacks_so s c (Err e) lacks = lacks no_cause

@@ -1,6 +1,7 @@
 //! What a line asks of a service, as the service is asked.
 ghost use Rattle.std.specs.Prelude.{◌≡◌, Bool, Some};
-ghost use Rattle.iox_words.specs.Numbers.{no_word, one_word};
+ghost use Rattle.iox_words.specs.Numbers.{one_word};
+ghost use Rattle.iox_nodes.specs.HandlerWords.{following, shown_by};
 ghost use Rattle.iox_model.specs.declared.command.Command.TheVariants.{Port};
 ghost use Rattle.iox_nodes.specs.Given.{command_given};
 ghost use Rattle.iox_nodes.specs.Shown.{service_of};
@@ -28,7 +29,7 @@ type AtPort = PortCommand<Elements<u64, u64>, ()>;
 
 /// The same options, with no handler.
 fn unhandled(options: PortOptions<Infallible>) -> PortOptions<()>
-    ensures { options_for no_word result ≡ options_given options }
+    ensures { options_for (shown_by following) result ≡ options_given options }
 {
     PortOptions {
         max_slice_len: options.max_slice_len,
@@ -54,8 +55,8 @@ fn elements(service: &Words, node: u64, number: u64, words: Vec<u64>) -> Element
 /// What is asked of a port or a handle.
 fn at_port(service: &Words, command: PortCommand<Payload, Infallible>) -> AtPort
     requires { IsAsked (Port command) }
-    ensures { Some (command_given {C = Infallible} one_word one_word no_word no_cause (Port result))
-        ≡ command_asked (service_of service.now) (Port command) }
+    ensures { Some (command_given {C = Infallible} one_word one_word (shown_by following) no_cause
+        (Port result)) ≡ command_asked (service_of service.now) (Port command) }
 {
     match command {
         PortCommand::Client { node, id, options } => PortCommand::Client {
@@ -86,7 +87,7 @@ fn at_port(service: &Words, command: PortCommand<Payload, Infallible>) -> AtPort
 /// What a line asks of the service.
 pub(crate) fn asked(service: &Words, command: ServiceCommand) -> Asked
     requires { IsAsked command }
-    ensures { Some (command_given one_word one_word no_word no_cause result)
+    ensures { Some (command_given one_word one_word (shown_by following) no_cause result)
         ≡ command_asked (service_of service.now) command }
 {
     match command {

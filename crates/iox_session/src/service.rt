@@ -1,9 +1,9 @@
 //! The service of a session.
 ghost use Rattle.std.specs.Prelude.{◌≡◌, IfOk, None, OnErr};
 ghost use Rattle.iox_nodes.specs.Served.{IsCreated};
-ghost use Rattle.iox_nodes.specs.Shown.{service_of};
 ghost use Rattle.iox_session.specs.Limits.{limits_with};
 ghost use Rattle.iox_session.specs.Sessions.{IsAsked, IsServed, WantsMemory};
+ghost use Rattle.iox_session.specs.Shown.{script_state};
 
 use crate::asking::{Words, asked, makes_large};
 use crate::replies::told;
@@ -59,8 +59,8 @@ impl Service {
         command: ServiceCommand,
     ) -> Result<ServiceReply, AllocError>
         requires asked { IsAsked command }
-        ensures served { IfOk result (λ answer. IsServed (service_of self.old) command answer
-            (service_of self.new)) }
+        ensures served { IfOk result (λ answer. IsServed (script_state self.old) command answer
+            (script_state self.new)) }
         ensures unchanged { OnErr result (self.new ≡ self.old) }
         ensures memory { OnErr result (WantsMemory command) }
     {

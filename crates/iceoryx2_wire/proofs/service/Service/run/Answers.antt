@@ -1,4 +1,5 @@
-use Rattle.std.proofs.Common.{◌≡◌, ◌<◌, ◌≤◌, ◌+◌, ◌-◌, ◌++◌, ◌∷◌, [], length, ap, arith, rules, refl, subst, sym, ◌∙◌}
+use Rattle.iox_service_laws.specs.HandlerWords.{shown_by}
+use Rattle.std.proofs.Common.{◌≡◌, ◌<◌, ◌≤◌, ◌+◌, ◌-◌, ◌∷◌, [], length, ap, arith, rules, refl, subst, sym, ◌∙◌}
 use Rattle.std.specs.Vec.{vec_capacity, vec_len}
 use Rattle.std.specs.Vec.Iter.{into_iter_items}
 use Rattle.iox_service_laws.specs.Served.{IsListingAt}
@@ -12,10 +13,10 @@ pub loop-command-init : goal.loop-command-init
 loop-command-init g c =
     let it = c.into_iter-command-iterator in (
       subst
-          (λ cs. HasRun g.Q.Element.Words.words g.P.Element.Words.words g.H.Words.words c.args.self.now.description (service_of c.args.self.now) c.args.commands.items c.args.replies.now.items
+          (λ cs. HasRun g.Q.Element.Words.words g.P.Element.Words.words (shown_by g.H.Backpressure.action) c.args.self.now.description (service_of c.args.self.now) c.args.commands.items c.args.replies.now.items
           cs c.args.replies.now.items (service_of c.args.self.now))
           (sym it.ensures.into_iter_gives.0)
-          (run_starts g.Q.Element.Words.words g.P.Element.Words.words g.H.Words.words c.args.self.now.description (service_of c.args.self.now) c.args.commands.items c.args.replies.now.items),
+          (run_starts g.Q.Element.Words.words g.P.Element.Words.words (shown_by g.H.Backpressure.action) c.args.self.now.description (service_of c.args.self.now) c.args.commands.items c.args.replies.now.items),
       search rules,
       refl,
       refl,
@@ -27,9 +28,9 @@ returns-in_err-reserve-clause-short g c =
     let at = c.loop-command in
     let steps : into_iter_items at.command-iterator ≡ c.in-Some.command ∷ into_iter_items c.next.new.self = c.in-Some.ensures.steps.0 in
     let few =
-    run_is_short g.Q.Element.Words.words g.P.Element.Words.words g.H.Words.words c.args.self.now.description (service_of c.args.self.now) c.args.commands.items c.args.replies.now.items
+    run_is_short g.Q.Element.Words.words g.P.Element.Words.words (shown_by g.H.Backpressure.action) c.args.self.now.description (service_of c.args.self.now) c.args.commands.items c.args.replies.now.items
     c.in-Some.command (into_iter_items c.next.new.self) at.replies.items (service_of at.self)
-    (subst (λ cs. HasRun g.Q.Element.Words.words g.P.Element.Words.words g.H.Words.words c.args.self.now.description (service_of c.args.self.now) c.args.commands.items c.args.replies.now.items cs at.replies.items (service_of at.self)) steps at.invariant.0) in
+    (subst (λ cs. HasRun g.Q.Element.Words.words g.P.Element.Words.words (shown_by g.H.Backpressure.action) c.args.self.now.description (service_of c.args.self.now) c.args.commands.items c.args.replies.now.items cs at.replies.items (service_of at.self)) steps at.invariant.0) in
     let kept : vec_len c.reserve.new.self ≡ vec_len at.replies = c.reserve.ensures.len in
     let there : vec_len at.replies ≡ length at.replies.items = at.replies.ok.0 in
     let before : vec_len c.args.replies.now ≡ length c.args.replies.now.items = c.args.replies.now.ok.0 in
@@ -42,9 +43,9 @@ returns-in_err-reply-clause-short g c =
     let at = c.loop-command in
     let steps : into_iter_items at.command-iterator ≡ c.in-Some.command ∷ into_iter_items c.next.new.self = c.in-Some.ensures.steps.0 in
     let few =
-    run_is_short g.Q.Element.Words.words g.P.Element.Words.words g.H.Words.words c.args.self.now.description (service_of c.args.self.now) c.args.commands.items c.args.replies.now.items
+    run_is_short g.Q.Element.Words.words g.P.Element.Words.words (shown_by g.H.Backpressure.action) c.args.self.now.description (service_of c.args.self.now) c.args.commands.items c.args.replies.now.items
     c.in-Some.command (into_iter_items c.next.new.self) at.replies.items (service_of at.self)
-    (subst (λ cs. HasRun g.Q.Element.Words.words g.P.Element.Words.words g.H.Words.words c.args.self.now.description (service_of c.args.self.now) c.args.commands.items c.args.replies.now.items cs at.replies.items (service_of at.self)) steps at.invariant.0) in
+    (subst (λ cs. HasRun g.Q.Element.Words.words g.P.Element.Words.words (shown_by g.H.Backpressure.action) c.args.self.now.description (service_of c.args.self.now) c.args.commands.items c.args.replies.now.items cs at.replies.items (service_of at.self)) steps at.invariant.0) in
     let kept : vec_len c.reserve.new.self ≡ vec_len at.replies = c.reserve.ensures.len in
     let there : vec_len at.replies ≡ length at.replies.items = at.replies.ok.0 in
     let before : vec_len c.args.replies.now ≡ length c.args.replies.now.items = c.args.replies.now.ok.0 in
@@ -58,18 +59,18 @@ loop-command-preserved g c =
     let steps : into_iter_items at.command-iterator ≡ c.in-Some.command ∷ into_iter_items c.next.new.self = c.in-Some.ensures.steps.0 in (
       rw c.push_reserved.ensures.items
           (rw c.reserve.ensures.items
-          (run_goes_on g.Q.Element.Words.words g.P.Element.Words.words g.H.Words.words c.args.self.now.description (service_of c.args.self.now) c.args.commands.items c.args.replies.now.items
+          (run_goes_on g.Q.Element.Words.words g.P.Element.Words.words (shown_by g.H.Backpressure.action) c.args.self.now.description (service_of c.args.self.now) c.args.commands.items c.args.replies.now.items
           c.in-Some.command (into_iter_items c.next.new.self) at.replies.items (service_of at.self) (service_of c.serve.new.self) c.in_ok-reply.reply
           (subst
-          (λ cs. HasRun g.Q.Element.Words.words g.P.Element.Words.words g.H.Words.words c.args.self.now.description (service_of c.args.self.now) c.args.commands.items c.args.replies.now.items
+          (λ cs. HasRun g.Q.Element.Words.words g.P.Element.Words.words (shown_by g.H.Backpressure.action) c.args.self.now.description (service_of c.args.self.now) c.args.commands.items c.args.replies.now.items
           cs at.replies.items (service_of at.self))
           steps at.invariant.0)
           (subst
-          (λ d. IsAnswered g.Q.Element.Words.words g.P.Element.Words.words g.H.Words.words d (service_of at.self) c.in-Some.command
+          (λ d. IsAnswered g.Q.Element.Words.words g.P.Element.Words.words (shown_by g.H.Backpressure.action) d (service_of at.self) c.in-Some.command
           c.in_ok-reply.reply (service_of c.serve.new.self))
           at.invariant.2 c.in_ok-reply.ensures.answered) c.in_ok-reply.ensures.want
           (subst
-          (λ d. WantsToGrowFor g.Q.Element.Words.words g.P.Element.Words.words g.H.Words.words d (service_of at.self) c.in-Some.command
+          (λ d. WantsToGrowFor g.Q.Element.Words.words g.P.Element.Words.words (shown_by g.H.Backpressure.action) d (service_of at.self) c.in-Some.command
           c.in_ok-reply.reply)
           at.invariant.2 c.in_ok-reply.ensures.grows))),
       let was = at.invariant.1 in
@@ -90,10 +91,10 @@ returns-clause-whole g c =
     let none = c.in-None.ensures.steps in
     let empty : into_iter_items at.command-iterator ≡ [] = nothing_left _ (sym at.invariant.1 ∙ none.0) in
     let whole =
-    run_is_whole g.Q.Element.Words.words g.P.Element.Words.words g.H.Words.words c.args.self.now.description (service_of c.args.self.now)
+    run_is_whole g.Q.Element.Words.words g.P.Element.Words.words (shown_by g.H.Backpressure.action) c.args.self.now.description (service_of c.args.self.now)
     c.args.commands.items c.args.replies.now.items at.replies.items (service_of at.self)
     (subst
-    (λ cs. HasRun g.Q.Element.Words.words g.P.Element.Words.words g.H.Words.words c.args.self.now.description (service_of c.args.self.now) c.args.commands.items c.args.replies.now.items
+    (λ cs. HasRun g.Q.Element.Words.words g.P.Element.Words.words (shown_by g.H.Backpressure.action) c.args.self.now.description (service_of c.args.self.now) c.args.commands.items c.args.replies.now.items
     cs at.replies.items (service_of at.self))
     empty at.invariant.0) in
     search rules
@@ -116,9 +117,9 @@ returns-in_err-reply-clause-listing g c =
     let there : vec_len at.replies ≡ length at.replies.items = at.replies.ok.0 in
     let before : vec_len c.args.replies.now ≡ length c.args.replies.now.items = c.args.replies.now.ok.0 in
     let next : IsListingAt c.args.commands.items (vec_len c.reserve.new.self - vec_len c.args.replies.now) =
-    run_lists g.Q.Element.Words.words g.P.Element.Words.words g.H.Words.words c.args.self.now.description (service_of c.args.self.now) c.args.commands.items c.args.replies.now.items
+    run_lists g.Q.Element.Words.words g.P.Element.Words.words (shown_by g.H.Backpressure.action) c.args.self.now.description (service_of c.args.self.now) c.args.commands.items c.args.replies.now.items
     c.in-Some.command (into_iter_items c.next.new.self) at.replies.items (service_of at.self) (vec_len c.args.replies.now) (vec_len c.reserve.new.self)
-    (subst (λ cs. HasRun g.Q.Element.Words.words g.P.Element.Words.words g.H.Words.words c.args.self.now.description (service_of c.args.self.now) c.args.commands.items c.args.replies.now.items cs at.replies.items (service_of at.self)) steps at.invariant.0)
+    (subst (λ cs. HasRun g.Q.Element.Words.words g.P.Element.Words.words (shown_by g.H.Backpressure.action) c.args.self.now.description (service_of c.args.self.now) c.args.commands.items c.args.replies.now.items cs at.replies.items (service_of at.self)) steps at.invariant.0)
     before (kept ∙ there) c.in_err-reply.ensures.listing in
     let listed : vec_len c.reserve.new.self < vec_capacity c.reserve.new.self
     → IsListingAt c.args.commands.items (vec_len c.reserve.new.self - vec_len c.args.replies.now) = λ room. next in
@@ -138,7 +139,7 @@ returns-in_err-reply-clause-capacity g c =
 
 pub returns-clause-ran : goal.returns-clause-ran
 returns-clause-ran g c =
-    run_ends g.Q.Element.Words.words g.P.Element.Words.words g.H.Words.words c.args.self.now.description (service_of c.args.self.now)
+    run_ends g.Q.Element.Words.words g.P.Element.Words.words (shown_by g.H.Backpressure.action) c.args.self.now.description (service_of c.args.self.now)
     c.args.commands.items c.args.replies.now.items (into_iter_items c.loop-command.command-iterator) c.loop-command.replies.items
     (service_of c.loop-command.self) c.loop-command.invariant.0
 
@@ -146,13 +147,13 @@ pub returns-in_err-reply-clause-ran : goal.returns-in_err-reply-clause-ran
 returns-in_err-reply-clause-ran g c =
     rw c.reserve.ensures.items
     (rw c.in_err-reply.ensures.unchanged
-    (run_ends g.Q.Element.Words.words g.P.Element.Words.words g.H.Words.words c.args.self.now.description (service_of c.args.self.now)
+    (run_ends g.Q.Element.Words.words g.P.Element.Words.words (shown_by g.H.Backpressure.action) c.args.self.now.description (service_of c.args.self.now)
     c.args.commands.items c.args.replies.now.items (into_iter_items c.loop-command.command-iterator) c.loop-command.replies.items
     (service_of c.loop-command.self) c.loop-command.invariant.0))
 
 pub returns-in_err-reserve-clause-ran : goal.returns-in_err-reserve-clause-ran
 returns-in_err-reserve-clause-ran g c =
     rw c.reserve.ensures.items
-    (run_ends g.Q.Element.Words.words g.P.Element.Words.words g.H.Words.words c.args.self.now.description (service_of c.args.self.now)
+    (run_ends g.Q.Element.Words.words g.P.Element.Words.words (shown_by g.H.Backpressure.action) c.args.self.now.description (service_of c.args.self.now)
     c.args.commands.items c.args.replies.now.items (into_iter_items c.loop-command.command-iterator) c.loop-command.replies.items
     (service_of c.loop-command.self) c.loop-command.invariant.0)

@@ -1,7 +1,7 @@
 use Rattle.std.specs.Prelude.{◌≡◌, None, true}
 use Rattle.std.proofs.Common.{ap, rules, sym, ◌∙◌}
 use Rattle.iox_types.specs.Identifiers.{is_node_id}
-use Rattle.iox_model.specs.Defaults.{follow}
+use Rattle.iox_port_commands.specs.HandlerWords.{action_in}
 use Rattle.iox_model.specs.Runs.{created}
 use Rattle.iox_model.specs.Settings.{Limits, Shape}
 use Rattle.iox_port_commands.specs.Settings.{settings_of}
@@ -30,7 +30,7 @@ returns-in-Ok-first g c =
     let valid : is_node_id c.args.id ≡ true = search rules in
     let plain : c.args.asked ≡ None = search rules in
     creation_done l c.args.id c.args.asked c.in-Ok-first.service valid plain (sym (c.is_too_large.ensures q p) ∙ c.if-is_too_large.false)
-    (c.in-Ok-first.ensures ∙ ap (created l follow) c.in-Ok.ensures.made)
+    (c.in-Ok-first.ensures ∙ ap (created l action_in) c.in-Ok.ensures.made)
 
 pub returns-in-Err : goal.returns-in-Err
 returns-in-Err g c =

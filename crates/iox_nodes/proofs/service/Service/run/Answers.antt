@@ -1,3 +1,4 @@
+use Rattle.iox_port_commands.specs.HandlerWords.{shown_by}
 use Rattle.std.proofs.Common.{◌≡◌, ◌<◌, ◌≤◌, ◌+◌, ◌-◌, ◌∷◌, [], length, ap, arith, rules, subst, sym, ◌∙◌}
 use Rattle.std.specs.Vec.{vec_capacity, vec_len}
 use Rattle.std.specs.Vec.Iter.{into_iter_items}
@@ -10,10 +11,10 @@ pub loop-command-init : goal.loop-command-init
 loop-command-init g c =
     let it = c.into_iter-command-iterator in (
       subst
-          (λ cs. HasRun g.Q.Element.Words.words g.P.Element.Words.words g.H.Words.words (service_of c.args.self.now) c.args.commands.items c.args.replies.now.items
+          (λ cs. HasRun g.Q.Element.Words.words g.P.Element.Words.words (shown_by g.H.Backpressure.action) (service_of c.args.self.now) c.args.commands.items c.args.replies.now.items
           cs c.args.replies.now.items (service_of c.args.self.now))
           (sym it.ensures.into_iter_gives.0)
-          (run_starts g.Q.Element.Words.words g.P.Element.Words.words g.H.Words.words (service_of c.args.self.now) c.args.commands.items c.args.replies.now.items),
+          (run_starts g.Q.Element.Words.words g.P.Element.Words.words (shown_by g.H.Backpressure.action) (service_of c.args.self.now) c.args.commands.items c.args.replies.now.items),
       search rules,
       omega arith,
     )
@@ -21,14 +22,14 @@ loop-command-init g c =
 pub returns-in_err-reserve-clause-ran : goal.returns-in_err-reserve-clause-ran
 returns-in_err-reserve-clause-ran g c =
     rw c.reserve.ensures.items
-    (run_ends g.Q.Element.Words.words g.P.Element.Words.words g.H.Words.words (service_of c.args.self.now) c.args.commands.items c.args.replies.now.items
+    (run_ends g.Q.Element.Words.words g.P.Element.Words.words (shown_by g.H.Backpressure.action) (service_of c.args.self.now) c.args.commands.items c.args.replies.now.items
     (into_iter_items c.loop-command.command-iterator) c.loop-command.replies.items (service_of c.loop-command.self) c.loop-command.invariant.0)
 
 pub returns-in_err-reply-clause-ran : goal.returns-in_err-reply-clause-ran
 returns-in_err-reply-clause-ran g c =
     rw c.reserve.ensures.items
     (rw c.in_err-reply.ensures.unchanged
-    (run_ends g.Q.Element.Words.words g.P.Element.Words.words g.H.Words.words (service_of c.args.self.now) c.args.commands.items c.args.replies.now.items
+    (run_ends g.Q.Element.Words.words g.P.Element.Words.words (shown_by g.H.Backpressure.action) (service_of c.args.self.now) c.args.commands.items c.args.replies.now.items
     (into_iter_items c.loop-command.command-iterator) c.loop-command.replies.items (service_of c.loop-command.self) c.loop-command.invariant.0))
 
 pub loop-command-preserved : goal.loop-command-preserved
@@ -37,10 +38,10 @@ loop-command-preserved g c =
     let steps : into_iter_items at.command-iterator ≡ c.in-Some.command ∷ into_iter_items c.next.new.self = c.in-Some.ensures.steps.0 in (
       rw c.push_reserved.ensures.items
           (rw c.reserve.ensures.items
-          (run_goes_on g.Q.Element.Words.words g.P.Element.Words.words g.H.Words.words (service_of c.args.self.now) c.args.commands.items c.args.replies.now.items
+          (run_goes_on g.Q.Element.Words.words g.P.Element.Words.words (shown_by g.H.Backpressure.action) (service_of c.args.self.now) c.args.commands.items c.args.replies.now.items
           c.in-Some.command (into_iter_items c.next.new.self) at.replies.items (service_of at.self) (service_of c.serve.new.self) c.in_ok-reply.reply
           (subst
-          (λ cs. HasRun g.Q.Element.Words.words g.P.Element.Words.words g.H.Words.words (service_of c.args.self.now) c.args.commands.items
+          (λ cs. HasRun g.Q.Element.Words.words g.P.Element.Words.words (shown_by g.H.Backpressure.action) (service_of c.args.self.now) c.args.commands.items
           c.args.replies.now.items cs at.replies.items (service_of at.self))
           steps at.invariant.0)
           c.in_ok-reply.ensures.answered c.in_ok-reply.ensures.want c.in_ok-reply.ensures.grows)),
@@ -56,7 +57,7 @@ loop-command-preserved g c =
 
 pub returns-clause-ran : goal.returns-clause-ran
 returns-clause-ran g c =
-    run_ends g.Q.Element.Words.words g.P.Element.Words.words g.H.Words.words (service_of c.args.self.now) c.args.commands.items c.args.replies.now.items
+    run_ends g.Q.Element.Words.words g.P.Element.Words.words (shown_by g.H.Backpressure.action) (service_of c.args.self.now) c.args.commands.items c.args.replies.now.items
     (into_iter_items c.loop-command.command-iterator) c.loop-command.replies.items (service_of c.loop-command.self) c.loop-command.invariant.0
 
 pub returns-clause-whole : goal.returns-clause-whole
@@ -65,10 +66,10 @@ returns-clause-whole g c =
     let none = c.in-None.ensures.steps in
     let empty : into_iter_items at.command-iterator ≡ [] = nothing_left _ (sym at.invariant.1 ∙ none.0) in
     let whole =
-    run_is_whole g.Q.Element.Words.words g.P.Element.Words.words g.H.Words.words (service_of c.args.self.now) c.args.commands.items
+    run_is_whole g.Q.Element.Words.words g.P.Element.Words.words (shown_by g.H.Backpressure.action) (service_of c.args.self.now) c.args.commands.items
     c.args.replies.now.items at.replies.items (service_of at.self)
     (subst
-    (λ cs. HasRun g.Q.Element.Words.words g.P.Element.Words.words g.H.Words.words (service_of c.args.self.now) c.args.commands.items
+    (λ cs. HasRun g.Q.Element.Words.words g.P.Element.Words.words (shown_by g.H.Backpressure.action) (service_of c.args.self.now) c.args.commands.items
     c.args.replies.now.items cs at.replies.items (service_of at.self))
     empty at.invariant.0) in
     search rules
@@ -78,9 +79,9 @@ returns-in_err-reserve-clause-short g c =
     let at = c.loop-command in
     let steps : into_iter_items at.command-iterator ≡ c.in-Some.command ∷ into_iter_items c.next.new.self = c.in-Some.ensures.steps.0 in
     let few =
-    run_is_short g.Q.Element.Words.words g.P.Element.Words.words g.H.Words.words (service_of c.args.self.now) c.args.commands.items c.args.replies.now.items
+    run_is_short g.Q.Element.Words.words g.P.Element.Words.words (shown_by g.H.Backpressure.action) (service_of c.args.self.now) c.args.commands.items c.args.replies.now.items
     c.in-Some.command (into_iter_items c.next.new.self) at.replies.items (service_of at.self)
-    (subst (λ cs. HasRun g.Q.Element.Words.words g.P.Element.Words.words g.H.Words.words (service_of c.args.self.now) c.args.commands.items c.args.replies.now.items cs at.replies.items (service_of at.self)) steps at.invariant.0) in
+    (subst (λ cs. HasRun g.Q.Element.Words.words g.P.Element.Words.words (shown_by g.H.Backpressure.action) (service_of c.args.self.now) c.args.commands.items c.args.replies.now.items cs at.replies.items (service_of at.self)) steps at.invariant.0) in
     let kept : vec_len c.reserve.new.self ≡ vec_len at.replies = c.reserve.ensures.len in
     let there : vec_len at.replies ≡ length at.replies.items = at.replies.ok.0 in
     let before : vec_len c.args.replies.now ≡ length c.args.replies.now.items = c.args.replies.now.ok.0 in
@@ -93,9 +94,9 @@ returns-in_err-reply-clause-short g c =
     let at = c.loop-command in
     let steps : into_iter_items at.command-iterator ≡ c.in-Some.command ∷ into_iter_items c.next.new.self = c.in-Some.ensures.steps.0 in
     let few =
-    run_is_short g.Q.Element.Words.words g.P.Element.Words.words g.H.Words.words (service_of c.args.self.now) c.args.commands.items c.args.replies.now.items
+    run_is_short g.Q.Element.Words.words g.P.Element.Words.words (shown_by g.H.Backpressure.action) (service_of c.args.self.now) c.args.commands.items c.args.replies.now.items
     c.in-Some.command (into_iter_items c.next.new.self) at.replies.items (service_of at.self)
-    (subst (λ cs. HasRun g.Q.Element.Words.words g.P.Element.Words.words g.H.Words.words (service_of c.args.self.now) c.args.commands.items c.args.replies.now.items cs at.replies.items (service_of at.self)) steps at.invariant.0) in
+    (subst (λ cs. HasRun g.Q.Element.Words.words g.P.Element.Words.words (shown_by g.H.Backpressure.action) (service_of c.args.self.now) c.args.commands.items c.args.replies.now.items cs at.replies.items (service_of at.self)) steps at.invariant.0) in
     let kept : vec_len c.reserve.new.self ≡ vec_len at.replies = c.reserve.ensures.len in
     let there : vec_len at.replies ≡ length at.replies.items = at.replies.ok.0 in
     let before : vec_len c.args.replies.now ≡ length c.args.replies.now.items = c.args.replies.now.ok.0 in
@@ -121,9 +122,9 @@ returns-in_err-reply-clause-listing g c =
     let there : vec_len at.replies ≡ length at.replies.items = at.replies.ok.0 in
     let before : vec_len c.args.replies.now ≡ length c.args.replies.now.items = c.args.replies.now.ok.0 in
     let next : IsListingAt c.args.commands.items (vec_len c.reserve.new.self - vec_len c.args.replies.now) =
-    run_lists g.Q.Element.Words.words g.P.Element.Words.words g.H.Words.words (service_of c.args.self.now) c.args.commands.items c.args.replies.now.items
+    run_lists g.Q.Element.Words.words g.P.Element.Words.words (shown_by g.H.Backpressure.action) (service_of c.args.self.now) c.args.commands.items c.args.replies.now.items
     c.in-Some.command (into_iter_items c.next.new.self) at.replies.items (service_of at.self) (vec_len c.args.replies.now) (vec_len c.reserve.new.self)
-    (subst (λ cs. HasRun g.Q.Element.Words.words g.P.Element.Words.words g.H.Words.words (service_of c.args.self.now) c.args.commands.items c.args.replies.now.items cs at.replies.items (service_of at.self)) steps at.invariant.0)
+    (subst (λ cs. HasRun g.Q.Element.Words.words g.P.Element.Words.words (shown_by g.H.Backpressure.action) (service_of c.args.self.now) c.args.commands.items c.args.replies.now.items cs at.replies.items (service_of at.self)) steps at.invariant.0)
     before (kept ∙ there) c.in_err-reply.ensures.listing in
     let listed : vec_len c.reserve.new.self < vec_capacity c.reserve.new.self
     → IsListingAt c.args.commands.items (vec_len c.reserve.new.self - vec_len c.args.replies.now) = λ room. next in

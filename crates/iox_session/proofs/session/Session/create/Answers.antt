@@ -4,10 +4,9 @@ use Rattle.std.specs.declared.convert.Infallible.{Infallible}
 use Rattle.std.proofs.Common.{ap, rules, subst, sym, ◌∙◌, ◌≡◌}
 use Rattle.iox_nodes.specs.Memory.{is_wanting}
 use Rattle.iox_nodes.specs.Served as nodes
-use Rattle.iox_nodes.specs.Shown.{service_of}
 use Rattle.iox_session.specs.Limits.{limits_with}
 use Rattle.iox_session.specs.Sessions.{name_refusal}
-use Rattle.iox_session.specs.Shown.{SessionTables, session_of}
+use Rattle.iox_session.specs.Shown.{SessionTables, script_state, session_of}
 use Rattle.iox_session.proofs.Starting.{service_made, service_refused}
 use Rattle.iox_session.proofs.session.Session.create.Goals as goal
 
@@ -34,7 +33,7 @@ returns-clause-played c =
     } in
     let named : name_refusal c.args.name ≡ None = search rules in
     let none : (session_of v).service ≡ None =
-    subst (λ (w : SessionTables). option_map service_of w.service ≡ None) (sym c.self.view_is) (ap (option_map service_of) c.requires.none) in
+    subst (λ (w : SessionTables). option_map script_state w.service ≡ None) (sym c.self.view_is) (ap (option_map script_state) c.requires.none) in
     rw named
     (rw (← c.self.view_is)
     (service_refused (session_of v) c.args.id c.in-Err.refusal none
