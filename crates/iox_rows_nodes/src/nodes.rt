@@ -6,6 +6,7 @@ mod comparing;
 mod creating;
 mod dying;
 mod growing;
+mod handlers;
 mod joining;
 mod registered;
 mod running;
@@ -13,13 +14,15 @@ mod service;
 mod trying;
 
 use iox_model::reply::{Refusal, Reply};
-use iox_nodes::Service;
+use iox_nodes::{Always, BackpressureAction, Service};
 use iox_store::{Many, One};
+use iox_types::BackpressureStrategy;
 use std::alloc::{AllocError, Global};
 use std::process::Abort;
 
-/// Requests and responses of numbers. A cause of attributes would be a number too.
-type TheService = Service<Many<u64>, (), One<u64>, ()>;
+/// Requests and responses of numbers. A handler has one answer, and a cause of attributes would be a
+/// number.
+type TheService = Service<Many<u64>, (), One<u64>, (), Always>;
 
 type TheReply = Reply<Vec<u64>, u64>;
 
@@ -40,6 +43,9 @@ enum Ask {
     /// A node makes a port.
     Client(u64),
     Server(u64),
+    /// The same, with a handler that answers this, and with this strategy.
+    HandledClient(u64, BackpressureAction, BackpressureStrategy),
+    HandledServer(u64, BackpressureAction, BackpressureStrategy),
     Loan(u64, u64),
     /// The same, of 33 elements.
     LongLoan(u64, u64),

@@ -3,10 +3,13 @@
 ghost use Rattle.std.specs.Prelude.{IfOk};
 ghost use Rattle.iox_port_commands.specs.Applying.{HaveDefaults};
 
+mod answering;
 mod exchanges;
 mod expired;
 mod expired_visits;
 mod growing;
+mod handlers;
+mod handlers_by_receiver;
 mod limits;
 mod names;
 mod numbers;
@@ -14,6 +17,7 @@ mod pools;
 mod runs;
 
 use crate::expected::equal;
+use answering::AnswersAt;
 use iox_control::Settings;
 use iox_model::command::{PortCommand, PortOptions};
 use iox_model::reply::{PortReply, Refusal};
@@ -26,10 +30,10 @@ use std::convert::Infallible;
 use std::process::Abort;
 use std::test::Fail;
 
-type TheHub = Hub<Many<u64>, u32, One<u64>, ()>;
+type TheHub = Hub<Many<u64>, u32, One<u64>, (), AnswersAt>;
 
-/// A command; a handler would be a number.
-type Command = PortCommand<Elements<u64, u64>, u64>;
+/// A command; a handler answers at one receiver.
+type Command = PortCommand<Elements<u64, u64>, AnswersAt>;
 
 /// What is told, without the lists.
 #[derive(Clone, Copy, Debug, PartialEq, Eq)]
@@ -74,7 +78,7 @@ const PART: Part = Part {
     alignment: 8,
 };
 
-const OPTIONS: PortOptions<u64> = PortOptions {
+const OPTIONS: PortOptions<AnswersAt> = PortOptions {
     max_slice_len: 2,
     pool: None,
     strategy: None,
@@ -131,7 +135,7 @@ fn id() -> Option<UniqueNodeId> {
     .ok()
 }
 
-/// What is given as a client is made.
+/// What is given as a port is made.
 #[derive(Clone, Copy)]
 enum Given {
     Nothing,
@@ -141,7 +145,9 @@ enum Given {
     Allocation(AllocationStrategy),
     /// So many messages, which grow.
     GrowingPool(u64),
-    Handler,
+    /// Its handler, and its strategy.
+    Handler(AnswersAt, BackpressureStrategy),
+    Strategy(BackpressureStrategy),
 }
 
 /// What a node asks.
@@ -149,6 +155,7 @@ enum Given {
 enum Asked {
     Client(Given),
     Server,
+    ServerWith(Given),
     /// Of the client or the active request of this number, so many elements.
     Loan(u64, u64),
     /// To a loan, so many numbers from one on.
@@ -172,7 +179,7 @@ enum Asked {
 type Row = (u64, Asked, Told);
 
 /// The options where this is given.
-fn options(given: Given) -> PortOptions<u64> {
+fn options(given: Given) -> PortOptions<AnswersAt> {
     match given {
         Given::Nothing => OPTIONS,
         Given::Longest(max_slice_len) => PortOptions {
@@ -192,8 +199,13 @@ fn options(given: Given) -> PortOptions<u64> {
             allocation: Some(AllocationStrategy::BestFit),
             ..OPTIONS
         },
-        Given::Handler => PortOptions {
-            handler: Some(1),
+        Given::Handler(handler, strategy) => PortOptions {
+            handler: Some(handler),
+            strategy: Some(strategy),
+            ..OPTIONS
+        },
+        Given::Strategy(strategy) => PortOptions {
+            strategy: Some(strategy),
             ..OPTIONS
         },
     }
@@ -223,6 +235,11 @@ fn command_of(alloc: Global, node: u64, asked: Asked) -> Result<Option<Command>,
             node,
             id,
             options: OPTIONS,
+        },
+        Asked::ServerWith(given) => PortCommand::Server {
+            node,
+            id,
+            options: options(given),
         },
         Asked::Write(number, first, count) => PortCommand::Write {
             node,

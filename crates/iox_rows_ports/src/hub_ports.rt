@@ -5,6 +5,7 @@ use crate::expected::{equal, holds};
 use iox_hub_ports::info::PortInfo;
 use iox_hub_ports::port::Port;
 use iox_hub_ports::ports::Ports;
+use iox_lanes::expired::Expired;
 use iox_lanes::incoming::{Incoming, Visits};
 use iox_lanes::pipe::Pipe;
 use iox_lanes::wanted::{Label, Labels, Wanted};
@@ -62,7 +63,7 @@ fn a_port(
         held: true,
         loans: 0,
     };
-    let expired = Incoming::new(alloc, kept)?;
+    let expired = Expired::new(alloc, kept)?;
     Ok(Port::new(info, expired, Incoming::new(alloc, pipes)?))
 }
 

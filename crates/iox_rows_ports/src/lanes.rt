@@ -1,3 +1,4 @@
 //! What no clause says, and each function once.
+mod expired;
 mod lanes;
 mod visits;

@@ -2,6 +2,8 @@
 #![tactic(auto)]
 
 #[cfg(test)]
+mod always;
+#[cfg(test)]
 mod copies;
 #[cfg(test)]
 mod defaults;
@@ -17,6 +19,8 @@ mod expired;
 mod fillings;
 #[cfg(test)]
 mod growing;
+#[cfg(test)]
+mod handlers;
 #[cfg(test)]
 mod long_requests;
 #[cfg(test)]

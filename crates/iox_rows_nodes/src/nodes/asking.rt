@@ -3,16 +3,17 @@ use super::service::id;
 use super::{Ask, TheReply, TheService};
 use iox_model::command::{self, PortCommand, PortOptions};
 use iox_model::reply::{Refusal, Reply};
-use iox_nodes::Elements;
+use iox_nodes::{Always, BackpressureAction, Elements};
+use iox_types::BackpressureStrategy;
 use iox_types::identifiers::UniqueNodeId;
 use std::alloc::{AllocError, Global};
 
-/// A command; a handler would be a number.
-pub(super) type Command = command::Command<Elements<u64, u64>, u64, Option<Refusal<u64>>>;
+/// A command; a handler has one answer.
+pub(super) type Command = command::Command<Elements<u64, u64>, Always, Option<Refusal<u64>>>;
 
-type AtPort = PortCommand<Elements<u64, u64>, u64>;
+type AtPort = PortCommand<Elements<u64, u64>, Always>;
 
-const OPTIONS: PortOptions<u64> = PortOptions {
+const OPTIONS: PortOptions<Always> = PortOptions {
     max_slice_len: 1,
     pool: None,
     strategy: None,
@@ -21,10 +22,18 @@ const OPTIONS: PortOptions<u64> = PortOptions {
     handler: None,
 };
 
+/// The options of a port with a handler that answers this, and with this strategy.
+fn handled(action: BackpressureAction, strategy: BackpressureStrategy) -> PortOptions<Always> {
+    PortOptions {
+        handler: Some(Always { action }),
+        strategy: Some(strategy),
+        ..OPTIONS
+    }
+}
+
 /// A node makes a port. The command gives another id, since the service gives the node's own.
-fn made(node: u64, client: bool) -> Option<AtPort> {
+fn made(node: u64, client: bool, options: PortOptions<Always>) -> Option<AtPort> {
     let id = UniqueNodeId::new(id(99)).ok()?;
-    let options = OPTIONS;
     if client {
         return Some(PortCommand::Client { node, id, options });
     }
@@ -56,8 +65,14 @@ fn carried(alloc: Global, ask: Ask) -> Result<Option<AtPort>, AllocError> {
 /// A port is made, or what carries no number is asked of a port or a handle.
 fn at_port(ask: Ask) -> Option<AtPort> {
     Some(match ask {
-        Ask::Client(node) => return made(node, true),
-        Ask::Server(node) => return made(node, false),
+        Ask::Client(node) => return made(node, true, OPTIONS),
+        Ask::Server(node) => return made(node, false, OPTIONS),
+        Ask::HandledClient(node, action, strategy) => {
+            return made(node, true, handled(action, strategy));
+        }
+        Ask::HandledServer(node, action, strategy) => {
+            return made(node, false, handled(action, strategy));
+        }
         Ask::Loan(node, number) => PortCommand::Loan {
             node,
             number,

@@ -9,8 +9,8 @@ use std::alloc::{AllocError, Global};
 use std::process::Abort;
 use std::test::Fail;
 
-/// Node 0 makes a client, with these as its greatest length and its handler.
-fn client(max_slice_len: u64, handler: Option<u64>) -> Result<Command, AllocError> {
+/// Node 0 makes a client, with this as its greatest length.
+fn client(max_slice_len: u64) -> Result<Command, AllocError> {
     let Ok(id) = UniqueNodeId::new(id(1)) else {
         return Err(AllocError);
     };
@@ -20,7 +20,7 @@ fn client(max_slice_len: u64, handler: Option<u64>) -> Result<Command, AllocErro
         strategy: None,
         allocation: None,
         loaned_responses: None,
-        handler,
+        handler: None,
     };
     Ok(Command::Port(PortCommand::Client {
         node: 0,
@@ -58,17 +58,14 @@ fn lacks(
 fn what_finds_no_memory_changes_nothing(rt: HostRuntime) -> Result<(), Fail> {
     let alloc = rt.alloc();
     let mut service = first(alloc, 20)?;
-    for (longest, handler) in [(u64::MAX, None), (1, Some(3))] {
-        let tried = client(longest, handler)?;
-        let served = client(longest, handler)?;
-        let refusal = Refusal::UnableToCreateDataSegment;
-        lacks(&rt, alloc, &mut service, tried, served, refusal)?;
-    }
+    let (tried, served) = (client(u64::MAX)?, client(u64::MAX)?);
+    let refusal = Refusal::UnableToCreateDataSegment;
+    lacks(&rt, alloc, &mut service, tried, served, refusal)?;
     let refusal = Refusal::WantOfMemory;
     lacks(&rt, alloc, &mut service, join(), join(), refusal)?;
     let nodes = service.list_nodes(alloc)?;
     assert_eq!(rt; nodes.as_slice(), [0].as_slice());
-    let reply = service.try_serve(alloc, client(1, None)?)?;
+    let reply = service.try_serve(alloc, client(1)?)?;
     assert_eq!(rt; lent(&reply), Told::Client(0));
     Ok(())
 }

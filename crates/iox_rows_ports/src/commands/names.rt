@@ -56,14 +56,13 @@ fn a_length_that_does_not_fit_is_refused(rt: HostRuntime) -> Result<(), Fail> {
 }
 
 #[test]
-fn a_port_that_is_too_large_or_has_a_handler_is_refused(rt: HostRuntime) -> Result<(), Fail> {
+fn a_port_that_is_too_large_is_refused(rt: HostRuntime) -> Result<(), Fail> {
     let refused = Told::Refused(Refusal::UnableToCreateDataSegment);
     plays(
         &rt,
         rt.alloc(),
         &[
             (0, Asked::Client(Given::Longest(1 << 60)), refused),
-            (0, Asked::Client(Given::Handler), refused),
             (0, Asked::Client(Given::Nothing), Told::Client(0)),
         ],
     )

@@ -3,6 +3,7 @@
 ghost use Rattle.std.specs.Prelude.{IfOk};
 ghost use Rattle.iox_port_commands.specs.Applying.{HaveDefaults};
 
+use super::answering::AnswersAt;
 use super::{Asked, Row, Told, command_of, without_list};
 use crate::expected::equal;
 use iox_control::Settings;
@@ -14,7 +15,7 @@ use std::process::Abort;
 use std::test::Fail;
 
 /// Messages are any number of numbers, with no user header.
-type Numbers = Hub<Many<u64>, (), Many<u64>, ()>;
+type Numbers = Hub<Many<u64>, (), Many<u64>, (), AnswersAt>;
 
 /// The settings where nobody sets others.
 pub const FIRST: Settings = Settings {

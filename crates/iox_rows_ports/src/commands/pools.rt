@@ -49,7 +49,6 @@ fn want_of_memory_is_told_before_too_many_ports(rt: HostRuntime) -> Result<(), F
             (0, Asked::Client(Given::Nothing), Told::Client(1)),
             (0, Asked::Client(Given::Nothing), Told::Client(2)),
             (0, Asked::Client(Given::Longest(1 << 60)), refused),
-            (0, Asked::Client(Given::Handler), refused),
             (
                 0,
                 Asked::Client(Given::Nothing),

@@ -80,7 +80,7 @@ fn make(
     role: Role,
     options: Options,
 ) -> Result<u64, NotMade> {
-    hub.make_port(alloc, node, role, NODE, options)
+    hub.make_port(alloc, node, role, NODE, options, None)
 }
 
 /// A client of node 0.

@@ -53,7 +53,7 @@ fn growing_hub(alloc: Global) -> Result<TheHub, AllocError> {
 
 /// A port of node 0. This promises nothing.
 fn make(hub: &mut TheHub, alloc: Global, role: Role, options: Options) -> Result<u64, NotMade> {
-    hub.make_port(alloc, 0, role, NODE, options)
+    hub.make_port(alloc, 0, role, NODE, options, None)
 }
 
 /// How many messages a port needs. This promises nothing.

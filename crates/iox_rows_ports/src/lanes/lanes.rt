@@ -18,7 +18,6 @@ enum Asked {
     Deliver(u64),
     Take,
     Release(u64),
-    LetGo(u64),
     GetBack,
     PassOver,
     Evict,
@@ -60,7 +59,6 @@ fn ask(rt: &impl Abort, lane: &mut Lane, asked: Asked) -> Told {
             place_told(lane.take())
         }
         Asked::Release(place) => Told::Is(lane.release(place)),
-        Asked::LetGo(place) => Told::Is(lane.let_go(place)),
         Asked::GetBack => place_told(lane.get_back()),
         Asked::PassOver => place_told(lane.pass_over()),
         Asked::Evict => place_told(lane.evict()),
@@ -118,9 +116,10 @@ fn the_oldest_is_pushed_out(rt: HostRuntime) -> Result<(), Fail> {
             (Asked::Evict, Told::Place(5)),
             (Asked::Deliver(7), Told::Is(true)),
             (Asked::Take, Told::Place(6)),
-            (Asked::LetGo(6), Told::Is(true)),
-            (Asked::Taken, Told::Count(0)),
             (Asked::GetBack, Told::NoPlace),
+            (Asked::Release(6), Told::Is(true)),
+            (Asked::Taken, Told::Count(0)),
+            (Asked::GetBack, Told::Place(6)),
         ],
     );
     Ok(())

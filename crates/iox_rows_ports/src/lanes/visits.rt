@@ -1,5 +1,6 @@
 //! Pipes that are visited. A test calls them by helpers that promise nothing.
 use crate::expected::{equal, holds};
+use iox_hub_ports::steps::{Close, Deliver, GetBack, Hint, Open, Release};
 use iox_lanes::incoming::{Incoming, Visits};
 use iox_lanes::pipe::Pipe;
 use iox_lanes::search::LaneVisit;
@@ -11,7 +12,7 @@ use std::test::Fail;
 
 /// The message in a place answers the request of that number, and goes on lane 0.
 #[derive(Drop)]
-struct ByPlace;
+pub(super) struct ByPlace;
 
 impl Labels for ByPlace {
     ghost label_of = { λ l pool place. record { lane = 0; request = place } };
@@ -31,9 +32,14 @@ fn two_pipes(alloc: Global) -> Result<Incoming, AllocError> {
     Ok(incoming)
 }
 
-/// Delivers a message to the pipe of that rank.
-fn deliver(incoming: &mut Incoming, rank: usize, place: u64) -> bool {
-    incoming.deliver(rank, 0, place)
+/// Delivers a message from that sender.
+fn deliver(incoming: &mut Incoming, sender: u64, place: u64) -> bool {
+    incoming.on_lane(sender, 0, &Deliver { place })
+}
+
+/// Whether as many messages wait from that sender as may.
+fn is_full(incoming: &Incoming, sender: u64) -> Option<bool> {
+    Some(incoming.pipe(sender)?.is_full(0))
 }
 
 /// Ends the test if a visit of all senders does not end so.
@@ -44,23 +50,25 @@ fn visits(rt: &impl Abort, incoming: &mut Incoming, wanted: Visits) {
 
 /// Ends the test if the first sender cannot get back this alone.
 fn gets_back(rt: &impl Abort, incoming: &mut Incoming, place: u64) {
-    equal(rt, incoming.lane_to_get(0), Some(0));
-    equal(rt, incoming.get_back(0, 0), Some(place));
-    equal(rt, incoming.lane_to_get(0), None);
+    equal(rt, incoming.lane_to_get(11), Some(0));
+    equal(rt, incoming.on_lane(11, 0, &GetBack), Some(place));
+    equal(rt, incoming.lane_to_get(11), None);
 }
 
 #[test]
 fn all_senders_are_visited_in_their_order(rt: HostRuntime) -> Result<(), Fail> {
     let mut incoming = two_pipes(rt.alloc())?;
     visits(&rt, &mut incoming, Visits::Nothing);
-    for (rank, place) in [(1, 5), (0, 3), (0, 4)] {
-        holds(&rt, deliver(&mut incoming, rank, place));
+    for (sender, place) in [(12, 5), (11, 3), (11, 4)] {
+        holds(&rt, deliver(&mut incoming, sender, place));
     }
-    holds(&rt, incoming.is_full(0, 0));
+    holds(&rt, !deliver(&mut incoming, 13, 6));
+    equal(&rt, is_full(&incoming, 11), Some(true));
+    equal(&rt, is_full(&incoming, 13), None);
     visits(&rt, &mut incoming, Visits::Got(11, 0, 3));
     visits(&rt, &mut incoming, Visits::Got(12, 1, 5));
     visits(&rt, &mut incoming, Visits::AtLimit);
-    holds(&rt, incoming.release(0, 0, 3));
+    holds(&rt, incoming.on_lane(11, 0, &Release { place: 3 }));
     visits(&rt, &mut incoming, Visits::Got(11, 0, 4));
     gets_back(&rt, &mut incoming, 3);
     holds(&rt, !incoming.has_waiting_from_any(0));
@@ -96,29 +104,34 @@ fn only_what_is_wanted_is_taken(rt: HostRuntime) -> Result<(), Fail> {
     Ok(())
 }
 
+/// The request state of the pipe from that sender.
+fn state(incoming: &Incoming, sender: u64) -> Option<RequestState> {
+    Some(incoming.pipe(sender)?.state(0))
+}
+
 /// Ends the test if the request of that lane of the second sender is not so.
-fn is_so(rt: &impl Abort, incoming: &Incoming, state: RequestState) {
-    equal(rt, incoming.state(1, 0), state);
+fn is_so(rt: &impl Abort, incoming: &Incoming, wanted: RequestState) {
+    equal(rt, state(incoming, 12), Some(wanted));
 }
 
 #[test]
 fn request_states_open_and_close(rt: HostRuntime) -> Result<(), Fail> {
     let mut incoming = two_pipes(rt.alloc())?;
-    incoming.open_request(1, 0, 9);
-    incoming.close_request(1, 0, 8);
+    incoming.on_state(12, 0, &Open { id: 9 });
+    incoming.on_state(12, 0, &Close { id: 8 });
     let open = RequestState::Named {
         id: 9,
         hinted: false,
     };
     is_so(&rt, &incoming, open);
-    incoming.hint_request(1, 0, 9);
+    incoming.on_state(12, 0, &Hint { id: 9 });
     let hinted = RequestState::Named {
         id: 9,
         hinted: true,
     };
     is_so(&rt, &incoming, hinted);
-    equal(&rt, incoming.state(0, 0), RequestState::Closed);
-    incoming.close_request(1, 0, 9);
+    equal(&rt, state(&incoming, 11), Some(RequestState::Closed));
+    incoming.on_state(12, 0, &Close { id: 9 });
     is_so(&rt, &incoming, RequestState::Closed);
     Ok(())
 }
@@ -139,40 +152,6 @@ fn ports_come_and_go(rt: HostRuntime) -> Result<(), Fail> {
     equal(&rt, incoming.rank(12), Some(1));
     equal(&rt, disconnect(&mut incoming, 0), Some(11));
     equal(&rt, (incoming.rank(12), incoming.rank(11)), (Some(0), None));
-    equal(&rt, incoming.sender(0), Some(12));
     equal(&rt, disconnect(&mut incoming, 1), None);
-    Ok(())
-}
-
-/// From whom the pipe came that is given up, as one more from that sender is kept.
-fn keep(alloc: Global, incoming: &mut Incoming, sender: u64) -> Result<Option<u64>, AllocError> {
-    match incoming.keep(Pipe::new(alloc, sender, 2, 1, 1, 1, 0)?) {
-        Some(pipe) => Ok(Some(pipe.sender())),
-        None => Ok(None),
-    }
-}
-
-/// From whom the last pipe came.
-fn take(incoming: &mut Incoming) -> Option<u64> {
-    Some(incoming.take_pipe()?.sender())
-}
-
-#[test]
-fn the_oldest_is_given_up_for_one_more(rt: HostRuntime) -> Result<(), Fail> {
-    let mut incoming = Incoming::new(rt.alloc(), 2)?;
-    equal(&rt, keep(rt.alloc(), &mut incoming, 11)?, None);
-    equal(&rt, keep(rt.alloc(), &mut incoming, 12)?, None);
-    equal(&rt, keep(rt.alloc(), &mut incoming, 13)?, Some(11));
-    equal(&rt, take(&mut incoming), Some(13));
-    equal(&rt, take(&mut incoming), Some(12));
-    equal(&rt, take(&mut incoming), None);
-    Ok(())
-}
-
-#[test]
-fn where_there_is_room_for_none_what_comes_is_given_up(rt: HostRuntime) -> Result<(), Fail> {
-    let mut incoming = Incoming::new(rt.alloc(), 0)?;
-    equal(&rt, keep(rt.alloc(), &mut incoming, 11)?, Some(11));
-    equal(&rt, take(&mut incoming), None);
     Ok(())
 }

@@ -4,12 +4,12 @@ use super::{Ask, TheRefusal, TheReply, TheService};
 use iceoryx2_wire::{Command, Elements, Opener, PortCommand, PortOptions, Reply, UniqueNodeId};
 use std::alloc::{AllocError, Global};
 
-/// A command; a handler would be a number.
-type TheCommand<'a> = Command<Elements<u64, u64>, u64, &'a Opener>;
+/// A command; ports have no handlers.
+type TheCommand<'a> = Command<Elements<u64, u64>, (), &'a Opener>;
 
-type AtPort = PortCommand<Elements<u64, u64>, u64>;
+type AtPort = PortCommand<Elements<u64, u64>, ()>;
 
-const OPTIONS: PortOptions<u64> = PortOptions {
+const OPTIONS: PortOptions<()> = PortOptions {
     max_slice_len: 1,
     pool: None,
     strategy: None,

@@ -6,7 +6,7 @@ use iceoryx2_wire::{Command, Elements, Opener, Reply};
 use std::alloc::{AllocError, Global};
 use std::test::Fail;
 
-type TheCommand<'a> = Command<Elements<u64, u64>, u64, &'a Opener>;
+type TheCommand<'a> = Command<Elements<u64, u64>, (), &'a Opener>;
 
 /// A node opens the service, and all are listed.
 fn opening(alloc: Global, opener: &Opener) -> Result<Vec<TheCommand<'_>>, AllocError> {

@@ -57,7 +57,7 @@ pub(super) fn description() -> Result<ServiceDescription, Fail> {
 }
 
 /// What a message holds at first.
-const DEFAULTS: Defaults<u64, ()> = Defaults {
+pub(super) const DEFAULTS: Defaults<u64, ()> = Defaults {
     element: 7,
     user_header: (),
 };
