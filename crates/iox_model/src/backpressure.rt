@@ -3,7 +3,10 @@
 /// What a handler answers for a full receiver.
 #[derive(Clone, Copy, Debug, PartialEq, Eq)]
 pub enum BackpressureAction {
+    /// The sender's strategy decides.
     FollowBackpressureStrategy,
+    /// The receiver is passed over, and the send goes on.
     DiscardData,
+    /// The send is refused.
     DiscardDataAndFail,
 }
