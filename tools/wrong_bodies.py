@@ -1,7 +1,7 @@
 #!/usr/bin/env python3
 """Tries wrong bodies on the crates of this repository, many in one check.
 
-usage: wrong_bodies.py [--must-fail | --dir FOLDER] [--jobs N] [--minutes N] [--turn TEXT] [--single] [CRATE ..]
+usage: wrong_bodies.py [--must-fail | --dir FOLDER] [--jobs N] [--minutes N] [--turn TEXT] [--after-ci] [--single] [CRATE ..]
        wrong_bodies.py --self-test
 
 Run it at the top of the checkout. For each crate that is named, or else for each that has any, it takes the edits
@@ -24,6 +24,8 @@ is 0 if all passed, 1 if not, and 2 if nothing could be tried.
 --minutes N starts no further check after so many minutes, and ends what runs 8 minutes later. The first check of each crate comes
 before all others. The last line then ends in ', K skipped'.
 --turn TEXT tries the crates in an order that changes with the text, so that others come late where time runs short.
+--after-ci says that rt ci has just ended here, and that what out/ has without a stamp is of that run. No library is proved then:
+what stands on one that rt ci has not proved is not judged.
 --single tries each edit singly, to compare.
 
 How it works. Callers see a function by its contract alone, so an edit of one body leaves the goals of all other functions as
@@ -77,6 +79,7 @@ def main():
     words.add_argument("--jobs", type=int, default=0)
     words.add_argument("--minutes", type=float, default=float("inf"))
     words.add_argument("--turn", default="")
+    words.add_argument("--after-ci", action="store_true")
     words.add_argument("--single", action="store_true")
     words.add_argument("--self-test", action="store_true")
     words.add_argument("crates", nargs="*")
@@ -85,7 +88,8 @@ def main():
     try:
         if given.self_test:
             return self_test(kit)
-        return try_checkout(kit, os.getcwd(), given.crates, given.dir, given.jobs, given.single, given.minutes, given.turn)
+        how = (given.dir, given.jobs, given.single, given.minutes, given.turn, given.after_ci)
+        return try_checkout(kit, os.getcwd(), given.crates, *how)
     finally:
         shutil.rmtree(tempfile.tempdir, ignore_errors=True)
 

@@ -41,8 +41,8 @@ def times(folder, parts):
 class Checkout:
     """A copy of the checkout in which all is tried, so that nothing is written in the checkout itself."""
 
-    def __init__(self, kit, root, folder, slots, chance):
-        self.kit, self.root, self.folder, self.slots, self.chance = kit, root, folder, slots, chance
+    def __init__(self, kit, root, folder, slots, chance, is_after_ci=False):
+        self.kit, self.root, self.folder, self.slots, self.chance, self.is_after_ci = kit, root, folder, slots, chance, is_after_ci
         self.printing, self.ended = threading.Lock(), set()
         if not os.path.isfile(f"{root}/crates.txt") or not os.path.isdir(f"{root}/crates"):
             stop("run it at the top of a repository, where crates.txt and crates/ stand")
@@ -70,23 +70,26 @@ class Checkout:
             any(map(os.close, held))
 
     def made_by_ci(self):
-        """Returns the crates that out/ holds as rt ci makes libraries: with no stamp, and each newer than its text and the libraries below."""
+        """Returns the crates that out/ holds as rt ci makes libraries: with no stamp, and each newer than its text and the libraries
+        below. Where rt ci is told to have just ended here, no time is compared: a library that it kept of an earlier run is older."""
         newest = {}
         for it in sorted(self.crates.values(), key=lambda it: len(it.below())):
             at = f"{self.root}/crates/{it.name}"
             made = times(at, ["out/rlib"])
             texts = [os.lstat(f"{self.root}/crates.txt").st_mtime, *times(at, ["src", "specs", "proofs"])]
             below = [newest.get(dep.name) for dep in it.below()]
-            if made and all(below) and not os.path.exists(f"{at}/out/rlib/stamp") and min(made) >= max(texts + below):
+            is_of_ci = made and all(below) and not os.path.exists(f"{at}/out/rlib/stamp")
+            if is_of_ci and (self.is_after_ci or min(made) >= max(texts + below)):
                 newest[it.name] = max(made)
         return {*newest}
 
     def make_libraries(self, libraries):
         """Finds or builds the libraries. Returns, by name, why one is not there."""
-        if all(it.name in self.of_ci for it in libraries):
+        lacking = [it.name for it in libraries if it.name not in self.of_ci]
+        if self.is_after_ci or not lacking:
             for it in libraries:
                 self.link(it, "rlib")
-            return {}
+            return {name: f"rt ci has not proved its library {name}" for name in lacking}
         self.of_ci = set()
         made = {}
         with ThreadPoolExecutor(len(libraries) or 1) as pool:
@@ -104,10 +107,13 @@ class Checkout:
         tell(f"proving {it.name}, which out/ lacks (rt check in its folder would keep it)")
         self.link(it, "incremental")
         it.out = io.StringIO()
-        with self.slots.taken(10**9, self.kit.rt.need(it)):
-            if it.build_rlib(FLAGS, anew=False):
-                return f"its library {it.name} is not proved: {' / '.join(it.out.getvalue().splitlines()[-3:])[:300]}"
-        return None
+        try:
+            with self.slots.taken(10**9, self.kit.rt.need(it)):
+                status = it.build_rlib(FLAGS, anew=False)
+        except NoTime:
+            return f"no time was left for its library {it.name}"
+        said = " / ".join(it.out.getvalue().splitlines()[-3:])[:300]
+        return f"its library {it.name} is not proved: {said}" if status else None
 
     def weight(self, name, edits):
         """Returns how early the crate comes: those with most to do first or, where a turn is given, in an order that changes with it."""
@@ -175,7 +181,7 @@ class Checkout:
         return os._exit(status) if late else status
 
 
-def try_checkout(kit, root, names, folder, jobs, is_single, minutes=float("inf"), chance=""):
+def try_checkout(kit, root, names, folder, jobs, is_single, minutes=float("inf"), chance="", is_after_ci=False):
     """Tries the edits of a checkout's crates, and returns the status."""
     slots = Slots(jobs or kit.rt.processors(), 0.85 * kit.rt.free(), time.monotonic() + 60 * minutes)
-    return Checkout(kit, root, folder, slots, chance).try_all(names, is_single)
+    return Checkout(kit, root, folder, slots, chance, is_after_ci).try_all(names, is_single)
