@@ -26,6 +26,7 @@ pub mod uses_copied_trip;
 pub mod uses_copying;
 pub mod uses_exchange;
 pub mod uses_filling;
+pub mod uses_handlers;
 pub mod uses_headers;
 pub mod uses_keeping;
 pub mod uses_laws;

@@ -132,8 +132,7 @@ impl<Q: Payload, QH: Words, P: Payload, PH: Words, H: Backpressure> PortFactoryS
         PortFactoryServer { options, ..self }
     }
 
-    /// Lets that handler say what comes of a response for a full client, in place of the strategy. It
-    /// is asked about each full client by itself.
+    /// Lets that handler say what comes of a response for a full client, in place of the strategy.
     pub fn set_backpressure_handler(self, handler: H) -> Self
         ensures { result ≡ record self { handler = Some handler } }
     {

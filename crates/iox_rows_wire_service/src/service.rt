@@ -3,6 +3,7 @@ mod asking;
 mod creating;
 mod ending;
 mod exchanges;
+mod gone;
 mod handlers;
 mod listing;
 mod openers;

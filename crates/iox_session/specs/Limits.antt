@@ -3,12 +3,9 @@ use Rattle.std.specs.Prelude.{Bool}
 use Rattle.iox_model.specs.Settings.{Limits}
 use Rattle.iox_model.specs.Defaults.{defaults}
 
--- the limits where nobody sets others, but for the two overflows; no port keeps messages of ports
--- that are gone
+-- the limits where nobody sets others, but for the two overflows
 abbrev pub limits_with : (request_overflow response_overflow : Bool) → Limits
 limits_with request_overflow response_overflow = record defaults {
-  client_expired = 0;
-  server_expired = 0;
   request_overflow = request_overflow;
   response_overflow = response_overflow;
 }
