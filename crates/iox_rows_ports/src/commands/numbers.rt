@@ -1,5 +1,5 @@
-//! A hub of numbers with the settings of a service where nobody sets others: a client of node 0 has
-//! the number 0, and a server of node 1 the number 1.
+//! A hub of numbers with the first limits: a client of node 0 has the number 0, and a server of node
+//! 1 the number 1.
 ghost use Rattle.std.specs.Prelude.{IfOk};
 ghost use Rattle.iox_port_commands.specs.Applying.{HaveDefaults};
 
@@ -17,7 +17,7 @@ use std::test::Fail;
 /// Messages are any number of numbers, with no user header.
 type Numbers = Hub<Many<u64>, (), Many<u64>, (), AnswersAt>;
 
-/// The settings where nobody sets others.
+/// The first limits. A full receiver is passed over, and nothing is kept of ports that are gone.
 pub const FIRST: Settings = Settings {
     clients: 8,
     servers: 2,
