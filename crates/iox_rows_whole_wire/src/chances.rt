@@ -46,6 +46,8 @@ pub(super) struct Owned {
     pub(super) node: u64,
     pub(super) number: u64,
     pub(super) kind: Kind,
+    /// The word of its message. A game keeps that of the request for a response that is not written.
+    pub(super) word: u64,
 }
 
 /// A call under way.
@@ -54,6 +56,8 @@ pub(super) struct Call {
     pub(super) of: Owned,
     pub(super) ask: Ask,
     pub(super) made: u64,
+    /// The word of the message that it took last.
+    pub(super) came: u64,
 }
 
 /// The ports of a wire of four.
@@ -62,21 +66,25 @@ pub(super) const PORTS: [Owned; 4] = [
         node: 0,
         number: 0,
         kind: Kind::Client,
+        word: 0,
     },
     Owned {
         node: 1,
         number: 1,
         kind: Kind::Server,
+        word: 0,
     },
     Owned {
         node: 2,
         number: 2,
         kind: Kind::Server,
+        word: 0,
     },
     Owned {
         node: 2,
         number: 3,
         kind: Kind::Client,
+        word: 0,
     },
 ];
 

@@ -12,6 +12,10 @@ mod client_stops;
 #[cfg(test)]
 mod counts;
 #[cfg(test)]
+mod deaths;
+#[cfg(test)]
+mod delivered;
+#[cfg(test)]
 mod events;
 #[cfg(test)]
 mod four;

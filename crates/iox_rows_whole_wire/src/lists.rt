@@ -135,7 +135,12 @@ impl Lists {
         };
         let number = *next;
         *next = number.saturating_add(1);
-        let of = Owned { node, number, kind };
+        let of = Owned {
+            node,
+            number,
+            kind,
+            word: message.word,
+        };
         self.held.push(Held { of, message })?;
         Ok(Told::Handle(number))
     }
@@ -154,7 +159,11 @@ impl Lists {
     ) -> Result<(), AllocError> {
         self.drop_handle(of);
         self.held.push(Held {
-            of: Owned { kind, ..of },
+            of: Owned {
+                kind,
+                word: message.word,
+                ..of
+            },
             message,
         })?;
         Ok(())

@@ -1,0 +1,137 @@
+//! Nodes die in the middle of their calls by chance, and the others go on.
+use super::chances::{Kind, Owned, PORTS};
+use super::games::Game;
+use super::play::{Ask, begin};
+use super::settings::{NO_FIRE_AND_FORGET, NO_OVERFLOW, OVERFLOW, Service};
+use iox_wire::WireRefusal;
+use std::alloc::Global;
+use std::process::Abort;
+use std::test::Fail;
+
+/// As many nodes may die, so that one goes on.
+const MOST_DEATHS: usize = 2;
+
+/// A client's requests have so many lanes.
+const LANES: u64 = 6;
+
+/// A node that died, what each port kept then, and how many events came before.
+#[derive(Clone, Copy)]
+pub(super) struct Death {
+    node: u64,
+    kept: [usize; 4],
+    events: usize,
+}
+
+/// How many messages the port has slots for.
+fn pool(port: Owned) -> usize {
+    match port.kind {
+        Kind::Client => 6,
+        _ => 26,
+    }
+}
+
+impl Game {
+    /// The death of that node, if it died.
+    pub(super) fn death_of(&self, node: u64) -> Option<Death> {
+        self.deaths.iter().find(|death| death.node == node).copied()
+    }
+
+    /// Whether the node whose turn it is dies now.
+    pub(super) fn comes_death(&mut self) -> bool {
+        match self.deadly {
+            Some(steps) => self.deaths.len() < MOST_DEATHS && self.chance.below(steps) == 0,
+            None => false,
+        }
+    }
+
+    /// The node dies in its call.
+    pub(super) fn dies(&mut self, rt: &impl Abort, node: u64) -> Result<(), Fail> {
+        self.counts(rt);
+        let wire = &self.wire;
+        let kept = [wire.kept(0), wire.kept(1), wire.kept(2), wire.kept(3)];
+        let events = wire.events().len();
+        self.wire.declare_dead(node)?;
+        self.deaths.push(Death { node, kept, events })?;
+        self.counts(rt);
+        Ok(())
+    }
+
+    /// A dead node does nothing, and its call stays where it was.
+    pub(super) fn stays_dead(&mut self, rt: &impl Abort, death: Death) {
+        let node = death.node;
+        let dead = Some(WireRefusal::NodeIsDead);
+        assert_eq!(rt; self.wire.step(node).err(), dead);
+        assert_eq!(rt; begin(&mut self.wire, node, Ask::Receive(node)).err(), dead);
+        assert_eq!(rt; self.wire.declare_dead(node).err(), dead);
+        assert_eq!(rt; self.wire.died_after(node), Some(death.events));
+        assert!(rt; self.wire.under_way(node).is_some());
+    }
+
+    /// The port keeps what it had as its node died, or what its node at rest has; in a call it keeps
+    /// no more than its pool.
+    fn count_kept(&self, rt: &impl Abort, port: Owned) {
+        let kept = self.wire.kept(port.number);
+        if let Some(death) = self.death_of(port.node) {
+            let had = death.kept.get(port.number as usize).copied();
+            assert_eq!(rt; Some(kept), had);
+            return;
+        }
+        if self.calls.iter().any(|call| call.of.node == port.node) {
+            assert!(rt; kept <= pool(port));
+            return;
+        }
+        assert_eq!(rt; (port.number, kept), (port.number, self.keeps(port)));
+    }
+
+    /// Ends the test where a port keeps another number of messages, or has another number outstanding.
+    pub(super) fn counts(&self, rt: &impl Abort) {
+        for port in PORTS {
+            self.count_kept(rt, port);
+        }
+        self.delivered.are_outstanding(rt, &self.wire, LANES);
+    }
+}
+
+/// Two nodes of a wire of that service die, or fewer, and what is left goes on. Says how many died.
+fn plays(rt: &impl Abort, alloc: Global, service: Service, seed: u64) -> Result<usize, Fail> {
+    let mut game = Game::new(alloc, service, seed)?;
+    game.deadly = Some(200);
+    for _ in 0..700 {
+        game.turn(rt)?;
+    }
+    game.counts(rt);
+    game.deadly = None;
+    let ended = game.ended;
+    for _ in 0..300 {
+        game.turn(rt)?;
+    }
+    game.counts(rt);
+    assert!(rt; game.ended > ended);
+    assert_eq!(rt; game.wire.replies().len(), game.ended);
+    Ok(game.deaths.len())
+}
+
+/// Ends the test where nodes are answered what they may not be, as others die in their calls.
+fn play_all(rt: &impl Abort, alloc: Global, service: Service) -> Result<(), Fail> {
+    let mut deaths: usize = 0;
+    for seed in 1..101 {
+        deaths = deaths.saturating_add(plays(rt, alloc, service, seed)?);
+    }
+    assert!(rt; deaths > 100);
+    Ok(())
+}
+
+#[test]
+fn nothing_overflows(rt: HostRuntime) -> Result<(), Fail> {
+    play_all(&rt, rt.alloc(), NO_OVERFLOW)
+}
+
+#[test]
+fn queues_overflow(rt: HostRuntime) -> Result<(), Fail> {
+    play_all(&rt, rt.alloc(), OVERFLOW)
+}
+
+#[test]
+fn requests_of_no_use_are_dropped(rt: HostRuntime) -> Result<(), Fail> {
+    play_all(&rt, rt.alloc(), NO_FIRE_AND_FORGET)
+}
