@@ -1,7 +1,7 @@
 //! A client stops at each place of a call, and the server goes on.
 use super::play::{Act, Ask, Told};
 use super::settings::NO_OVERFLOW;
-use super::stops::{Stop, stops};
+use super::stops::{On, Stop, stops};
 use std::test::Fail;
 
 /// A request is sent and received.
@@ -44,8 +44,7 @@ const SERVER_GOES_ON: [Act; 3] = [
 #[test]
 fn in_its_loan(rt: HostRuntime) -> Result<(), Fail> {
     let stop = Stop {
-        four: false,
-        service: NO_OVERFLOW,
+        on: On::Ones(NO_OVERFLOW),
         before: &[],
         node: 0,
         ask: Ask::Loan(0),
@@ -58,8 +57,7 @@ fn in_its_loan(rt: HostRuntime) -> Result<(), Fail> {
 #[test]
 fn in_its_copy(rt: HostRuntime) -> Result<(), Fail> {
     let stop = Stop {
-        four: false,
-        service: NO_OVERFLOW,
+        on: On::Ones(NO_OVERFLOW),
         before: &[],
         node: 0,
         ask: Ask::CopyRequest(0, 5),
@@ -72,8 +70,7 @@ fn in_its_copy(rt: HostRuntime) -> Result<(), Fail> {
 #[test]
 fn in_its_send(rt: HostRuntime) -> Result<(), Fail> {
     let stop = Stop {
-        four: false,
-        service: NO_OVERFLOW,
+        on: On::Ones(NO_OVERFLOW),
         before: &[
             Act::Whole(0, Ask::Loan(0), 9, Told::Handle(2)),
             Act::Whole(0, Ask::WriteRequest(2, 5), 1, Told::Done),
@@ -89,8 +86,7 @@ fn in_its_send(rt: HostRuntime) -> Result<(), Fail> {
 #[test]
 fn in_its_write(rt: HostRuntime) -> Result<(), Fail> {
     let stop = Stop {
-        four: false,
-        service: NO_OVERFLOW,
+        on: On::Ones(NO_OVERFLOW),
         before: &[Act::Whole(0, Ask::Loan(0), 9, Told::Handle(2))],
         node: 0,
         ask: Ask::WriteRequest(2, 5),
@@ -103,8 +99,7 @@ fn in_its_write(rt: HostRuntime) -> Result<(), Fail> {
 #[test]
 fn as_it_releases_a_loan(rt: HostRuntime) -> Result<(), Fail> {
     let stop = Stop {
-        four: false,
-        service: NO_OVERFLOW,
+        on: On::Ones(NO_OVERFLOW),
         before: &[Act::Whole(0, Ask::Loan(0), 9, Told::Handle(2))],
         node: 0,
         ask: Ask::Release(2),
@@ -117,8 +112,7 @@ fn as_it_releases_a_loan(rt: HostRuntime) -> Result<(), Fail> {
 #[test]
 fn as_it_gives_its_request_up(rt: HostRuntime) -> Result<(), Fail> {
     let stop = Stop {
-        four: false,
-        service: NO_OVERFLOW,
+        on: On::Ones(NO_OVERFLOW),
         before: &RECEIVED,
         node: 0,
         ask: Ask::Release(2),
@@ -148,8 +142,7 @@ fn as_it_gives_its_request_up(rt: HostRuntime) -> Result<(), Fail> {
 #[test]
 fn as_it_hints(rt: HostRuntime) -> Result<(), Fail> {
     let stop = Stop {
-        four: false,
-        service: NO_OVERFLOW,
+        on: On::Ones(NO_OVERFLOW),
         before: &RECEIVED,
         node: 0,
         ask: Ask::SetHint(2),
@@ -179,8 +172,7 @@ fn as_it_hints(rt: HostRuntime) -> Result<(), Fail> {
 #[test]
 fn as_it_receives(rt: HostRuntime) -> Result<(), Fail> {
     let stop = Stop {
-        four: false,
-        service: NO_OVERFLOW,
+        on: On::Ones(NO_OVERFLOW),
         before: &[
             Act::Whole(0, Ask::CopyRequest(0, 7), 19, Told::Handle(2)),
             Act::Whole(1, Ask::Receive(1), 11, Told::Handle(2)),
@@ -220,8 +212,7 @@ fn as_it_receives(rt: HostRuntime) -> Result<(), Fail> {
 #[test]
 fn as_it_finds_nothing(rt: HostRuntime) -> Result<(), Fail> {
     let stop = Stop {
-        four: false,
-        service: NO_OVERFLOW,
+        on: On::Ones(NO_OVERFLOW),
         before: &RECEIVED,
         node: 0,
         ask: Ask::Receive(2),
@@ -240,8 +231,7 @@ fn as_it_finds_nothing(rt: HostRuntime) -> Result<(), Fail> {
 #[test]
 fn as_it_gives_a_response_back(rt: HostRuntime) -> Result<(), Fail> {
     let stop = Stop {
-        four: false,
-        service: NO_OVERFLOW,
+        on: On::Ones(NO_OVERFLOW),
         before: &[
             Act::Whole(0, Ask::CopyRequest(0, 7), 19, Told::Handle(2)),
             Act::Whole(1, Ask::Receive(1), 11, Told::Handle(2)),
@@ -278,8 +268,7 @@ fn as_it_gives_a_response_back(rt: HostRuntime) -> Result<(), Fail> {
 #[test]
 fn as_it_looks_for_a_response(rt: HostRuntime) -> Result<(), Fail> {
     let stop = Stop {
-        four: false,
-        service: NO_OVERFLOW,
+        on: On::Ones(NO_OVERFLOW),
         before: &RECEIVED,
         node: 0,
         ask: Ask::HasResponse(2),
@@ -292,8 +281,7 @@ fn as_it_looks_for_a_response(rt: HostRuntime) -> Result<(), Fail> {
 #[test]
 fn as_it_asks_who_is_there(rt: HostRuntime) -> Result<(), Fail> {
     let stop = Stop {
-        four: false,
-        service: NO_OVERFLOW,
+        on: On::Ones(NO_OVERFLOW),
         before: &RECEIVED,
         node: 0,
         ask: Ask::IsConnected(2),
@@ -306,8 +294,7 @@ fn as_it_asks_who_is_there(rt: HostRuntime) -> Result<(), Fail> {
 #[test]
 fn as_it_reads(rt: HostRuntime) -> Result<(), Fail> {
     let stop = Stop {
-        four: false,
-        service: NO_OVERFLOW,
+        on: On::Ones(NO_OVERFLOW),
         before: &RECEIVED,
         node: 0,
         ask: Ask::Read(2),

@@ -40,6 +40,14 @@ mod stops;
 #[cfg(test)]
 mod stops_among_three;
 #[cfg(test)]
+mod stops_among_words;
+#[cfg(test)]
+mod stops_of_refused;
+#[cfg(test)]
+mod stops_of_refused_sends;
+#[cfg(test)]
+mod stops_of_releases;
+#[cfg(test)]
 mod stops_on_other_wires;
 #[cfg(test)]
 mod stops_on_returns;

@@ -1,7 +1,7 @@
 //! A server stops at each place of a call, and the client goes on.
 use super::play::{Act, Ask, Told};
 use super::settings::NO_OVERFLOW;
-use super::stops::{Stop, stops};
+use super::stops::{On, Stop, stops};
 use std::test::Fail;
 
 /// A request is sent.
@@ -49,8 +49,7 @@ const RESPONSE_CAME: [Act; 10] = [
 #[test]
 fn as_it_receives(rt: HostRuntime) -> Result<(), Fail> {
     let stop = Stop {
-        four: false,
-        service: NO_OVERFLOW,
+        on: On::Ones(NO_OVERFLOW),
         before: &SENT,
         node: 1,
         ask: Ask::Receive(1),
@@ -104,8 +103,7 @@ fn as_it_receives(rt: HostRuntime) -> Result<(), Fail> {
 #[test]
 fn in_its_loan(rt: HostRuntime) -> Result<(), Fail> {
     let stop = Stop {
-        four: false,
-        service: NO_OVERFLOW,
+        on: On::Ones(NO_OVERFLOW),
         before: &RECEIVED,
         node: 1,
         ask: Ask::Loan(2),
@@ -118,8 +116,7 @@ fn in_its_loan(rt: HostRuntime) -> Result<(), Fail> {
 #[test]
 fn in_its_write(rt: HostRuntime) -> Result<(), Fail> {
     let stop = Stop {
-        four: false,
-        service: NO_OVERFLOW,
+        on: On::Ones(NO_OVERFLOW),
         before: &LENT,
         node: 1,
         ask: Ask::WriteResponse(3, 9),
@@ -132,8 +129,7 @@ fn in_its_write(rt: HostRuntime) -> Result<(), Fail> {
 #[test]
 fn as_it_releases_a_loan(rt: HostRuntime) -> Result<(), Fail> {
     let stop = Stop {
-        four: false,
-        service: NO_OVERFLOW,
+        on: On::Ones(NO_OVERFLOW),
         before: &LENT,
         node: 1,
         ask: Ask::Release(3),
@@ -146,8 +142,7 @@ fn as_it_releases_a_loan(rt: HostRuntime) -> Result<(), Fail> {
 #[test]
 fn in_its_copy(rt: HostRuntime) -> Result<(), Fail> {
     let stop = Stop {
-        four: false,
-        service: NO_OVERFLOW,
+        on: On::Ones(NO_OVERFLOW),
         before: &RECEIVED,
         node: 1,
         ask: Ask::CopyResponse(2, 9),
@@ -160,8 +155,7 @@ fn in_its_copy(rt: HostRuntime) -> Result<(), Fail> {
 #[test]
 fn in_its_send(rt: HostRuntime) -> Result<(), Fail> {
     let stop = Stop {
-        four: false,
-        service: NO_OVERFLOW,
+        on: On::Ones(NO_OVERFLOW),
         before: &[
             Act::Whole(0, Ask::CopyRequest(0, 7), 19, Told::Handle(2)),
             Act::Whole(1, Ask::Receive(1), 11, Told::Handle(2)),
@@ -179,8 +173,7 @@ fn in_its_send(rt: HostRuntime) -> Result<(), Fail> {
 #[test]
 fn as_it_gives_a_request_back(rt: HostRuntime) -> Result<(), Fail> {
     let stop = Stop {
-        four: false,
-        service: NO_OVERFLOW,
+        on: On::Ones(NO_OVERFLOW),
         before: &RECEIVED,
         node: 1,
         ask: Ask::Release(2),
@@ -218,8 +211,7 @@ fn as_it_gives_a_request_back(rt: HostRuntime) -> Result<(), Fail> {
 #[test]
 fn as_it_looks_for_requests(rt: HostRuntime) -> Result<(), Fail> {
     let stop = Stop {
-        four: false,
-        service: NO_OVERFLOW,
+        on: On::Ones(NO_OVERFLOW),
         before: &SENT,
         node: 1,
         ask: Ask::HasRequests(1),
@@ -240,8 +232,7 @@ fn as_it_looks_for_requests(rt: HostRuntime) -> Result<(), Fail> {
 #[test]
 fn as_it_finds_nothing(rt: HostRuntime) -> Result<(), Fail> {
     let stop = Stop {
-        four: false,
-        service: NO_OVERFLOW,
+        on: On::Ones(NO_OVERFLOW),
         before: &[],
         node: 1,
         ask: Ask::Receive(1),
@@ -260,8 +251,7 @@ fn as_it_finds_nothing(rt: HostRuntime) -> Result<(), Fail> {
 #[test]
 fn as_it_asks_who_is_there(rt: HostRuntime) -> Result<(), Fail> {
     let stop = Stop {
-        four: false,
-        service: NO_OVERFLOW,
+        on: On::Ones(NO_OVERFLOW),
         before: &RECEIVED,
         node: 1,
         ask: Ask::IsConnected(2),
@@ -274,8 +264,7 @@ fn as_it_asks_who_is_there(rt: HostRuntime) -> Result<(), Fail> {
 #[test]
 fn as_it_looks_for_a_hint(rt: HostRuntime) -> Result<(), Fail> {
     let stop = Stop {
-        four: false,
-        service: NO_OVERFLOW,
+        on: On::Ones(NO_OVERFLOW),
         before: &RECEIVED,
         node: 1,
         ask: Ask::HasHint(2),
@@ -288,8 +277,7 @@ fn as_it_looks_for_a_hint(rt: HostRuntime) -> Result<(), Fail> {
 #[test]
 fn as_it_reads(rt: HostRuntime) -> Result<(), Fail> {
     let stop = Stop {
-        four: false,
-        service: NO_OVERFLOW,
+        on: On::Ones(NO_OVERFLOW),
         before: &RECEIVED,
         node: 1,
         ask: Ask::Read(2),

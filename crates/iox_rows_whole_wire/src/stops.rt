@@ -1,18 +1,27 @@
 //! A node stops at a place of its call, and the other one goes on.
-use super::four;
 use super::play::{Act, Ask, Came, begin, plays, steps};
 use super::settings::{Service, open};
+use super::{four, wide};
 use iox_wire::{Wire, WireRefusal};
 use std::alloc::Global;
 use std::process::Abort;
 use std::test::Fail;
 
+/// The wire on which a node stops.
+#[derive(Clone, Copy)]
+pub(super) enum On {
+    /// Each limit is 1.
+    Ones(Service),
+    /// It has four ports.
+    Four(Service),
+    /// It has wide messages.
+    Wide,
+}
+
 /// What comes of a stop.
 #[derive(Clone, Copy)]
 pub(super) struct Stop<'a> {
-    /// Whether the wire has four ports.
-    pub(super) four: bool,
-    pub(super) service: Service,
+    pub(super) on: On,
     /// What came before the call.
     pub(super) before: &'a [Act],
     pub(super) node: u64,
@@ -21,6 +30,13 @@ pub(super) struct Stop<'a> {
     pub(super) steps: u64,
     /// What comes after a stop behind so many steps or more. The last one that holds counts.
     pub(super) after: &'a [(u64, &'a [Act])],
+}
+
+/// What others do behind so many steps of a call.
+#[derive(Clone, Copy)]
+pub(super) struct Between<'a> {
+    pub(super) made: u64,
+    pub(super) acts: &'a [Act],
 }
 
 /// What comes after a stop behind so many steps.
@@ -35,24 +51,48 @@ fn after<'a>(stop: Stop<'a>, made: u64) -> &'a [Act] {
 }
 
 /// The wire on which that comes.
-fn opened(alloc: Global, stop: Stop<'_>) -> Result<Wire, Fail> {
-    if stop.four {
-        return four::open_with(alloc, stop.service, 8);
+fn opened(alloc: Global, on: On) -> Result<Wire, Fail> {
+    match on {
+        On::Ones(service) => open(alloc, service),
+        On::Four(service) => four::open_with(alloc, service, 8),
+        On::Wide => Ok(wide::open(alloc, false)??),
     }
-    open(alloc, stop.service)
 }
 
-/// Ends the test where something else comes of a stop behind some number of steps.
-pub(super) fn stops(rt: &impl Abort, alloc: Global, stop: Stop<'_>) -> Result<(), Fail> {
+/// The call is under way behind so many steps, with what comes between, or over behind its last one.
+fn goes(rt: &impl Abort, wire: &mut Wire, stop: Stop<'_>, made: u64, between: Between<'_>) {
+    let mut left = made;
+    if between.made <= made {
+        assert_eq!(rt; steps(wire, stop.node, between.made), Came::UnderWay);
+        plays(rt, wire, between.acts);
+        left = made.saturating_sub(between.made);
+    }
+    let came = steps(wire, stop.node, left);
+    assert_eq!(rt; (made, came == Came::UnderWay), (made, made < stop.steps));
+}
+
+/// Ends the test where something else comes of a stop behind some number of steps, while others do
+/// something behind one of them.
+pub(super) fn stops_around(
+    rt: &impl Abort,
+    alloc: Global,
+    stop: Stop<'_>,
+    between: Between<'_>,
+) -> Result<(), Fail> {
     for made in 0..stop.steps.saturating_add(1) {
-        let mut wire = opened(alloc, stop)?;
+        let mut wire = opened(alloc, stop.on)?;
         plays(rt, &mut wire, stop.before);
         begin(&mut wire, stop.node, stop.ask)?;
-        let came = steps(&mut wire, stop.node, made);
-        assert_eq!(rt; (made, came == Came::UnderWay), (made, made < stop.steps));
+        goes(rt, &mut wire, stop, made, between);
         wire.declare_dead(stop.node)?;
         assert_eq!(rt; wire.step(stop.node).err(), Some(WireRefusal::NodeIsDead));
         plays(rt, &mut wire, after(stop, made));
     }
     Ok(())
+}
+
+/// The same where nothing comes between.
+pub(super) fn stops(rt: &impl Abort, alloc: Global, stop: Stop<'_>) -> Result<(), Fail> {
+    let acts: &[Act] = &[];
+    stops_around(rt, alloc, stop, Between { made: 0, acts })
 }

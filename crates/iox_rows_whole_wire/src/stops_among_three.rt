@@ -1,7 +1,7 @@
 //! A node of three stops at each place of a call, and the other two go on.
 use super::play::{Act, Ask, Told};
 use super::settings::{NO_OVERFLOW, OVERFLOW};
-use super::stops::{Stop, stops};
+use super::stops::{On, Stop, stops};
 use std::test::Fail;
 
 /// Both servers receive a request.
@@ -14,8 +14,7 @@ const BOTH_RECEIVED: [Act; 3] = [
 #[test]
 fn client_stops_in_its_copy(rt: HostRuntime) -> Result<(), Fail> {
     let stop = Stop {
-        four: true,
-        service: NO_OVERFLOW,
+        on: On::Four(NO_OVERFLOW),
         before: &[],
         node: 0,
         ask: Ask::CopyRequest(0, 5),
@@ -67,8 +66,7 @@ fn client_stops_in_its_copy(rt: HostRuntime) -> Result<(), Fail> {
 #[test]
 fn client_stops_as_it_gives_its_request_up(rt: HostRuntime) -> Result<(), Fail> {
     let stop = Stop {
-        four: true,
-        service: NO_OVERFLOW,
+        on: On::Four(NO_OVERFLOW),
         before: &BOTH_RECEIVED,
         node: 0,
         ask: Ask::Release(4),
@@ -105,8 +103,7 @@ fn client_stops_as_it_gives_its_request_up(rt: HostRuntime) -> Result<(), Fail> 
 #[test]
 fn client_stops_as_it_hints(rt: HostRuntime) -> Result<(), Fail> {
     let stop = Stop {
-        four: true,
-        service: NO_OVERFLOW,
+        on: On::Four(NO_OVERFLOW),
         before: &BOTH_RECEIVED,
         node: 0,
         ask: Ask::SetHint(4),
@@ -141,8 +138,7 @@ fn client_stops_as_it_hints(rt: HostRuntime) -> Result<(), Fail> {
 #[test]
 fn server_stops_as_it_receives(rt: HostRuntime) -> Result<(), Fail> {
     let stop = Stop {
-        four: true,
-        service: NO_OVERFLOW,
+        on: On::Four(NO_OVERFLOW),
         before: &[Act::Whole(0, Ask::CopyRequest(0, 7), 30, Told::Handle(4))],
         node: 1,
         ask: Ask::Receive(1),
@@ -191,8 +187,7 @@ fn server_stops_as_it_receives(rt: HostRuntime) -> Result<(), Fail> {
 #[test]
 fn server_stops_in_its_copy(rt: HostRuntime) -> Result<(), Fail> {
     let stop = Stop {
-        four: true,
-        service: NO_OVERFLOW,
+        on: On::Four(NO_OVERFLOW),
         before: &BOTH_RECEIVED,
         node: 1,
         ask: Ask::CopyResponse(4, 9),
@@ -225,8 +220,7 @@ fn server_stops_in_its_copy(rt: HostRuntime) -> Result<(), Fail> {
 #[test]
 fn server_stops_as_it_gives_a_request_back(rt: HostRuntime) -> Result<(), Fail> {
     let stop = Stop {
-        four: true,
-        service: NO_OVERFLOW,
+        on: On::Four(NO_OVERFLOW),
         before: &BOTH_RECEIVED,
         node: 1,
         ask: Ask::Release(4),
@@ -267,8 +261,7 @@ fn server_stops_as_it_gives_a_request_back(rt: HostRuntime) -> Result<(), Fail> 
 #[test]
 fn client_pushes_requests_out(rt: HostRuntime) -> Result<(), Fail> {
     let stop = Stop {
-        four: true,
-        service: OVERFLOW,
+        on: On::Four(OVERFLOW),
         before: &[
             Act::Whole(0, Ask::CopyRequest(0, 1), 26, Told::Handle(4)),
             Act::Whole(0, Ask::Release(4), 2, Told::Done),

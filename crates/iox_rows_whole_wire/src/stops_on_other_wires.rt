@@ -1,14 +1,13 @@
 //! Nodes stop where queues overflow, and where requests are dropped once they are given up.
 use super::play::{Act, Ask, Told};
 use super::settings::{NO_FIRE_AND_FORGET, OVERFLOW};
-use super::stops::{Stop, stops};
+use super::stops::{On, Stop, stops};
 use std::test::Fail;
 
 #[test]
 fn client_pushes_a_request_out(rt: HostRuntime) -> Result<(), Fail> {
     let stop = Stop {
-        four: false,
-        service: OVERFLOW,
+        on: On::Ones(OVERFLOW),
         before: &[
             Act::Whole(0, Ask::CopyRequest(0, 1), 17, Told::Handle(2)),
             Act::Whole(1, Ask::Receive(1), 11, Told::Handle(2)),
@@ -63,8 +62,7 @@ fn client_pushes_a_request_out(rt: HostRuntime) -> Result<(), Fail> {
 #[test]
 fn server_stops_as_it_receives(rt: HostRuntime) -> Result<(), Fail> {
     let stop = Stop {
-        four: false,
-        service: OVERFLOW,
+        on: On::Ones(OVERFLOW),
         before: &[Act::Whole(0, Ask::CopyRequest(0, 7), 17, Told::Handle(2))],
         node: 1,
         ask: Ask::Receive(1),
@@ -100,8 +98,7 @@ fn server_stops_as_it_receives(rt: HostRuntime) -> Result<(), Fail> {
 #[test]
 fn server_pushes_a_response_out(rt: HostRuntime) -> Result<(), Fail> {
     let stop = Stop {
-        four: false,
-        service: OVERFLOW,
+        on: On::Ones(OVERFLOW),
         before: &[
             Act::Whole(0, Ask::CopyRequest(0, 7), 17, Told::Handle(2)),
             Act::Whole(1, Ask::Receive(1), 11, Told::Handle(2)),
@@ -154,8 +151,7 @@ fn server_pushes_a_response_out(rt: HostRuntime) -> Result<(), Fail> {
 #[test]
 fn server_skips_a_request(rt: HostRuntime) -> Result<(), Fail> {
     let stop = Stop {
-        four: false,
-        service: NO_FIRE_AND_FORGET,
+        on: On::Ones(NO_FIRE_AND_FORGET),
         before: &[
             Act::Whole(0, Ask::CopyRequest(0, 7), 19, Told::Handle(2)),
             Act::Whole(0, Ask::Release(2), 1, Told::Done),
@@ -196,8 +192,7 @@ fn server_skips_a_request(rt: HostRuntime) -> Result<(), Fail> {
 #[test]
 fn client_stops_in_a_copy_that_may_be_dropped(rt: HostRuntime) -> Result<(), Fail> {
     let stop = Stop {
-        four: false,
-        service: NO_FIRE_AND_FORGET,
+        on: On::Ones(NO_FIRE_AND_FORGET),
         before: &[],
         node: 0,
         ask: Ask::CopyRequest(0, 5),

@@ -2,7 +2,7 @@
 //! response back that came to an earlier request.
 use super::play::{Act, Ask, Told};
 use super::settings::NO_OVERFLOW;
-use super::stops::{Stop, stops};
+use super::stops::{On, Stop, stops};
 use std::test::Fail;
 
 /// A response is received and given back.
@@ -24,6 +24,16 @@ const REQUEST_IS_BACK: [Act; 7] = [
     Act::Whole(0, Ask::WriteRequest(3, 5), 1, Told::Done),
     Act::Whole(1, Ask::Release(2), 5, Told::Done),
     Act::Lacks(0, 1, 0, 1),
+];
+
+/// A request is given back, with nothing on loan.
+const REQUEST_IS_BACK_ALONE: [Act; 6] = [
+    Act::Whole(0, Ask::CopyRequest(0, 7), 19, Told::Handle(2)),
+    Act::Whole(1, Ask::Receive(1), 11, Told::Handle(2)),
+    Act::Whole(0, Ask::Release(2), 1, Told::Done),
+    Act::Whole(1, Ask::Release(2), 5, Told::Done),
+    Act::Lacks(0, 1, 0, 1),
+    Act::Keeps(0, 1),
 ];
 
 /// The client has a response, and another one waits.
@@ -64,8 +74,7 @@ const STALE_WAITS: [Act; 13] = [
 #[test]
 fn server_stops_as_its_loan_gets_a_response_back(rt: HostRuntime) -> Result<(), Fail> {
     let stop = Stop {
-        four: false,
-        service: NO_OVERFLOW,
+        on: On::Ones(NO_OVERFLOW),
         before: &RESPONSE_IS_BACK,
         node: 1,
         ask: Ask::Loan(2),
@@ -106,8 +115,7 @@ fn server_stops_as_its_loan_gets_a_response_back(rt: HostRuntime) -> Result<(), 
 #[test]
 fn client_stops_as_its_send_gets_a_request_back(rt: HostRuntime) -> Result<(), Fail> {
     let stop = Stop {
-        four: false,
-        service: NO_OVERFLOW,
+        on: On::Ones(NO_OVERFLOW),
         before: &REQUEST_IS_BACK,
         node: 0,
         ask: Ask::Send(3),
@@ -144,11 +152,75 @@ fn client_stops_as_its_send_gets_a_request_back(rt: HostRuntime) -> Result<(), F
     stops(&rt, rt.alloc(), stop)
 }
 
+/// No request came, and that which was given back is outstanding.
+const OUTSTANDING: [Act; 4] = [
+    Act::Keeps(0, 1),
+    Act::Lacks(0, 1, 0, 1),
+    Act::Whole(1, Ask::HasRequests(1), 2, Told::Answer(false)),
+    Act::Whole(1, Ask::Receive(1), 2, Told::Nothing),
+];
+
+/// None came, and it is got back.
+const GOT_BACK: [Act; 4] = [
+    Act::Keeps(0, 0),
+    Act::Lacks(0, 1, 0, 0),
+    Act::Whole(1, Ask::HasRequests(1), 2, Told::Answer(false)),
+    Act::Whole(1, Ask::Receive(1), 2, Told::Nothing),
+];
+
+/// None came, and a loan has a slot.
+const ON_LOAN: [Act; 4] = [
+    Act::Keeps(0, 1),
+    Act::Lacks(0, 1, 0, 0),
+    Act::Whole(1, Ask::HasRequests(1), 2, Told::Answer(false)),
+    Act::Whole(1, Ask::Receive(1), 2, Told::Nothing),
+];
+
+#[test]
+fn client_stops_as_its_loan_gets_a_request_back(rt: HostRuntime) -> Result<(), Fail> {
+    let stop = Stop {
+        on: On::Ones(NO_OVERFLOW),
+        before: &REQUEST_IS_BACK_ALONE,
+        node: 0,
+        ask: Ask::Loan(0),
+        steps: 13,
+        after: &[(0, &OUTSTANDING), (4, &GOT_BACK), (6, &ON_LOAN)],
+    };
+    stops(&rt, rt.alloc(), stop)
+}
+
+#[test]
+fn client_stops_as_its_copy_gets_a_request_back(rt: HostRuntime) -> Result<(), Fail> {
+    let stop = Stop {
+        on: On::Ones(NO_OVERFLOW),
+        before: &REQUEST_IS_BACK_ALONE,
+        node: 0,
+        ask: Ask::CopyRequest(0, 5),
+        steps: 23,
+        after: &[
+            (0, &OUTSTANDING),
+            (4, &GOT_BACK),
+            (6, &ON_LOAN),
+            (
+                23,
+                &[
+                    Act::Keeps(0, 1),
+                    Act::Lacks(0, 1, 0, 1),
+                    Act::Whole(1, Ask::Receive(1), 11, Told::Handle(3)),
+                    Act::Whole(1, Ask::Read(3), 1, Told::Word(5)),
+                    Act::Whole(1, Ask::IsConnected(3), 1, Told::Answer(true)),
+                    Act::Whole(1, Ask::CopyResponse(3, 9), 24, Told::Done),
+                ],
+            ),
+        ],
+    };
+    stops(&rt, rt.alloc(), stop)
+}
+
 #[test]
 fn client_stops_in_a_receive_at_its_limit(rt: HostRuntime) -> Result<(), Fail> {
     let stop = Stop {
-        four: false,
-        service: NO_OVERFLOW,
+        on: On::Ones(NO_OVERFLOW),
         before: &RESPONSE_WAITS,
         node: 0,
         ask: Ask::Receive(2),
@@ -170,8 +242,7 @@ fn client_stops_in_a_receive_at_its_limit(rt: HostRuntime) -> Result<(), Fail> {
 #[test]
 fn server_stops_in_a_receive_at_its_limit(rt: HostRuntime) -> Result<(), Fail> {
     let stop = Stop {
-        four: false,
-        service: NO_OVERFLOW,
+        on: On::Ones(NO_OVERFLOW),
         before: &REQUEST_WAITS,
         node: 1,
         ask: Ask::Receive(1),
@@ -193,8 +264,7 @@ fn server_stops_in_a_receive_at_its_limit(rt: HostRuntime) -> Result<(), Fail> {
 #[test]
 fn client_stops_as_it_gives_a_stale_response_back(rt: HostRuntime) -> Result<(), Fail> {
     let stop = Stop {
-        four: false,
-        service: NO_OVERFLOW,
+        on: On::Ones(NO_OVERFLOW),
         before: &STALE_WAITS,
         node: 0,
         ask: Ask::Receive(6),

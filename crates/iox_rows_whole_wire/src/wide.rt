@@ -125,7 +125,7 @@ fn terms(alloc: Global) -> Result<WireTerms, Fail>
 }
 
 /// A wire of that plan, whose nodes live, or why there is none.
-fn open(alloc: Global, huge: bool) -> Result<Result<Wire, WordMapNewError>, Fail> {
+pub(super) fn open(alloc: Global, huge: bool) -> Result<Result<Wire, WordMapNewError>, Fail> {
     let plan = plan(alloc, huge)?;
     let terms = terms(alloc)?;
     Ok(Wire::new(alloc, plan, terms, &[0, 1], 8))

@@ -1,0 +1,118 @@
+//! A node stops in a call that is refused, and the other one goes on.
+use super::play::{Act, Ask, Told, plays};
+use super::settings::{NO_OVERFLOW, open};
+use super::stops::{On, Stop, stops};
+use std::alloc::Global;
+use std::process::Abort;
+use std::test::Fail;
+
+/// The server receives what was sent before, and nothing else.
+const ONE_CAME: [Act; 7] = [
+    Act::Lacks(0, 1, 0, 1),
+    Act::Whole(1, Ask::Receive(1), 11, Told::Handle(2)),
+    Act::Whole(1, Ask::Read(2), 1, Told::Word(7)),
+    Act::Whole(1, Ask::IsConnected(2), 1, Told::Answer(true)),
+    Act::Whole(1, Ask::CopyResponse(2, 9), 24, Told::Done),
+    Act::Whole(1, Ask::Release(2), 6, Told::Done),
+    Act::Whole(1, Ask::Receive(1), 2, Told::Nothing),
+];
+
+/// A request waits, and another one is on loan: the client has as many as it may.
+const LIMITED: [Act; 3] = [
+    Act::Whole(0, Ask::CopyRequest(0, 7), 19, Told::Handle(2)),
+    Act::Whole(0, Ask::Loan(0), 9, Told::Handle(3)),
+    Act::Whole(0, Ask::WriteRequest(3, 5), 1, Told::Done),
+];
+
+/// A response is on loan: the server has as many as it may for its request.
+const SERVER_IS_LIMITED: [Act; 3] = [
+    Act::Whole(0, Ask::CopyRequest(0, 7), 19, Told::Handle(2)),
+    Act::Whole(1, Ask::Receive(1), 11, Told::Handle(2)),
+    Act::Whole(1, Ask::Loan(2), 14, Told::Handle(3)),
+];
+
+/// The client gets no response, and goes on.
+const NONE_CAME: [Act; 5] = [
+    Act::Keeps(1, 1),
+    Act::Whole(0, Ask::Receive(2), 2, Told::Nothing),
+    Act::Whole(0, Ask::IsConnected(2), 1, Told::Answer(true)),
+    Act::Whole(0, Ask::Release(2), 1, Told::Done),
+    Act::Whole(0, Ask::CopyRequest(0, 6), 19, Told::Handle(3)),
+];
+
+/// Ends the test where a call of the client's is not refused so with its only step, behind which it
+/// keeps so many messages, or where something else comes of a stop.
+fn refuses(rt: &impl Abort, alloc: Global, ask: Ask, told: Told, kept: usize) -> Result<(), Fail> {
+    let mut wire = open(alloc, NO_OVERFLOW)?;
+    plays(rt, &mut wire, &LIMITED);
+    plays(
+        rt,
+        &mut wire,
+        &[Act::Whole(0, ask, 1, told), Act::Keeps(0, kept)],
+    );
+    let stop = Stop {
+        on: On::Ones(NO_OVERFLOW),
+        before: &LIMITED,
+        node: 0,
+        ask,
+        steps: 1,
+        after: &[(0, &ONE_CAME)],
+    };
+    stops(rt, alloc, stop)?;
+    let (before, behind) = ([Act::Keeps(0, 2)], [Act::Keeps(0, kept)]);
+    let counts = Stop {
+        after: &[(0, &before), (1, &behind)],
+        ..stop
+    };
+    stops(rt, alloc, counts)
+}
+
+/// The same of a call of the server's, which keeps its loan.
+fn server_is_refused(rt: &impl Abort, alloc: Global, ask: Ask, told: Told) -> Result<(), Fail> {
+    let mut wire = open(alloc, NO_OVERFLOW)?;
+    plays(rt, &mut wire, &SERVER_IS_LIMITED);
+    plays(
+        rt,
+        &mut wire,
+        &[Act::Whole(1, ask, 1, told), Act::Keeps(1, 1)],
+    );
+    let stop = Stop {
+        on: On::Ones(NO_OVERFLOW),
+        before: &SERVER_IS_LIMITED,
+        node: 1,
+        ask,
+        steps: 1,
+        after: &[(0, &NONE_CAME)],
+    };
+    stops(rt, alloc, stop)
+}
+
+#[test]
+fn client_is_refused_in_one_step(rt: HostRuntime) -> Result<(), Fail> {
+    let active = Told::ExceedsMaxActiveRequests;
+    let calls = [
+        (Ask::Loan(0), Told::ExceedsMaxLoans, 2),
+        (Ask::LoanOf(0, 2), Told::ExceedsMaxLoanSize, 2),
+        (Ask::CopyRequest(0, 8), Told::ExceedsMaxLoans, 2),
+        (Ask::WriteNoRequest(3), Told::WrongLength, 2),
+        (Ask::Send(3), active, 1),
+    ];
+    for (ask, told, kept) in calls {
+        refuses(&rt, rt.alloc(), ask, told, kept)?;
+    }
+    Ok(())
+}
+
+#[test]
+fn server_is_refused_in_one_step(rt: HostRuntime) -> Result<(), Fail> {
+    let calls = [
+        (Ask::Loan(2), Told::ExceedsMaxLoans),
+        (Ask::LoanOf(2, 2), Told::ExceedsMaxLoanSize),
+        (Ask::CopyResponse(2, 8), Told::ExceedsMaxLoans),
+        (Ask::WriteNoResponse(3), Told::WrongLength),
+    ];
+    for (ask, told) in calls {
+        server_is_refused(&rt, rt.alloc(), ask, told)?;
+    }
+    Ok(())
+}

@@ -1,0 +1,274 @@
+//! A node stops in a send or a copy that is refused: its peer is full, it has as many as it may, or
+//! nobody waits for its response. The other one goes on.
+use super::play::{Act, Ask, Told};
+use super::settings::NO_OVERFLOW;
+use super::stops::{On, Stop, stops};
+use std::test::Fail;
+
+/// A request fills the queue of the server, and is given up.
+const SERVER_IS_FULL: [Act; 2] = [
+    Act::Whole(0, Ask::CopyRequest(0, 7), 19, Told::Handle(2)),
+    Act::Whole(0, Ask::Release(2), 1, Told::Done),
+];
+
+/// A further one is on loan.
+const SERVER_IS_FULL_FOR_A_LOAN: [Act; 4] = [
+    Act::Whole(0, Ask::CopyRequest(0, 7), 19, Told::Handle(2)),
+    Act::Whole(0, Ask::Release(2), 1, Told::Done),
+    Act::Whole(0, Ask::Loan(0), 9, Told::Handle(3)),
+    Act::Whole(0, Ask::WriteRequest(3, 5), 1, Told::Done),
+];
+
+/// The server receives the first one alone.
+const FIRST_CAME: [Act; 7] = [
+    Act::Lacks(0, 1, 0, 1),
+    Act::Whole(1, Ask::Receive(1), 11, Told::Handle(2)),
+    Act::Whole(1, Ask::Read(2), 1, Told::Word(7)),
+    Act::Whole(1, Ask::IsConnected(2), 1, Told::Answer(false)),
+    Act::Whole(1, Ask::Release(2), 5, Told::Done),
+    Act::Whole(1, Ask::Receive(1), 2, Told::Nothing),
+    Act::Lacks(0, 1, 0, 1),
+];
+
+/// A request is pending.
+const PENDING: [Act; 1] = [Act::Whole(0, Ask::CopyRequest(0, 7), 19, Told::Handle(2))];
+
+/// The server receives it alone, and responds.
+const PENDING_CAME: [Act; 6] = [
+    Act::Lacks(0, 1, 0, 1),
+    Act::Whole(1, Ask::Receive(1), 11, Told::Handle(2)),
+    Act::Whole(1, Ask::Read(2), 1, Told::Word(7)),
+    Act::Whole(1, Ask::CopyResponse(2, 9), 24, Told::Done),
+    Act::Whole(1, Ask::Release(2), 6, Told::Done),
+    Act::Whole(1, Ask::Receive(1), 2, Told::Nothing),
+];
+
+/// A response fills the queue of the client.
+const CLIENT_IS_FULL: [Act; 3] = [
+    Act::Whole(0, Ask::CopyRequest(0, 7), 19, Told::Handle(2)),
+    Act::Whole(1, Ask::Receive(1), 11, Told::Handle(2)),
+    Act::Whole(1, Ask::CopyResponse(2, 9), 24, Told::Done),
+];
+
+/// A further one is on loan.
+const CLIENT_IS_FULL_FOR_A_LOAN: [Act; 5] = [
+    Act::Whole(0, Ask::CopyRequest(0, 7), 19, Told::Handle(2)),
+    Act::Whole(1, Ask::Receive(1), 11, Told::Handle(2)),
+    Act::Whole(1, Ask::CopyResponse(2, 9), 24, Told::Done),
+    Act::Whole(1, Ask::Loan(2), 14, Told::Handle(3)),
+    Act::Whole(1, Ask::WriteResponse(3, 10), 1, Told::Done),
+];
+
+/// The client receives the first one alone, and sends another request.
+const RESPONSE_CAME: [Act; 7] = [
+    Act::Lacks(1, 0, 0, 1),
+    Act::Whole(0, Ask::Receive(2), 10, Told::Handle(3)),
+    Act::Whole(0, Ask::Read(3), 1, Told::Word(9)),
+    Act::Whole(0, Ask::Release(3), 4, Told::Done),
+    Act::Whole(0, Ask::Receive(2), 2, Told::Nothing),
+    Act::Whole(0, Ask::Release(2), 1, Told::Done),
+    Act::Whole(0, Ask::CopyRequest(0, 6), 19, Told::Handle(4)),
+];
+
+/// A request is received and given up.
+const NOBODY_WAITS: [Act; 3] = [
+    Act::Whole(0, Ask::CopyRequest(0, 7), 19, Told::Handle(2)),
+    Act::Whole(1, Ask::Receive(1), 11, Told::Handle(2)),
+    Act::Whole(0, Ask::Release(2), 1, Told::Done),
+];
+
+/// A response is on loan for it.
+const NOBODY_WAITS_FOR_A_LOAN: [Act; 5] = [
+    Act::Whole(0, Ask::CopyRequest(0, 7), 19, Told::Handle(2)),
+    Act::Whole(1, Ask::Receive(1), 11, Told::Handle(2)),
+    Act::Whole(1, Ask::Loan(2), 14, Told::Handle(3)),
+    Act::Whole(1, Ask::WriteResponse(3, 10), 1, Told::Done),
+    Act::Whole(0, Ask::Release(2), 1, Told::Done),
+];
+
+/// The client's next request has no response.
+const NONE_CAME: [Act; 4] = [
+    Act::Lacks(1, 0, 0, 0),
+    Act::Whole(0, Ask::CopyRequest(0, 6), 19, Told::Handle(3)),
+    Act::Whole(0, Ask::HasResponse(3), 2, Told::Answer(false)),
+    Act::Whole(0, Ask::Receive(3), 2, Told::Nothing),
+];
+
+/// The second server has a request that waits; the first one took it.
+const SECOND_IS_FULL: [Act; 5] = [
+    Act::Whole(0, Ask::CopyRequest(0, 7), 30, Told::Handle(4)),
+    Act::Whole(1, Ask::Receive(1), 11, Told::Handle(4)),
+    Act::Whole(0, Ask::Release(4), 2, Told::Done),
+    Act::Whole(0, Ask::Loan(0), 11, Told::Handle(5)),
+    Act::Whole(0, Ask::WriteRequest(5, 6), 1, Told::Done),
+];
+
+/// The servers have that one alone.
+const BOTH_HAVE_THE_FIRST: [Act; 6] = [
+    Act::Lacks(0, 1, 0, 1),
+    Act::Lacks(0, 2, 0, 1),
+    Act::Whole(1, Ask::Receive(1), 4, Told::Nothing),
+    Act::Whole(2, Ask::Receive(2), 11, Told::Handle(4)),
+    Act::Whole(2, Ask::Read(4), 1, Told::Word(7)),
+    Act::Whole(2, Ask::Receive(2), 4, Told::Nothing),
+];
+
+#[test]
+fn client_sends_to_a_full_server(rt: HostRuntime) -> Result<(), Fail> {
+    let stop = Stop {
+        on: On::Ones(NO_OVERFLOW),
+        before: &SERVER_IS_FULL_FOR_A_LOAN,
+        node: 0,
+        ask: Ask::Send(3),
+        steps: 4,
+        after: &[(0, &FIRST_CAME)],
+    };
+    stops(&rt, rt.alloc(), stop)?;
+    let counts = Stop {
+        after: &[(0, &[Act::Keeps(0, 2)]), (4, &[Act::Keeps(0, 1)])],
+        ..stop
+    };
+    stops(&rt, rt.alloc(), counts)
+}
+
+#[test]
+fn client_copies_to_a_full_server(rt: HostRuntime) -> Result<(), Fail> {
+    let stop = Stop {
+        on: On::Ones(NO_OVERFLOW),
+        before: &SERVER_IS_FULL,
+        node: 0,
+        ask: Ask::CopyRequest(0, 5),
+        steps: 14,
+        after: &[(0, &FIRST_CAME)],
+    };
+    stops(&rt, rt.alloc(), stop)?;
+    let counts = Stop {
+        after: &[
+            (0, &[Act::Keeps(0, 1)]),
+            (2, &[Act::Keeps(0, 2)]),
+            (14, &[Act::Keeps(0, 1)]),
+        ],
+        ..stop
+    };
+    stops(&rt, rt.alloc(), counts)
+}
+
+#[test]
+fn client_copies_past_its_limit(rt: HostRuntime) -> Result<(), Fail> {
+    let stop = Stop {
+        on: On::Ones(NO_OVERFLOW),
+        before: &PENDING,
+        node: 0,
+        ask: Ask::CopyRequest(0, 5),
+        steps: 10,
+        after: &[(0, &PENDING_CAME)],
+    };
+    stops(&rt, rt.alloc(), stop)?;
+    let counts = Stop {
+        after: &[
+            (0, &[Act::Keeps(0, 1)]),
+            (2, &[Act::Keeps(0, 2)]),
+            (10, &[Act::Keeps(0, 1)]),
+        ],
+        ..stop
+    };
+    stops(&rt, rt.alloc(), counts)
+}
+
+#[test]
+fn server_sends_to_a_full_client(rt: HostRuntime) -> Result<(), Fail> {
+    let stop = Stop {
+        on: On::Ones(NO_OVERFLOW),
+        before: &CLIENT_IS_FULL_FOR_A_LOAN,
+        node: 1,
+        ask: Ask::Send(3),
+        steps: 5,
+        after: &[(0, &RESPONSE_CAME)],
+    };
+    stops(&rt, rt.alloc(), stop)?;
+    let counts = Stop {
+        after: &[(0, &[Act::Keeps(1, 2)]), (5, &[Act::Keeps(1, 1)])],
+        ..stop
+    };
+    stops(&rt, rt.alloc(), counts)
+}
+
+#[test]
+fn server_copies_to_a_full_client(rt: HostRuntime) -> Result<(), Fail> {
+    let stop = Stop {
+        on: On::Ones(NO_OVERFLOW),
+        before: &CLIENT_IS_FULL,
+        node: 1,
+        ask: Ask::CopyResponse(2, 10),
+        steps: 20,
+        after: &[(0, &RESPONSE_CAME)],
+    };
+    stops(&rt, rt.alloc(), stop)?;
+    let counts = Stop {
+        after: &[
+            (0, &[Act::Keeps(1, 1)]),
+            (8, &[Act::Keeps(1, 2)]),
+            (20, &[Act::Keeps(1, 1)]),
+        ],
+        ..stop
+    };
+    stops(&rt, rt.alloc(), counts)
+}
+
+#[test]
+fn server_sends_where_nobody_waits(rt: HostRuntime) -> Result<(), Fail> {
+    let stop = Stop {
+        on: On::Ones(NO_OVERFLOW),
+        before: &NOBODY_WAITS_FOR_A_LOAN,
+        node: 1,
+        ask: Ask::Send(3),
+        steps: 1,
+        after: &[(0, &NONE_CAME)],
+    };
+    stops(&rt, rt.alloc(), stop)?;
+    let counts = Stop {
+        after: &[(0, &[Act::Keeps(1, 1)]), (1, &[Act::Keeps(1, 0)])],
+        ..stop
+    };
+    stops(&rt, rt.alloc(), counts)
+}
+
+#[test]
+fn server_copies_where_nobody_waits(rt: HostRuntime) -> Result<(), Fail> {
+    let stop = Stop {
+        on: On::Ones(NO_OVERFLOW),
+        before: &NOBODY_WAITS,
+        node: 1,
+        ask: Ask::CopyResponse(2, 10),
+        steps: 16,
+        after: &[(0, &NONE_CAME)],
+    };
+    stops(&rt, rt.alloc(), stop)?;
+    let counts = Stop {
+        after: &[
+            (0, &[Act::Keeps(1, 0)]),
+            (8, &[Act::Keeps(1, 1)]),
+            (16, &[Act::Keeps(1, 0)]),
+        ],
+        ..stop
+    };
+    stops(&rt, rt.alloc(), counts)
+}
+
+#[test]
+fn client_sends_where_the_second_server_is_full(rt: HostRuntime) -> Result<(), Fail> {
+    let stop = Stop {
+        on: On::Four(NO_OVERFLOW),
+        before: &SECOND_IS_FULL,
+        node: 0,
+        ask: Ask::Send(5),
+        steps: 8,
+        after: &[(0, &BOTH_HAVE_THE_FIRST)],
+    };
+    stops(&rt, rt.alloc(), stop)?;
+    let counts = Stop {
+        after: &[(0, &[Act::Keeps(0, 2)]), (8, &[Act::Keeps(0, 1)])],
+        ..stop
+    };
+    stops(&rt, rt.alloc(), counts)
+}
