@@ -34,6 +34,8 @@ pub mod uses_limits;
 pub mod uses_reaching;
 pub mod uses_reading;
 pub mod uses_round_trip;
+pub mod uses_slices;
+pub mod uses_streams;
 
 pub use active_request::ActiveRequest;
 pub use client::Client;
