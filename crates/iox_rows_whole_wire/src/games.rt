@@ -304,8 +304,9 @@ impl Game {
             self.stays_dead(rt, death);
             return Ok(());
         }
+        let is_last = self.comes_death();
         match self.calls.iter().position(|call| call.of.node == node) {
-            Some(_) if self.comes_death() => self.dies(rt, node),
+            Some(_) if is_last => self.dies(rt, node),
             Some(place) => {
                 let call = self.calls.swap_remove(place);
                 self.steps(rt, call)

@@ -136,6 +136,21 @@ fn schedule_is_played_in_the_room_that_was_made(rt: HostRuntime) -> Result<(), F
 }
 
 #[test]
+fn room_for_too_many_steps_is_refused(rt: HostRuntime) -> Result<(), Fail> {
+    let mut wire = open(rt.alloc(), NO_OVERFLOW)?;
+    assert!(rt; wire.reserve(1 << 62).is_err());
+    // the wire goes on as before
+    let table = [
+        Act::RefusedStep(0, WireRefusal::AtRest),
+        Act::Whole(0, Ask::CopyRequest(0, 456), 19, Told::Handle(2)),
+        Act::Whole(1, Ask::Receive(1), 11, Told::Handle(2)),
+        Act::Whole(1, Ask::Read(2), 1, Told::Word(456)),
+    ];
+    plays(&rt, &mut wire, &table);
+    Ok(())
+}
+
+#[test]
 fn call_without_room_for_its_handle_is_refused(rt: HostRuntime) -> Result<(), Fail> {
     let mut wire = open_with(rt.alloc(), NO_OVERFLOW, 0)?;
     let told = wire.run(&[WireEntry::Begin(1, RECEIVE), WireEntry::Die(1)]);
