@@ -46,7 +46,7 @@ pub(super) struct Owned {
     pub(super) node: u64,
     pub(super) number: u64,
     pub(super) kind: Kind,
-    /// The word of its message. A game keeps that of the request for a response that is not written.
+    /// The word of its message. Of a response that is not written a game keeps that of the request.
     pub(super) word: u64,
 }
 

@@ -67,8 +67,8 @@ impl Game {
         assert!(rt; self.wire.under_way(node).is_some());
     }
 
-    /// The port keeps what it had as its node died, or what its node at rest has; in a call it keeps
-    /// no more than its pool.
+    /// The port keeps what it had as its node died, or what its node at rest has. In a call it
+    /// keeps no more than its pool.
     fn count_kept(&self, rt: &impl Abort, port: Owned) {
         let kept = self.wire.kept(port.number);
         if let Some(death) = self.death_of(port.node) {
@@ -83,7 +83,8 @@ impl Game {
         assert_eq!(rt; (port.number, kept), (port.number, self.keeps(port)));
     }
 
-    /// Ends the test where a port keeps another number of messages, or has another number outstanding.
+    /// Ends the test where a port keeps another number of messages, or has another number
+    /// outstanding.
     pub(super) fn counts(&self, rt: &impl Abort) {
         for port in PORTS {
             self.count_kept(rt, port);

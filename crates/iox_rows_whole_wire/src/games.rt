@@ -66,8 +66,8 @@ impl Game {
             .count()
     }
 
-    /// How many messages the port keeps where its node is at rest: on loan, in a pending response, and
-    /// outstanding.
+    /// How many messages the port keeps where its node is at rest: on loan, in a pending response,
+    /// and outstanding.
     pub(super) fn keeps(&self, port: Owned) -> usize {
         let node = port.node;
         if port.kind != Kind::Client {

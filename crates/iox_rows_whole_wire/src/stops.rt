@@ -59,7 +59,8 @@ fn opened(alloc: Global, on: On) -> Result<Wire, Fail> {
     }
 }
 
-/// The call is under way behind so many steps, with what comes between, or over behind its last one.
+/// Makes so many steps, with what comes between. Then the call is under way, or over behind its
+/// last one.
 fn goes(rt: &impl Abort, wire: &mut Wire, stop: Stop<'_>, made: u64, between: Between<'_>) {
     let mut left = made;
     if between.made <= made {

@@ -1,4 +1,5 @@
-//! A server stops as it gives a request back that its client hints at or gives up, before or meanwhile.
+//! A server stops as it gives a request back that its client hints at or gives up, before or
+//! meanwhile.
 use super::play::{Act, Ask, Told};
 use super::settings::NO_OVERFLOW;
 use super::stops::{Between, On, Stop, stops, stops_around};
