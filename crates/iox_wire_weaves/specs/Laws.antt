@@ -30,7 +30,7 @@ use Rattle.iox_wire_nodes.specs.declared.call_at.CallAt.TheVariants.{Seats}
 use Rattle.iox_wire_nodes.specs.declared.call_at.NodeReply.{NodeReply}
 use Rattle.iox_wire_nodes.specs.declared.node_call.NodeCall.{NodeCall}
 use Rattle.iox_wire_nodes.specs.Nodes.{Node, reply_in, seat_in}
-use Rattle.iox_wire_needs.specs.Openings.{opened_seat}
+use Rattle.iox_wire_needs.specs.Openings.{OverflowsWithRoom, opened_seat}
 use Rattle.iox_wire_needs.specs.Places.{InPools}
 use Rattle.iox_wire_needs.specs.ReadWords.{TellsNoWords}
 use Rattle.iox_wire_needs.specs.Runs.{GoesOnBy, Run}
@@ -56,12 +56,13 @@ pub record IsFresh (p : Setting) (plan : WirePlan) (terms : WireTerms) (nodes : 
   pub replies : wire.replies ≡ []
   pub events : wire.events ≡ []
 
--- It shows a run from each state on which it may open.
+-- It shows a run from each state on which it may open, if its queues that overflow have room.
 abbrev pub WiresOpen : Type 0
 WiresOpen =
     (plan : WirePlan) (terms : WireTerms) (nodes : List ℕ) (p : Setting) (s : State)
     (wire : WireData)
-    → IsPlan plan → OpensOn plan terms nodes p s → IsFresh p plan terms nodes wire
+    → IsPlan plan → OverflowsWithRoom plan → OpensOn plan terms nodes p s
+    → IsFresh p plan terms nodes wire
     → ShowsOpened p s wire
 
 -- ---- one node
