@@ -19,6 +19,7 @@ use Rattle.iox_wire_nodes.specs.WireTerms.{WireTerms}
 use Rattle.iox_wire_nodes.specs.Plans.{IsSlotAt}
 use Rattle.iox_wire_needs.specs.WireStands.{WireStands}
 use Rattle.iox_wire_nodes.specs.Aims.{IsAimed}
+use Rattle.iox_wire_nodes.specs.declared.call_at.CallAt.{CallAt}
 use Rattle.iox_wire_nodes.specs.Nodes.{Node, seat_in}
 use Rattle.iox_wire_needs.specs.Openings.{AgreesWith, OverflowsWithRoom, opened_seat}
 use Rattle.iox_wire_needs.specs.Runs.{Run, history}
@@ -62,6 +63,10 @@ pub record IsSameSetting (old new : WireData) : Type 0 where
 -- the node of that number
 abbrev pub node_at : ℕ → List WireNode → Option WireNode
 node_at n nodes = find (λ x. x.number == n) nodes
+
+-- where the node keeps the call that it began last, until it is over
+abbrev pub kept_at : List WireNode → ℕ → Option CallAt
+kept_at nodes n = option_map (λ x. x.node.at) (node_at n nodes)
 
 -- the words of the node's last read that is over
 abbrev pub read_of : List WireNode → ℕ → Option (List ℕ)
