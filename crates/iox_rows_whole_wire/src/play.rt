@@ -168,10 +168,12 @@ pub(super) fn what_is_told(reply: NodeReply, words: Option<&[u64]>) -> Told {
         NodeReply::OfLoan(reply) => lent(reply),
         NodeReply::OfRequest(reply) => requested(reply),
         NodeReply::OfResponse(reply) => responded(reply),
-        NodeReply::OfRequestCopy(CopyReply::OfLoan(reply)) => lent(reply),
-        NodeReply::OfRequestCopy(CopyReply::OfSend(reply)) => requested(reply),
-        NodeReply::OfResponseCopy(ResponseCopyReply::OfLoan(reply)) => lent(reply),
-        NodeReply::OfResponseCopy(ResponseCopyReply::OfSend(reply)) => responded(reply),
+        NodeReply::OfRequestCopy(CopyReply::Handle(number)) => Told::Handle(number),
+        NodeReply::OfRequestCopy(CopyReply::Sent(count)) => Told::Sent(count),
+        NodeReply::OfRequestCopy(CopyReply::Refused(refused)) => refusal(refused),
+        NodeReply::OfResponseCopy(ResponseCopyReply::Done) => Told::Done,
+        NodeReply::OfResponseCopy(ResponseCopyReply::Handle(number)) => Told::Handle(number),
+        NodeReply::OfResponseCopy(ResponseCopyReply::Refused(refused)) => refusal(refused),
     }
 }
 
