@@ -2,7 +2,7 @@
 use iox_model::kind::Role;
 use iox_wire::{
     CopyReply, HandleCall, LendReply, NodeCall, NodePayload, NodeReply, Progress, ReceiveReply,
-    RequestReply, RespondReply, ResponseCopyReply, SeatReply, Wire, WireRefusal,
+    RequestReply, RespondReply, ResponseCopyReply, SeatReply, ToldReply, Wire, WireRefusal,
 };
 use iox_wire_locals::CallRefusal;
 use std::process::Abort;
@@ -174,6 +174,19 @@ pub(super) fn what_is_told(reply: NodeReply, words: Option<&[u64]>) -> Told {
         NodeReply::OfResponseCopy(ResponseCopyReply::Done) => Told::Done,
         NodeReply::OfResponseCopy(ResponseCopyReply::Handle(number)) => Told::Handle(number),
         NodeReply::OfResponseCopy(ResponseCopyReply::Refused(refused)) => refusal(refused),
+    }
+}
+
+/// What that reply of a finished call says.
+pub(super) fn replied(reply: ToldReply<'_>) -> Told {
+    match reply {
+        ToldReply::Handle(number) => Told::Handle(number),
+        ToldReply::Sent(count) => Told::Sent(count),
+        ToldReply::Done => Told::Done,
+        ToldReply::Nothing => Told::Nothing,
+        ToldReply::Answer(answer) => Told::Answer(answer),
+        ToldReply::Words(words) => word_read(Some(words)),
+        ToldReply::Refused(refused) => refusal(refused),
     }
 }
 

@@ -1,5 +1,5 @@
 //! Schedules on the wire where each limit is 1.
-use super::play::{Act, Ask, Told, plays};
+use super::play::{Act, Ask, Told, plays, replied};
 use super::settings::{NO_OVERFLOW, open, open_with};
 use iox_model::kind::Role;
 use iox_wire::{HandleCall, NodeCall, NodePayload, WireEntry, WireRefusal};
@@ -130,8 +130,8 @@ fn schedule_is_played_in_the_room_that_was_made(rt: HostRuntime) -> Result<(), F
     wire.run(&schedule)?;
     wire.reserve(1)?;
     assert_eq!(rt; wire.replies().len(), 1);
-    let told = wire.replies().get(0).map(|finished| finished.words.len());
-    assert_eq!(rt; told, Some(0));
+    let told = wire.replies().get(0).map(|finished| replied(finished.reply));
+    assert_eq!(rt; told, Some(Told::Handle(2)));
     Ok(())
 }
 
