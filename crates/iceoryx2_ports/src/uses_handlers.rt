@@ -60,7 +60,8 @@ pub fn server_with_half<Q: Payload, QH: Words, P: Payload, PH: Words, H: Backpre
         .create(alloc, hub)
 }
 
-/// What a client with a handler is told of a request, it may ask for the response to.
+/// A client that may have a handler sends a request: where that is not refused, it has the pending
+/// response.
 pub fn asks_with_a_handler<QH: Words, P: Payload, PH: Words, H: Backpressure>(
     client: &Client<One<u64>, QH, P, PH>,
     hub: &mut Hub<One<u64>, QH, P, PH, H>,
