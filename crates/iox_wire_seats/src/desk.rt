@@ -106,7 +106,7 @@ impl StoredDesk {
     /// A slot has one use less. Without one it is free.
     pub fn use_less(&mut self, slot: usize)
         requires { 0 < slice_index self.old.uses slot }
-        ensures { self.new ≡ uses_less slot self.old }
+        ensures uses { self.new ≡ uses_less slot self.old }
     {
         self.uses[slot] -= 1;
         if self.uses[slot] == 0 && self.free.push_back(slot as u64).is_err() {

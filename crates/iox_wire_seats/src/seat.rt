@@ -228,7 +228,7 @@ impl StoredSeat {
     /// The access that it makes next.
     #[inline(always)]
     pub fn asks(&self) -> Access
-        ensures { (p : Setting) → IsAimed p self.now
+        ensures asked { (p : Setting) → IsAimed p self.now
             → result ≡ program_access p.layout (program_of p self.now.seat.local) }
     {
         match self.at {

@@ -18,7 +18,7 @@ invariant_of-self c = (
 
 pub returns : goal.returns
 returns c =
-    c.use_less.ensures
+    c.use_less.ensures.uses
     ∙ ap (λ (rs : List Recorded). uses_less c.args.slot (record {
       port = c.self.inside.port;
       loans = c.self.inside.loans;

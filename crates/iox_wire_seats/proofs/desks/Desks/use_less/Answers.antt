@@ -14,11 +14,11 @@ use_less-requires c =
 pub invariant_of-self : goal.invariant_of-self
 invariant_of-self c =
     kept_apart c.self.inside.desks.items c.in-Some.place c.index_mut.result.now c.use_less.new.self c.args.port c.self.invariant
-    (subst (λ (xs : List Desk). Some c.in-Some.place ≡ position (λ d. d.port == c.args.port) xs) (sym c.self.view_is) c.in-Some.ensures.first) c.index_mut.ensures.value (ap (λ (d : Desk). d.port) c.use_less.ensures)
+    (subst (λ (xs : List Desk). Some c.in-Some.place ≡ position (λ d. d.port == c.args.port) xs) (sym c.self.view_is) c.in-Some.ensures.first) c.index_mut.ensures.value (ap (λ (d : Desk). d.port) c.use_less.ensures.uses)
 
 pub returns-in-Some : goal.returns-in-Some
 returns-in-Some c =
-    ap (λ (d : Desk). slice_set c.self.inside.desks.items c.in-Some.place d) c.use_less.ensures
+    ap (λ (d : Desk). slice_set c.self.inside.desks.items c.in-Some.place d) c.use_less.ensures.uses
     ∙ stored_at c.args.port (uses_less c.args.slot) c.self.inside.desks.items c.in-Some.place c.index_mut.result.now c.self.invariant
     (subst (λ (xs : List Desk). Some c.in-Some.place ≡ position (λ d. d.port == c.args.port) xs) (sym c.self.view_is) c.in-Some.ensures.first) c.index_mut.ensures.value
     ∙ ap (map (on_desk c.args.port (uses_less c.args.slot))) c.self.view_is
