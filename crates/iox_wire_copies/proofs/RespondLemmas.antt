@@ -30,7 +30,7 @@ use Rattle.iox_wire_copies.specs.declared.at.CopierAt.{CopierAt}
 use Rattle.iox_wire_copies.specs.declared.at.CopierAt.TheVariants as at
 use Rattle.iox_wire_copies.specs.declared.at.CopyLent.TheVariants as lent
 use Rattle.iox_wire_copies.specs.declared.at.ResponseCopyReply.{ResponseCopyReply}
-use Rattle.iox_wire_copies.specs.declared.at.ResponseCopyReply.TheVariants as copy_replies
+use Rattle.iox_wire_request_sends.specs.Loans as loans
 use Rattle.iox_wire_copies.specs.Copies.{CopyLoan}
 use Rattle.iox_wire_copies.specs.CopyAims as copies
 use Rattle.iox_wire_copies.specs.CopyAims.{IsSameCopy}
@@ -95,13 +95,13 @@ send_starts p x loan q lends on begun aim = record {
 }
 
 -- it has none, and is over
-pub send_ends : (p : Setting) (x y : Placed) (loan : Entry) (q t : Dispatch) (lends : CopyLoan) (reply : RespondReply)
+pub send_ends : (p : Setting) (x y : Placed) (loan : Entry) (q t : Dispatch) (lends : CopyLoan) (reply : RespondReply) (told : ResponseCopyReply) → reply_in told ≡ dispatches.reply_in reply
     → placed x.seat q.local ≡ sends p x.seat loan true → placed y.seat t.local ≡ after p (placed x.seat q.local)
     → answered p (placed x.seat q.local) ≡ Some (dispatches.reply_in reply) → t.local ≡ Idle
-    → LeadsTo p x.seat loan y (record { at = at.Rest; local = Idle; lends = lends; sends = t }) (Some (copy_replies.OfSend reply))
-send_ends p x y loan q t lends reply begun led told over = record {
+    → LeadsTo p x.seat loan y (record { at = at.Rest; local = Idle; lends = lends; sends = t }) (Some told)
+send_ends p x y loan q t lends reply told says begun led answered_so over = record {
   next = ap (placed y.seat) (sym over) ∙ led ∙ ap (after p) begun;
-  over = sym (ap (answered p) begun) ∙ told;
+  over = sym (ap (answered p) begun) ∙ answered_so ∙ ap (λ a. Some a) (sym says);
   aimed = tt;
 }
 
@@ -138,10 +138,10 @@ refused_next x y r s k seen reply lends local rests led p aim =
     ap (placed y.seat) (local ∙ sym (it_rests k.local rests))
     ∙ (led p (aimed_lends p x.seat r lends aim).0).0 ∙ ap (λ (l : Local). next p (placed x.seat l) seen) (sym lends.local)
 
-pub refused_over : (x y : Placed) (r : ResponseCopy) (k : CopyLoan) (seen : ℕ) (reply : LendReply) → Lends r
-    → copies.GoesOn x r.lends seen y k (Some (lent.Refused reply)) → Answers x r seen (Some (copy_replies.OfLoan reply))
-refused_over x y r k seen reply lends led p aim =
-    ap (λ (l : Local). tells p (placed x.seat l) seen) lends.local ∙ (led p (aimed_lends p x.seat r lends aim).0).1
+pub refused_over : (x y : Placed) (r : ResponseCopy) (k : CopyLoan) (seen : ℕ) (reply : LendReply) (told : ResponseCopyReply) → reply_in told ≡ loans.reply_in reply → Lends r
+    → copies.GoesOn x r.lends seen y k (Some (lent.Refused reply)) → Answers x r seen (Some told)
+refused_over x y r k seen reply told says lends led p aim =
+    ap (λ (l : Local). tells p (placed x.seat l) seen) lends.local ∙ (led p (aimed_lends p x.seat r lends aim).0).1 ∙ ap (λ a. Some a) (sym says)
 
 -- the loan is made, and sent
 made_way : (o : Order) (loan : Entry) → loan ≡ entry_in (loan_of o) loan.slot → state_in loan ≡ way_of o
@@ -175,9 +175,9 @@ pub sends_on : (x : Placed) (r : ResponseCopy) (seen : ℕ) → Sends r → resp
 sends_on x r seen sends_now over p aim =
     ap (λ (l : Local). tells p (placed x.seat l) seen) sends_now.local ∙ over p (aimed_sends p x.seat r sends_now aim)
 
-pub sends_over : (x : Placed) (r : ResponseCopy) (seen : ℕ) (reply : RespondReply) → Sends r → responses.Answers x r.sends seen (Some reply) → Answers x r seen (Some (copy_replies.OfSend reply))
-sends_over x r seen reply sends_now over p aim =
-    ap (λ (l : Local). tells p (placed x.seat l) seen) sends_now.local ∙ over p (aimed_sends p x.seat r sends_now aim)
+pub sends_over : (x : Placed) (r : ResponseCopy) (seen : ℕ) (reply : RespondReply) (told : ResponseCopyReply) → reply_in told ≡ dispatches.reply_in reply → Sends r → responses.Answers x r.sends seen (Some reply) → Answers x r seen (Some told)
+sends_over x r seen reply told says sends_now over p aim =
+    ap (λ (l : Local). tells p (placed x.seat l) seen) sends_now.local ∙ over p (aimed_sends p x.seat r sends_now aim) ∙ ap (λ a. Some a) (sym says)
 
 pub sends_aimed : (x y : Placed) (r s : ResponseCopy) → Sends r → s.at ≡ at.Sends → IsSameSend r.sends s.sends → StaysAimed x r y s
 sends_aimed x y r s sends_now at' same p aim of_slot =

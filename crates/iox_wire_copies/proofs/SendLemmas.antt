@@ -29,7 +29,8 @@ use Rattle.iox_wire_copies.specs.declared.at.CopierAt.{CopierAt}
 use Rattle.iox_wire_copies.specs.declared.at.CopierAt.TheVariants as at
 use Rattle.iox_wire_copies.specs.declared.at.CopyLent.TheVariants as lent
 use Rattle.iox_wire_copies.specs.declared.at.CopyReply.{CopyReply}
-use Rattle.iox_wire_copies.specs.declared.at.CopyReply.TheVariants as copy_replies
+use Rattle.iox_wire_request_sends.specs.Loans as loans
+use Rattle.iox_wire_request_sends.specs.RequestDispatches as dispatches
 use Rattle.iox_wire_copies.specs.Copies.{CopyLoan, StoresOrder}
 use Rattle.iox_wire_copies.specs.CopyAims as copies
 use Rattle.iox_wire_copies.specs.CopyAims.{HasSamePeers, IsSameCopy}
@@ -108,12 +109,12 @@ send_starts p x loan q lends on begun aim = record {
 }
 
 -- it has none, and is over
-pub send_ends : (p : Setting) (x y : Placed) (loan : Entry) (q t : RequestDispatch) (lends : CopyLoan) (reply : RequestReply)
+pub send_ends : (p : Setting) (x y : Placed) (loan : Entry) (q t : RequestDispatch) (lends : CopyLoan) (reply : RequestReply) (told : CopyReply) → reply_in told ≡ dispatches.reply_in reply
     → placed x.seat q.local ≡ sends p x.seat loan true → requests.LeadsTo p (placed x.seat q.local) y t (Some reply) → is_busy t.local ≡ false
-    → LeadsTo p x.seat loan y (record { at = at.Rest; local = Idle; lends = lends; sends = t }) (Some (copy_replies.OfSend reply))
-send_ends p x y loan q t lends reply begun leads rests = record {
+    → LeadsTo p x.seat loan y (record { at = at.Rest; local = Idle; lends = lends; sends = t }) (Some told)
+send_ends p x y loan q t lends reply told says begun leads rests = record {
   next = ap (placed y.seat) (sym (it_rests t.local rests)) ∙ leads.next ∙ ap (after p) begun;
-  over = sym (ap (answered p) begun) ∙ leads.over;
+  over = sym (ap (answered p) begun) ∙ leads.over ∙ ap (λ a. Some a) (sym says);
   aimed = tt;
 }
 
@@ -159,10 +160,10 @@ refused_next x y r s k seen reply lends local rests led p aim =
     ap (placed y.seat) (local ∙ sym (it_rests k.local rests))
     ∙ (led p (aimed_lends p x.seat r lends aim).0).0 ∙ ap (λ (l : Local). next p (placed x.seat l) seen) (sym lends.local)
 
-pub refused_over : (x y : Placed) (r : CopyCall) (k : CopyLoan) (seen : ℕ) (reply : LendReply) → Lends r
-    → copies.GoesOn x r.lends seen y k (Some (lent.Refused reply)) → Answers x r seen (Some (copy_replies.OfLoan reply))
-refused_over x y r k seen reply lends led p aim =
-    ap (λ (l : Local). tells p (placed x.seat l) seen) lends.local ∙ (led p (aimed_lends p x.seat r lends aim).0).1
+pub refused_over : (x y : Placed) (r : CopyCall) (k : CopyLoan) (seen : ℕ) (reply : LendReply) (told : CopyReply) → reply_in told ≡ loans.reply_in reply → Lends r
+    → copies.GoesOn x r.lends seen y k (Some (lent.Refused reply)) → Answers x r seen (Some told)
+refused_over x y r k seen reply told says lends led p aim =
+    ap (λ (l : Local). tells p (placed x.seat l) seen) lends.local ∙ (led p (aimed_lends p x.seat r lends aim).0).1 ∙ ap (λ a. Some a) (sym says)
 
 -- the loan is made, and sent
 pub made_leads : (p : Setting) (x y z : Placed) (r s : CopyCall) (k : CopyLoan) (seen : ℕ) (result : Option CopyReply) → Lends r
@@ -198,9 +199,9 @@ pub sends_on : (x : Placed) (r : CopyCall) (seen : ℕ) → Sends r → requests
 sends_on x r seen sends_now over p aim =
     ap (λ (l : Local). tells p (placed x.seat l) seen) sends_now.local ∙ over p (aimed_sends p x.seat r sends_now aim)
 
-pub sends_over : (x : Placed) (r : CopyCall) (seen : ℕ) (reply : RequestReply) → Sends r → requests.Answers x r.sends seen (Some reply) → Answers x r seen (Some (copy_replies.OfSend reply))
-sends_over x r seen reply sends_now over p aim =
-    ap (λ (l : Local). tells p (placed x.seat l) seen) sends_now.local ∙ over p (aimed_sends p x.seat r sends_now aim)
+pub sends_over : (x : Placed) (r : CopyCall) (seen : ℕ) (reply : RequestReply) (told : CopyReply) → reply_in told ≡ dispatches.reply_in reply → Sends r → requests.Answers x r.sends seen (Some reply) → Answers x r seen (Some told)
+sends_over x r seen reply told says sends_now over p aim =
+    ap (λ (l : Local). tells p (placed x.seat l) seen) sends_now.local ∙ over p (aimed_sends p x.seat r sends_now aim) ∙ ap (λ a. Some a) (sym says)
 
 pub sends_aimed : (x y : Placed) (r s : CopyCall) → Sends r → s.at ≡ at.Sends → requests.StaysAimed x r.sends y s.sends → StaysAimed x r y s
 sends_aimed x y r s sends_now at' stays p aim of_slot =

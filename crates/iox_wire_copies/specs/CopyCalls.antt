@@ -1,6 +1,7 @@
 -- The call of a client that copies a request, and what a step of it does.
 use Rattle.std.specs.Prelude.{◌≡◌, ◌+◌, ◌<◌, ◌^◌, ℕ, true, Option, option_map}
 use Rattle.iox_model.specs.Commands.{Reply}
+use Rattle.iox_model.specs.declared.reply.Reply.TheVariants as replies
 use Rattle.iox_model.specs.Handles.{is_request_loan}
 use Rattle.iox_model.specs.Peers.{others}
 use Rattle.iox_model.specs.declared.kind.Kind.TheVariants.{RequestMut}
@@ -12,6 +13,7 @@ use Rattle.iox_wire_locals.specs.declared.local.Local.TheVariants.{Ends, Idle, L
 use Rattle.iox_wire_locals.specs.declared.seat.Seat.{Seat}
 use Rattle.iox_wire_locals.specs.declared.table.Entry.{Entry}
 use Rattle.iox_wire_locals.specs.Courses.{placed, sends}
+use Rattle.iox_wire_locals.specs.Doings.{refusal_of}
 use Rattle.iox_wire_locals.specs.Known.{known}
 use Rattle.iox_wire_locals.specs.Lendings.{next_handle}
 use Rattle.iox_wire_locals.specs.Steps.{next, tells}
@@ -19,11 +21,9 @@ use Rattle.iox_wire_locals.specs.Tables.{Setting}
 use Rattle.iox_wire_seats.specs.Lends.{MayLend}
 use Rattle.iox_wire_seats.specs.Seats.{Placed}
 use Rattle.iox_wire_request_sends.specs.WireLoansAims.{GetsBackUsed, TellsOfSlot, after, answered}
-use Rattle.iox_wire_request_sends.specs.Loans as loans
 use Rattle.iox_wire_request_sends.specs.Order.{Order}
 use Rattle.iox_wire_request_sends.specs.Aims as requests
 use Rattle.iox_wire_request_sends.specs.Aims.{FindsAt, IsToldOf}
-use Rattle.iox_wire_request_sends.specs.RequestDispatches as dispatches
 use Rattle.iox_wire_request_sends.specs.RequestDispatches.{RequestDispatch}
 use Rattle.iox_wire_request_sends.specs.Targets.{AreTargets, servers_of}
 use Rattle.iox_wire_copies.specs.declared.at.CopierAt.{CopierAt}
@@ -44,10 +44,11 @@ pub record CopyCall : Type 0 where
   pub lends : CopyLoan
   pub sends : RequestDispatch
 
--- the machine's name of a reply: the loan's if that is refused, else the send's
+-- the machine's name of a reply
 abbrev pub reply_in : CopyReply → Reply
-reply_in (copy_replies.OfLoan reply) = loans.reply_in reply
-reply_in (copy_replies.OfSend reply) = dispatches.reply_in reply
+reply_in (copy_replies.Handle number) = replies.Handle number
+reply_in (copy_replies.Sent count) = replies.Sent count
+reply_in (copy_replies.Refused r) = replies.Refused (refusal_of r)
 
 -- ---- what it keeps to
 

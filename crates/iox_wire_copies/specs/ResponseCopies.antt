@@ -1,6 +1,7 @@
 -- The call of a server that copies a response, and what a step of it does.
 use Rattle.std.specs.Prelude.{◌≡◌, ℕ, true, Option, option_map}
 use Rattle.iox_model.specs.Commands.{Reply}
+use Rattle.iox_model.specs.declared.reply.Reply.TheVariants as replies
 use Rattle.iox_model.specs.Messages.{response_way}
 use Rattle.iox_model.specs.declared.kind.Kind.TheVariants.{ResponseMut}
 use Rattle.iox_model.specs.declared.way.Way.{Way}
@@ -11,17 +12,16 @@ use Rattle.iox_wire_locals.specs.declared.local.Local.TheVariants.{Ends, Idle}
 use Rattle.iox_wire_locals.specs.declared.seat.Seat.{Seat}
 use Rattle.iox_wire_locals.specs.declared.table.Entry.{Entry}
 use Rattle.iox_wire_locals.specs.Courses.{placed, sends}
+use Rattle.iox_wire_locals.specs.Doings.{refusal_of}
 use Rattle.iox_wire_locals.specs.Steps.{next, tells}
 use Rattle.iox_wire_locals.specs.Tables.{Setting, state_in}
 use Rattle.iox_wire_seats.specs.Desks.{IsUsed}
 use Rattle.iox_wire_seats.specs.Lends.{MayLend}
 use Rattle.iox_wire_seats.specs.Seats.{Placed}
 use Rattle.iox_wire_request_sends.specs.WireLoansAims.{GetsBackUsed, TellsOfSlot, after, answered}
-use Rattle.iox_wire_request_sends.specs.Loans as loans
 use Rattle.iox_wire_request_sends.specs.Order.{Order}
 use Rattle.iox_wire_sends.specs.Aims as responses
 use Rattle.iox_wire_sends.specs.Aims.{FindsAt, IsToldOf, MayCountMade}
-use Rattle.iox_wire_sends.specs.Dispatches as dispatches
 use Rattle.iox_wire_sends.specs.Dispatches.{Dispatch}
 use Rattle.iox_wire_sends.specs.declared.terms.ResponseTerms.{ResponseTerms}
 use Rattle.iox_wire_copies.specs.declared.at.CopierAt.{CopierAt}
@@ -42,10 +42,11 @@ pub record ResponseCopy : Type 0 where
   pub lends : CopyLoan
   pub sends : Dispatch
 
--- the machine's name of a reply: the loan's if that is refused, else the send's
+-- the machine's name of a reply
 abbrev pub reply_in : ResponseCopyReply → Reply
-reply_in (copy_replies.OfLoan reply) = loans.reply_in reply
-reply_in (copy_replies.OfSend reply) = dispatches.reply_in reply
+reply_in copy_replies.Done = replies.Done
+reply_in (copy_replies.Handle number) = replies.Handle number
+reply_in (copy_replies.Refused r) = replies.Refused (refusal_of r)
 
 -- ---- what it keeps to
 

@@ -1,6 +1,6 @@
 //! Where a copy is, and what it answers as it is over.
-use iox_wire_request_sends::{LendReply, RequestReply};
-use iox_wire_sends::RespondReply;
+use iox_wire_locals::CallRefusal;
+use iox_wire_request_sends::LendReply;
 
 /// Where the loan of a copy is, without what belongs to it.
 #[derive(Clone, Copy)]
@@ -31,20 +31,22 @@ pub enum CopierAt {
     Sends,
 }
 
-/// What the copy of a request answers.
+/// What the copy of a request answers. Whether its loan or its send is refused is not told apart.
 #[derive(Clone, Copy)]
 pub enum CopyReply {
-    /// Its loan is refused.
-    OfLoan(LendReply),
-    /// What the send of its loan answers.
-    OfSend(RequestReply),
+    /// The request is sent: its pending response has that number.
+    Handle(u64),
+    /// The request is sent to so many servers. That is the answer of a send alone: no copy gives it.
+    Sent(u64),
+    Refused(CallRefusal),
 }
 
-/// What the copy of a response answers.
+/// What the copy of a response answers. Whether its loan or its send is refused is not told apart.
 #[derive(Clone, Copy)]
 pub enum ResponseCopyReply {
-    /// Its loan is refused.
-    OfLoan(LendReply),
-    /// What the send of its loan answers.
-    OfSend(RespondReply),
+    /// It is sent, or nobody waits for it.
+    Done,
+    /// The loan has that number. That is the answer of a loan alone: no copy gives it.
+    Handle(u64),
+    Refused(CallRefusal),
 }

@@ -10,7 +10,7 @@ use crate::at::{CopierAt, CopyReply};
 use crate::copy_lending::CopyLending;
 use iox_steps::Access;
 use iox_wire_locals::CallRefusal;
-use iox_wire_request_sends::{LendReply, Requesting};
+use iox_wire_request_sends::Requesting;
 use iox_wire_seats::StoredSeat;
 use std::alloc::{AllocError, Global};
 use std::marker::Model;
@@ -119,7 +119,7 @@ impl CopyingClient {
             CopierAt::Refuses => {
                 seat.count_access();
                 self.at = CopierAt::Rest;
-                Some(CopyReply::OfLoan(LendReply::Refused(CallRefusal::WrongLength)))
+                Some(CopyReply::Refused(CallRefusal::WrongLength))
             }
             CopierAt::Lends => self.lend_on(seat, seen),
             CopierAt::Sends => self.send_on(seat, seen),

@@ -10,7 +10,6 @@ use crate::at::{CopierAt, ResponseCopyReply};
 use crate::copy_lending::CopyLending;
 use iox_steps::Access;
 use iox_wire_locals::CallRefusal;
-use iox_wire_request_sends::LendReply;
 use iox_wire_seats::StoredSeat;
 use iox_wire_sends::Responding;
 use std::alloc::{AllocError, Global};
@@ -118,7 +117,7 @@ impl CopyingServer {
             CopierAt::Refuses => {
                 seat.count_access();
                 self.at = CopierAt::Rest;
-                Some(ResponseCopyReply::OfLoan(LendReply::Refused(CallRefusal::WrongLength)))
+                Some(ResponseCopyReply::Refused(CallRefusal::WrongLength))
             }
             CopierAt::Lends => self.lend_on(seat, seen),
             CopierAt::Sends => self.send_on(seat, seen),

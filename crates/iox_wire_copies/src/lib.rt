@@ -7,6 +7,7 @@ mod copy_lending;
 mod copying_client;
 mod copying_server;
 mod payload_places;
+mod told;
 mod uses;
 mod worked;
 

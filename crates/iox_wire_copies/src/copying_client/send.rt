@@ -3,6 +3,7 @@ ghost use Rattle.std.specs.Prelude.{◌≡◌};
 
 use super::CopyingClient;
 use crate::at::{CopierAt, CopyLent, CopyReply};
+use crate::told::{request_lent, request_sent};
 use iox_wire_locals::Entry;
 use iox_wire_seats::StoredSeat;
 
@@ -44,7 +45,7 @@ impl CopyingClient {
             }
             Some(CopyLent::Refused(reply)) => {
                 self.at = CopierAt::Rest;
-                Some(CopyReply::OfLoan(reply))
+                Some(request_lent(reply))
             }
             Some(CopyLent::Made) => {
                 self.at = CopierAt::Rest;
@@ -82,7 +83,7 @@ impl CopyingClient {
             None => None,
             Some(reply) => {
                 self.at = CopierAt::Rest;
-                Some(CopyReply::OfSend(reply))
+                Some(request_sent(reply))
             }
         }
     }
@@ -107,7 +108,7 @@ impl CopyingClient {
             None => None,
             Some(reply) => {
                 self.at = CopierAt::Rest;
-                Some(CopyReply::OfSend(reply))
+                Some(request_sent(reply))
             }
         }
     }

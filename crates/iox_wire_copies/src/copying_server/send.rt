@@ -3,6 +3,7 @@ ghost use Rattle.std.specs.Prelude.{◌≡◌};
 
 use super::CopyingServer;
 use crate::at::{CopierAt, CopyLent, ResponseCopyReply};
+use crate::told::{response_lent, response_sent};
 use iox_wire_locals::Entry;
 use iox_wire_seats::StoredSeat;
 
@@ -40,7 +41,7 @@ impl CopyingServer {
             None => None,
             Some(CopyLent::Refused(reply)) => {
                 self.at = CopierAt::Rest;
-                Some(ResponseCopyReply::OfLoan(reply))
+                Some(response_lent(reply))
             }
             Some(CopyLent::Made) => {
                 self.at = CopierAt::Rest;
@@ -72,7 +73,7 @@ impl CopyingServer {
         if self.sends.is_ending() {
             let reply = self.sends.tell(seat);
             self.at = CopierAt::Rest;
-            return Some(ResponseCopyReply::OfSend(reply));
+            return Some(response_sent(reply));
         }
         self.at = CopierAt::Sends;
         None
@@ -98,7 +99,7 @@ impl CopyingServer {
             None => None,
             Some(reply) => {
                 self.at = CopierAt::Rest;
-                Some(ResponseCopyReply::OfSend(reply))
+                Some(response_sent(reply))
             }
         }
     }

@@ -33,4 +33,4 @@ returns-in-Some-clause-next c p knows number =
     let leads : requests.LeadsTo p (placed c.args.seat.now.seat c.start.new.self.local) c.tell.new.seat c.tell.new.self (Some c.in-Some.reply) =
     subst (λ (o : Option RequestReply). requests.LeadsTo p (placed c.args.seat.now.seat c.start.new.self.local) c.tell.new.seat c.tell.new.self o) c.in-Some.is
     (c.tell.ensures.next p (known_at_end p c.args.seat.now.seat c.start.new.self c.start.new.self.local (sym c.is_ending.ensures ∙ c.if-not-is_ending.false) aim)) in
-    send_ends p c.args.seat.now c.tell.new.seat c.args.loan c.start.new.self c.tell.new.self c.self.inside.lends c.in-Some.reply begun leads (c.tell.ensures.leaves.busy ∙ ap is_none c.in-Some.is)
+    send_ends p c.args.seat.now c.tell.new.seat c.args.loan c.start.new.self c.tell.new.self c.self.inside.lends c.in-Some.reply c.request_sent.result c.request_sent.ensures begun leads (c.tell.ensures.leaves.busy ∙ ap is_none c.in-Some.is)

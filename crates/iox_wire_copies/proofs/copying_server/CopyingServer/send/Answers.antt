@@ -10,7 +10,7 @@ pub returns-then-is_ending-clause-next : goal.returns-then-is_ending-clause-next
 returns-then-is_ending-clause-next c p knows =
     let told : IsToldOf p c.args.loan c.self.inside.sends.terms = subst (λ (r : ResponseCopy). IsToldOf p c.args.loan r.sends.terms) (sym c.self.view_is) knows in
     let begun : placed c.args.seat.now.seat c.start.new.self.local ≡ sends p c.args.seat.now.seat c.args.loan true = c.start.ensures.begun p told in
-    send_ends p c.args.seat.now c.tell-reply.new.seat c.args.loan c.start.new.self c.tell-reply.new.self c.self.inside.lends c.tell-reply.result begun (c.tell-reply.ensures.next p) (c.tell-reply.ensures.reply p) c.tell-reply.ensures.over
+    send_ends p c.args.seat.now c.tell-reply.new.seat c.args.loan c.start.new.self c.tell-reply.new.self c.self.inside.lends c.tell-reply.result c.response_sent.result c.response_sent.ensures begun (c.tell-reply.ensures.next p) (c.tell-reply.ensures.reply p) c.tell-reply.ensures.over
 
 pub returns-clause-next : goal.returns-clause-next
 returns-clause-next c p knows =
