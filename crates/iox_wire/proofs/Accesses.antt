@@ -47,12 +47,12 @@ module _ (p : Setting) (x z : Node) (same : x ≡ z) (words : List ℕ) (may : M
         → HasGoneOn p z words reply y
     has_gone_on y reply goes over own ready stays room there = record {
       went = record {
+        call = there ∙ ap (λ (k : Node). k.at) same;
         next_is = goes p aimed_here ∙ ap₂ (λ (k : Node) s. next p (seat_in k) s) same its_word;
         told = sym (ap₂ (λ (k : Node) s. tells p (seat_in k) s) same its_word) ∙ over p aimed_here;
         aimed = λ pools. stays p aimed_here (tells_of_pools p y.at (seat_in y).local pools);
         room = (subst (λ (k : Node). KeepsRoom k.seat y.seat) same room).handles;
       };
-      at = there ∙ ap (λ (k : Node). k.at) same;
       own = subst (λ (k : Node). IfSome reply (λ r. answered_at r ≡ k.at)) same own;
       ready = subst (λ (k : Node). StaysReady k reply y) same ready p may.aimed;
     }

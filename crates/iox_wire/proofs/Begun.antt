@@ -28,7 +28,7 @@ use Rattle.iox_wire_weaves.specs.MessageBegins.{WordsAreWhole}
 use Rattle.iox_wire_weaves.specs.NodeCall.{NodeCall}
 use Rattle.iox_wire_weaves.specs.NodeCall.TheVariants.{Handle, HasRequests, Loan, Receive, Send, SendCopy, Write}
 use Rattle.iox_wire_weaves.specs.Nodes.{Node, seat_at, seat_in}
-use Rattle.iox_wire_weaves.specs.NodesBegins.{AddsHandle, IsUnderWay, MayBegin}
+use Rattle.iox_wire_weaves.specs.NodesBegins.{AddsHandle, IsUnderWay, MayBegin, begun_at}
 use Rattle.iox_wire_weaves.specs.Replies.{call_within}
 use Rattle.iox_wire_weaves.specs.Runs.{GoesOnBy, Run}
 use Rattle.iox_wire_weaves.specs.Seat.{Seat}
@@ -135,12 +135,13 @@ rests_if p x call allowed =
 pub has_begun : (plan : WirePlan) (terms : WireTerms) (old : WireNode) (call : NodeCall) (events : ℕ) (mid new : WireNode)
     → (p : Setting) × IsSettingWith plan terms p
     → ((p : Setting) → IsSettingWith plan terms p → IsUnderWay p old.node (Port (call_in p (seat_in old.node) call)) mid.node)
-    → (AddsHandle mid.node.at → may_add_handle call ≡ true) → IsKeptAt (call_in_words call) mid.node.at → (may_add_handle call ≡ true → 0 < old.node.seat.room)
+    → (AddsHandle mid.node.at → may_add_handle call ≡ true) → IsKeptAt (call_in_words call) mid.node.at
+    → ((p : Setting) → mid.node.at ≡ begun_at old.node.seat.seat.table (Port (call_in p (seat_in old.node) call))) → (may_add_handle call ≡ true → 0 < old.node.seat.room)
     → (is_busy (seat_in old.node).local ≡ false → 0 < old.node.seat.room → (p : Setting) → IsSettingWith plan terms p → (port : ℕ)
     → MayLend old.node.seat (next_handle p old.node.seat.seat) port)
     → KeepsRooms old.node mid.node → mid.number ≡ old.number → LivesAs old mid → mid.read ≡ old.read
     → new ≡ record mid { call = Some (record { call = call_within mid.longest (words_call call); begun = events }) } → HasBegun plan terms old call events new
-has_begun plan terms old call events mid new set begun adds there room lends rooms number lives read keeps =
+has_begun plan terms old call events mid new set begun adds there by_role room lends rooms number lives read keeps =
     let way : IsUnderWay set.0 old.node (Port (call_in set.0 (seat_in old.node) call)) mid.node = begun set.0 set.1 in
     let rests : is_busy (seat_in old.node).local ≡ false = rests_if set.0 (seat_in old.node) (Port (call_in set.0 (seat_in old.node) call)) way.allowed in
     let same : mid.node ≡ new.node = sym (ap (λ (x : WireNode). x.node) keeps) in
@@ -148,6 +149,7 @@ has_begun plan terms old call events mid new set begun adds there room lends roo
       begun = λ p setting. subst (λ (x : Node). IsUnderWay p old.node (Port (call_in p (seat_in old.node) call)) x) same (begun p setting);
       ready = subst (λ (x : Node). MayAdd x.at x) same (way.ready.may (λ more. lends rests (room (adds more)) set.0 set.1));
       at = subst (λ (x : Node). IsKeptAt (call_in_words call) x.at) same there;
+      role = λ p. ap (λ (x : Node). x.at) (sym same) ∙ by_role p;
       rooms = subst (λ (x : Node). KeepsRooms old.node x) same rooms;
       number = ap (λ (x : WireNode). x.number) keeps ∙ number;
       lives = record {
@@ -233,7 +235,7 @@ module _ (w : WireData) (n i : ℕ) (d : WireNode) (at : position (λ x. x.numbe
         (sym ((calls_are_said p w r n d call shows there).1 alive way.allowed).0)
         (begins_show p w (Now y) r n d y (Port own) shows
         (own_refusal alive ∙ way.allowed) (words_are_whole p (seat_in d.node) call) (omega (arith, few)) (replaced n w.nodes i d y at read has.number) has.lives
-        way.begun (λ pools. way.aimed (tells_of_pools p y.node.at (seat_in y.node).local pools)) refl refl refl refl refl
+        way.begun (has.role p) (λ pools. way.aimed (tells_of_pools p y.node.at (seat_in y.node).local pools)) refl refl refl refl refl
         (has.kept ∙ ap₂ (λ c k. Some (record { call = call_within d.longest c; begun = k })) (call_words p (seat_in d.node) call) count))
 
   pub shown_begun : (call : NodeCall) (y : WireNode) (events : ℕ) → events ≡ length w.events → IsShown w → living_refusal w.nodes n ≡ None

@@ -17,6 +17,7 @@ use Rattle.iox_model.specs.States.{State}
 use Rattle.iox_word_map.specs.WordMaps.{total_words}
 use Rattle.iox_wire_weaves.specs.WirePlan.{WirePlan}
 use Rattle.iox_wire_weaves.specs.Plans.{IsPlan, port_numbers, sizes_of}
+use Rattle.iox_wire_weaves.specs.Openings.{OverflowsWithRoom}
 use Rattle.iox_wire_weaves.specs.PlansOf.{IsSettingOf}
 use Rattle.iox_wire_weaves.specs.Tables.{Setting}
 use Rattle.iox_wire_weaves.specs.Laws.{IsFresh}
@@ -83,8 +84,8 @@ module _ (plan : WirePlan) (terms : WireTerms) (ns : List ℕ) (wire : WireData)
       events = events;
     }
 
-    pub shows_opened : ShowsOpened p s wire
-    shows_opened = wires_open plan terms ns p s wire is opens fresh
+    pub shows_opened : OverflowsWithRoom plan → ShowsOpened p s wire
+    shows_opened roomy = wires_open plan terms ns p s wire is roomy opens fresh
 
   -- calls may begin with the plan and the terms of a wire that is in memory
   wire_plan : (p : Setting) → IsSettingWith plan terms p → AreWhole plan terms → total_words (sizes_of plan) < 2 ^ 63 → IsWirePlan plan terms
@@ -97,7 +98,7 @@ module _ (plan : WirePlan) (terms : WireTerms) (ns : List ℕ) (wire : WireData)
 
   pub shown_opened : AreWhole plan terms → total_words (sizes_of plan) < 2 ^ 63 → terms.first_number < 2 ^ 63 → (p : Setting) × (s : State) × OpensOn plan terms ns p s → IsShown wire
   shown_opened whole low first o =
-      let shows : ShowsOpened o.0 o.1 wire = shows_opened o.0 o.1 o.2 in
+      let shows : ShowsOpened o.0 o.1 wire = shows_opened o.0 o.1 o.2 whole.room in
       record {
         shows = (o.0, shows.0, shows.4);
         whole = subst (λ q. IsWirePlan q wire.terms) (sym plan_is) (subst (IsWirePlan plan) (sym terms_are) (wire_plan o.0 o.2.told whole low));

@@ -7,9 +7,9 @@ use Rattle.std.proofs.lemmas.List.{append_assoc, drop-append-le, length-append, 
 use Rattle.std.proofs.lemmas.List.Elements.{All-head, All-tail, All-push, All-weaker}
 use Rattle.iox_model.specs.Schedules.{Finished}
 use Rattle.iox_wire_weaves.specs.Nodes.{reply_in}
-use Rattle.iox_wire.specs.Replies.{HasItsWords, HasWordsIfRead, IsSpan, call_with, finished_of, is_read, told_with, words_at, words_brought, words_call}
+use Rattle.iox_wire.specs.Replies.{HasItsWords, HasWordsIfRead, IsSpan, call_with, ended_of, is_read, told_call, told_with, words_at, words_brought}
 use Rattle.iox_wire.specs.declared.finished.Answer.{Answer}
-use Rattle.iox_wire.specs.declared.finished.FinishedCall.{FinishedCall}
+use Rattle.iox_wire.specs.declared.finished.EndedCall.{EndedCall}
 use Rattle.iox_wire.specs.declared.spans.Span.{Span}
 
 -- ---- a span
@@ -101,14 +101,14 @@ all_have_still ws more answers has = All-weaker (HasItsWords ws) (HasItsWords (w
 
 -- ---- one more
 
-module _ (ws : List ℕ) (answers : List Answer) (a : Answer) (f : FinishedCall) (has : All (HasItsWords ws) answers) where
+module _ (ws : List ℕ) (answers : List Answer) (a : Answer) (f : EndedCall) (has : All (HasItsWords ws) answers) where
   abbrev before : List ℕ
   before = ws ++ words_brought f.call
 
-  pub told_more : a.node ≡ f.node → call_with (words_brought f.call) a.call ≡ words_call f.call → a.reply ≡ f.reply → a.begun ≡ f.begun → a.ended ≡ f.ended
+  pub told_more : a.node ≡ f.node → call_with (words_brought f.call) a.call ≡ told_call f.call → a.reply ≡ f.reply → a.begun ≡ f.begun → a.ended ≡ f.ended
       → a.brought.start ≡ length ws → a.brought.end ≡ length ws + length (words_brought f.call)
       → a.read.start ≡ length before → a.read.end ≡ length before + length f.words.now
-      → map (told_with (before ++ f.words.now)) (answers ++ a ∷ []) ≡ map (told_with ws) answers ++ finished_of f ∷ []
+      → map (told_with (before ++ f.words.now)) (answers ++ a ∷ []) ≡ map (told_with ws) answers ++ ended_of f ∷ []
   told_more node call reply begun ended b_start b_end r_start r_end =
       map-append (told_with (before ++ f.words.now)) answers (a ∷ [])
       ∙ ap₂ (λ (xs : List Finished) x. xs ++ x ∷ [])

@@ -5,9 +5,8 @@ pub mod Members
 pub mod Accesses
 pub mod Recorded
 pub mod KeptWords
-pub mod KeptCalls
 pub mod GoingOn
-pub mod Told
+pub mod ToldByLaws
 pub mod Keeping
 pub mod OwnCalls
 pub mod Roomy

@@ -47,8 +47,9 @@ pub own_begun : (d y : WireNode) (call : NodeCall) (events : ℕ) → y.call ≡
 own_begun d y call events kept at busy =
     subst (λ (o : Option UnderWay). IfSome o (λ u. IsWireCallAt u.call y.node.at)) (sym kept) (within_kept d.longest (call_in_words call) y.node.at at)
 
--- what it answers is an answer to that call
+-- what it answers is an answer to that call, and of the call that it keeps
 pub own_answer : (d : WireNode) (reply : Option NodeReply) → IsAtItsCall d → is_busy (seat_in d.node).local ≡ true
-    → IfSome reply (λ r. answered_at r ≡ d.node.at) → IfSome reply (λ r. IfSome d.call (λ u. IsWireCallAt u.call (answered_at r)))
+    → IfSome reply (λ r. answered_at r ≡ d.node.at)
+    → IfSome reply (λ r. (answered_at r ≡ d.node.at) × IfSome d.call (λ u. IsWireCallAt u.call (answered_at r)))
 own_answer d None own busy told = tt
-own_answer d (Some r) own busy told = subst (λ (a : CallAt). IfSome d.call (λ u. IsWireCallAt u.call a)) (sym told) (own busy)
+own_answer d (Some r) own busy told = (told, subst (λ (a : CallAt). IfSome d.call (λ u. IsWireCallAt u.call a)) (sym told) (own busy))

@@ -100,9 +100,9 @@ module _ (w : WireData) (n i : ℕ) (m d : WireNode) (first : position (λ x. x.
     -- it is the call that the node has under way that answers
     pub owned : (reply : Option NodeReply) (z : WireNode)
         → ((p : Setting) (ws : List ℕ) → MayAccess p d.node ws → seen ≡ seen_at (access_in p d.node) ws → HasGoneOn p d.node ws reply z.node)
-        → IfSome (node_at n w.nodes) (λ x. IfSome reply (λ r. IfSome x.call (λ u. IsWireCallAt u.call (answered_at r))))
+        → IfSome (node_at n w.nodes) (λ x. IfSome reply (λ r. (answered_at r ≡ x.node.at) × IfSome x.call (λ u. IsWireCallAt u.call (answered_at r))))
     owned reply z gone =
-        subst (λ (o : Option WireNode). IfSome o (λ x. IfSome reply (λ r. IfSome x.call (λ u. IsWireCallAt u.call (answered_at r))))) (sym at_d)
+        subst (λ (o : Option WireNode). IfSome o (λ x. IfSome reply (λ r. (answered_at r ≡ x.node.at) × IfSome x.call (λ u. IsWireCallAt u.call (answered_at r))))) (sym at_d)
         (own_answer d reply (shown.own n d at_d) (steps_on w n d at_d goes).1
         (gone shown.shows.0 w.words (may_d shown.shows.0 shown.shows.1 shown.shows.2) (saw_d shown.shows.0 (may_d shown.shows.0 shown.shows.1 shown.shows.2))).own)
 

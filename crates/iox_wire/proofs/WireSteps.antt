@@ -34,7 +34,7 @@ use Rattle.iox_wire_weaves.specs.Rooms.{HasRoomToBegin, KeepsRooms}
 use Rattle.iox_wire.proofs.Keeping.{each_still, kept_on, kept_still}
 use Rattle.iox_wire.proofs.Roomy.{roomy_still}
 use Rattle.iox_wire.proofs.OwnCalls.{own_stepped}
-use Rattle.iox_wire.proofs.Told.{may, told, within}
+use Rattle.iox_wire.proofs.ToldByLaws.{may, told, within}
 use Rattle.iox_wire.proofs.Places.{read_there, replaced}
 
 -- what a wire shows has nothing to do with the room for what steps record
@@ -64,7 +64,7 @@ shown_with w room shown = record {
 -- nor has the access of a node
 pub access_with : (w : WireData) (n room : ℕ) (new : WireData) → MakesItsAccess (record w { room = room }) n new → MakesItsAccess w n new
 access_with w n room new makes p r shows =
-    let m = makes p r (shows_with p w r room shows) in record { setting = record { plan = m.setting.plan; terms = m.setting.terms }; words = m.words; node = m.node; handles = m.handles; others = m.others }
+    let m = makes p r (shows_with p w r room shows) in record { setting = record { plan = m.setting.plan; terms = m.setting.terms }; words = m.words; node = m.node; call = m.call; handles = m.handles; others = m.others }
 
 pub woven_with : (w : WireData) (n room : ℕ) (progress : Progress NodeReply) (new : WireData) → StepIsWoven (record w { room = room }) n progress new → StepIsWoven w n progress new
 woven_with w n room progress new woven p r shows = woven p r (shows_with p w r room shows)
@@ -146,7 +146,7 @@ module _ (w : WireData) (n i : ℕ) (d : WireNode) (at : position (λ x. x.numbe
         kept = kept_still w.nodes n d y (slice_set w.nodes i y) (replaced n w.nodes i d y at read is.number) shown.kept
             (kept_on p d.node y.node (seen_at (access_in p d.node) w.words) reply kept rests.1 rests.2 made.gone.went made.gone.ready);
         own = each_still IsAtItsCall w.nodes n d y (slice_set w.nodes i y) (replaced n w.nodes i d y at read is.number) shown.own
-            (own_stepped d y reply (shown.own n d there) rests.1 made.gone.at is.call);
+            (own_stepped d y reply (shown.own n d there) rests.1 made.gone.went.call is.call);
         rooms = roomy_still w.plan w.nodes n d y (slice_set w.nodes i y) (replaced n w.nodes i d y at read is.number) shown.rooms is.rooms;
       }
 

@@ -7,7 +7,7 @@ use Rattle.iox_wire_weaves.specs.Calls.{IsKeptAt, call_in, call_in_words, may_ad
 use Rattle.iox_wire_weaves.specs.Laws.{LivesAs}
 use Rattle.iox_wire_weaves.specs.NodeCall.{NodeCall}
 use Rattle.iox_wire_weaves.specs.Nodes.{seat_in}
-use Rattle.iox_wire_weaves.specs.NodesBegins.{IsUnderWay}
+use Rattle.iox_wire_weaves.specs.NodesBegins.{IsUnderWay, begun_at}
 use Rattle.iox_wire_weaves.specs.Replies.{call_within}
 use Rattle.iox_wire_weaves.specs.Rooms.{KeepsRooms}
 use Rattle.iox_wire_weaves.specs.Tables.{Setting}
@@ -22,13 +22,15 @@ use Rattle.iox_wire.specs.Replies.{words_call}
 
 -- The node began the call, after so many events: it is at its first place, knows the places of the words
 -- that it accesses, has room for what the call adds at its end, and for other calls as before, and keeps
--- the call.
+-- the call, as its name, its loan or its payload tells.
 pub record HasBegun (plan : WirePlan) (terms : WireTerms) (old : WireNode) (call : NodeCall)
     (events : ℕ) (new : WireNode) : Type 0 where
   pub begun : (p : Setting) → IsSettingWith plan terms p
       → IsUnderWay p old.node (Port (call_in p (seat_in old.node) call)) new.node
   pub ready : MayAdd new.node.at new.node
   pub at : IsKeptAt (call_in_words call) new.node.at
+  pub role : (p : Setting) → new.node.at
+      ≡ begun_at old.node.seat.seat.table (Port (call_in p (seat_in old.node) call))
   pub rooms : KeepsRooms old.node new.node
   pub number : new.number ≡ old.number
   pub lives : LivesAs old new

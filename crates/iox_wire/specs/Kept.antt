@@ -132,7 +132,6 @@ pub record HasGoneOn (p : Setting) (x : Node) (words : List ℕ) (reply : Option
     : Type 0 where
   pub went : WentOn p x (seen_at (access_in p x) words) reply y
   pub own : IfSome reply (λ r. answered_at r ≡ x.at)
-  pub at : y.at ≡ x.at
   pub ready : reply ≡ None → MayAdd x.at x → MayAdd y.at y
 
 -- its access found this in words where it may make it

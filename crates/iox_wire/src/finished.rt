@@ -1,7 +1,8 @@
 //! The finished calls of a wire.
 use crate::spans::{Span, words_there, write_behind};
 use crate::stored_call::{StoredCall, words_of};
-use iox_wire_weaves::{NodeCall, NodeReply};
+use crate::told::{ToldCall, ToldReply, reply_told};
+use iox_wire_weaves::NodeReply;
 use std::alloc::{AllocError, Global};
 use std::marker::Model;
 
@@ -10,13 +11,22 @@ use std::marker::Model;
 pub struct FinishedCall<'a> {
     pub node: u64,
     /// With the first of its words, if they are more than the longest message of the wire has.
-    pub call: NodeCall<'a>,
-    pub reply: NodeReply,
-    /// What a read answered; no other answers words.
-    pub words: &'a [u64],
+    pub call: ToldCall<'a>,
+    pub reply: ToldReply<'a>,
     /// How many events came before its begin.
     pub begun: usize,
     /// How many events came before its end.
+    pub ended: usize,
+}
+
+/// A call of a node as it ends, with what its node answers, and the words that a read loaded.
+#[derive(Clone, Copy)]
+pub(crate) struct EndedCall<'a> {
+    pub node: u64,
+    pub call: ToldCall<'a>,
+    pub reply: NodeReply,
+    pub words: &'a [u64],
+    pub begun: usize,
     pub ended: usize,
 }
 
@@ -24,7 +34,7 @@ pub struct FinishedCall<'a> {
 #[derive(Clone, Copy, Debug)]
 pub struct CallUnderWay<'a> {
     /// With the first of its words, if they are more than the longest message of the wire has.
-    pub call: NodeCall<'a>,
+    pub call: ToldCall<'a>,
     /// How many events came before its begin.
     pub begun: usize,
 }
@@ -72,9 +82,10 @@ impl Model for Replies {
 }
 
 impl Replies {
-    ghost use Rattle.std.specs.Prelude.{◌≡◌, ◌-◌, ◌<◌, ◌≤◌, ◌++◌, ◌∷◌, ◌==◌, [], IfSome, OnErr};
+    ghost use Rattle.std.specs.Prelude.{◌≡◌, ◌-◌, ◌<◌, ◌≤◌, ◌++◌, ◌∷◌, ◌==◌, [], OnErr};
     ghost use Rattle.std.specs.Prelude.{OnOk, length, max, option_map, slice_get};
-    ghost use Rattle.iox_wire.specs.Replies.{HasWordsIfRead, finished_of, words_brought};
+    ghost use Rattle.iox_wire.specs.Replies.{HasWordsIfRead, ended_of, finished_of};
+    ghost use Rattle.iox_wire.specs.Replies.{words_brought};
 
     /// No finished calls, and room for none. Of each no more words are told than so many that it
     /// brings, and so many that it reads.
@@ -111,13 +122,13 @@ impl Replies {
     }
 
     /// Writes a finished call behind the others; there is room for it.
-    pub(crate) fn tell(&mut self, call: FinishedCall<'_>)
+    pub(crate) fn tell(&mut self, call: EndedCall<'_>)
         requires room { 0 < self.old.room }
         requires brought { length (words_brought call.call) ≤ self.old.longest }
         requires words { length call.words.now ≤ self.old.longest }
         requires read { HasWordsIfRead call.reply call.words.now }
         ensures { self.new ≡ record (self.old) {
-          finished = self.old.finished ++ finished_of call.entry ∷ [];
+          finished = self.old.finished ++ ended_of call.entry ∷ [];
           room = self.old.room - 1;
         } }
     {
@@ -151,17 +162,15 @@ impl Replies {
 
     /// The finished call at that place.
     pub fn get(&self, place: usize) -> Option<FinishedCall<'_>>
-        ensures there { option_map finished_of result ≡ slice_get self.now.finished place }
-        ensures words { IfSome result (λ f. HasWordsIfRead f.reply f.words.now) }
+        ensures { option_map finished_of result ≡ slice_get self.now.finished place }
     {
         let answer = self.answers.get(place)?;
+        let brought = words_there(&self.words, answer.brought);
+        let read = words_there(&self.words, answer.read);
         Some(FinishedCall {
             node: answer.node,
-            call: answer
-                .call
-                .with_words(words_there(&self.words, answer.brought)),
-            reply: answer.reply,
-            words: words_there(&self.words, answer.read),
+            call: answer.call.with_words(brought),
+            reply: reply_told(answer.reply, read),
             begun: answer.begun,
             ended: answer.ended,
         })

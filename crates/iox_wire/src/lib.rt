@@ -14,6 +14,7 @@ mod reading;
 mod schedule;
 mod spans;
 mod stored_call;
+mod told;
 pub mod uses;
 mod wire;
 
@@ -24,10 +25,12 @@ pub use iox_model::event::Event;
 pub use iox_model::way::Way;
 pub use iox_steps::Progress;
 pub use iox_wire_layouts::is_plan;
+pub use iox_wire_locals::CallRefusal;
 pub use iox_wire_weaves::{
     CopyReply, HandleCall, LendReply, NodeCall, NodePayload, NodeReply, PlanPort, ReceiveReply,
     RequestReply, RespondReply, ResponseCopyReply, SeatReply, WirePlan, WireRefusal, WireTerms,
     WordMapNewError,
 };
 pub use opening::is_whole;
+pub use told::{ToldCall, ToldReply};
 pub use wire::Wire;

@@ -1,9 +1,11 @@
 //! Whether a wire may open with a plan and its terms, and the nodes of a wire as it opens.
 ghost use Rattle.std.specs.Prelude.{◌≡◌, ◌↔◌, ◌*◌, ◌<◌, ℕ, IfOk, IsSomeAnd, IsTrue, length};
-ghost use Rattle.std.specs.Prelude.{slice_get};
+ghost use Rattle.std.specs.Prelude.{slice_get, true};
 ghost use Rattle.iox_model.specs.Maps.{AreDistinct};
 ghost use Rattle.iox_model.specs.declared.kind.Role.{Role};
-ghost use Rattle.iox_wire_weaves.specs.Plans.{IsSlotAt, details_of, most_ways, port_numbers};
+ghost use Rattle.iox_wire_weaves.specs.Openings.{OverflowsWithRoom};
+ghost use Rattle.iox_wire_weaves.specs.Plans.{IsSlotAt, details_of, most_ways, planned_buffer};
+ghost use Rattle.iox_wire_weaves.specs.Plans.{planned_overflow, port_numbers};
 ghost use Rattle.iox_wire_weaves.specs.Replies.{most_words};
 ghost use Rattle.iox_wire_weaves.specs.Terms.{IsWholePort, messages_of};
 ghost use Rattle.iox_wire_weaves.specs.Wires.{AreWhole};
@@ -127,11 +129,31 @@ fn are_user_headers_told(plan: &WirePlan, terms: &WireTerms) -> bool
     is_user_header_told(plan, terms, Role::Client) && is_user_header_told(plan, terms, Role::Server)
 }
 
-/// Whether the terms fit the plan, and each port has a slot. With `is_plan` that is all that can be
-/// tested of what `Wire::new` asks: that a wire of both may `open` follows from the service that
-/// they were made of, and is for those to say who have it.
+/// Whether a queue of a role's messages, if it overflows, has room for at least one.
+fn has_room_to_overflow(plan: &WirePlan, role: Role) -> bool
+    ensures { IsTrue result ↔ (planned_overflow plan.now.limits role ≡ true
+        → 0 < planned_buffer plan.now.limits role) }
+{
+    let overflows = match role {
+        Role::Client => plan.limits.request_overflow,
+        Role::Server => plan.limits.response_overflow,
+    };
+    !overflows || plan.limits.buffer(role) > 0
+}
+
+/// The same of the messages of both roles.
+fn overflows_with_room(plan: &WirePlan) -> bool
+    ensures { IsTrue result ↔ OverflowsWithRoom plan.now }
+{
+    has_room_to_overflow(plan, Role::Client) && has_room_to_overflow(plan, Role::Server)
+}
+
+/// Whether the terms fit the plan, each port has a slot, and each queue that overflows has room for a
+/// message. With `is_plan` that is all that can be tested of what `Wire::new` asks: that a wire of
+/// both may `open` follows from the service that they were made of, and is for those to say who have
+/// it.
 pub fn is_whole(plan: &WirePlan, terms: &WireTerms) -> bool
     ensures { IsTrue result ↔ AreWhole plan.now terms.now }
 {
-    are_ports_whole(plan, terms) && are_user_headers_told(plan, terms)
+    overflows_with_room(plan) && are_ports_whole(plan, terms) && are_user_headers_told(plan, terms)
 }

@@ -1,6 +1,6 @@
 //! Callers of a wire, proved from its clauses alone.
-ghost use Rattle.std.specs.Prelude.{◌≡◌, ◌<◌, ◌∷◌, ◌^◌, [], IfErr, IfOk, IsTrue, None, OnErr, OnOk, Some};
-ghost use Rattle.std.specs.Prelude.{map, option_map, slice_get, true};
+ghost use Rattle.std.specs.Prelude.{◌≡◌, ℕ, ◌<◌, ◌∷◌, ◌^◌, [], IfErr, IfOk, IfSome, IsTrue, List};
+ghost use Rattle.std.specs.Prelude.{None, OnErr, OnOk, Some, map, option_map, slice_get, true};
 ghost use Rattle.iox_wire_weaves.specs.Asking.{BeginIsWoven, BeginsItsCall, IsBeginRefusal};
 ghost use Rattle.iox_wire_weaves.specs.HandleCall.TheVariants.{Release};
 ghost use Rattle.iox_wire_weaves.specs.NodeCall.TheVariants as calls;
@@ -20,12 +20,16 @@ ghost use Rattle.iox_wire_weaves.specs.Wires.{WireNode, living_refusal, node_at}
 ghost use Rattle.iox_wire_weaves.specs.Begins.{is_busy};
 ghost use Rattle.iox_wire_weaves.specs.Nodes.{seat_in};
 ghost use Rattle.iox_wire_weaves.specs.Runs.{Run};
-ghost use Rattle.iox_model.specs.Schedules.{replies_of};
+ghost use Rattle.iox_model.specs.Schedules.{Finished, UnderWay, replies_of};
+ghost use Rattle.iox_model.specs.declared.call.Call.TheVariants as machine_calls;
+ghost use Rattle.iox_model.specs.declared.call.WireCall.TheVariants.{Port};
+ghost use Rattle.iox_model.specs.declared.reply.Reply.TheVariants as replies;
 ghost use Rattle.iox_wire_weaves.specs.Replies.{finished_within, most_words};
 ghost use Rattle.iox_wire.specs.Replies.{finished_of};
 
 use crate::entry::WireEntry;
 use crate::finished::FinishedCall;
+use crate::told::{ToldCall, ToldReply};
 use crate::wire::Wire;
 use iox_steps::Progress;
 use iox_wire_weaves::{
@@ -201,4 +205,44 @@ pub fn finished_call(wire: &Wire, place: usize) -> Option<FinishedCall<'_>>
         ≡ slice_get (map (finished_within (most_words wire.now.plan)) (replies_of r.beats)) place }
 {
     wire.replies().get(place)
+}
+
+/// The words that a finished read told. What it lends is what the machine replies there, and it
+/// lends none where the machine replies anything else.
+pub fn words_of_a_finished_read(wire: &Wire, place: usize) -> Option<&[u64]>
+    ensures told { (f : Finished) → (words : List ℕ) → slice_get wire.now.replies place ≡ Some f
+        → f.reply ≡ replies.Words words → option_map (λ told. told.now) result ≡ Some words }
+    ensures only { IfSome result (λ told. (f : Finished)
+        → slice_get wire.now.replies place ≡ Some f → f.reply ≡ replies.Words told.now) }
+{
+    match wire.replies().get(place)?.reply {
+        ToldReply::Words(words) => Some(words),
+        _ => None,
+    }
+}
+
+/// The handle that a finished loan, receive or copy told, and no other call.
+pub fn finished_handle(wire: &Wire, place: usize) -> Option<u64>
+    ensures told { (f : Finished) → (number : ℕ) → slice_get wire.now.replies place ≡ Some f
+        → f.reply ≡ replies.Handle number → result ≡ Some number }
+    ensures only { IfSome result (λ number. (f : Finished)
+        → slice_get wire.now.replies place ≡ Some f → f.reply ≡ replies.Handle number) }
+{
+    match wire.replies().get(place)?.reply {
+        ToldReply::Handle(number) => Some(number),
+        _ => None,
+    }
+}
+
+/// The words of a write that a node has under way.
+pub fn words_under_way(wire: &Wire, node: u64) -> Option<&[u64]>
+    ensures { (x : WireNode) → (u : UnderWay) → (number : ℕ) → (words : List ℕ)
+        → node_at node wire.now.nodes ≡ Some x → x.call ≡ Some u
+        → u.call ≡ Port (machine_calls.Write number words)
+        → option_map (λ told. told.now) result ≡ Some words }
+{
+    match wire.under_way(node)?.call {
+        ToldCall::Write { words, .. } => Some(words),
+        _ => None,
+    }
 }

@@ -41,8 +41,8 @@ none_grows plan p s agrees allowed port has =
         ∙ ap (list_any (λ (q : Port). q.grows)) (sym agrees.ports) ∙ none))
 
 pub opened_wires_stand : OpenedWiresStand
-opened_wires_stand plan p s is agrees reach allowed =
-    let o = a_wire_opens plan p s is agrees reach allowed in
+opened_wires_stand plan p s is roomy agrees reach allowed =
+    let o = a_wire_opens plan p s is roomy agrees reach allowed in
     let st : Stands p (replicate (total_words p.layout.sizes) 0) (λ n. record { seat = opened_seat p n; said = [] }) o.0 = o.4 in (
       o.0,
       o.1,

@@ -17,7 +17,7 @@ use Rattle.iox_wire_calls.specs.Stands.{Player, Stands, seats_of, word_of}
 use Rattle.iox_wire_calls.specs.Tables.{Setting}
 use Rattle.iox_wire_keeps.specs.Stored.{SlotsHoldMessages}
 use Rattle.iox_word_map.specs.WordMaps.{total_words}
-use Rattle.iox_wire_calls.specs.Openings.{AgreesWith, opened_seat}
+use Rattle.iox_wire_calls.specs.Openings.{AgreesWith, OverflowsWithRoom, opened_seat}
 use Rattle.iox_wire_calls.specs.Runs.{GoesOnBy, Run}
 use Rattle.iox_wire_calls.specs.Begins.{is_busy}
 use Rattle.iox_steps.specs.Sites.{last_position}
@@ -46,8 +46,8 @@ pub record WireStands (p : Setting) (words : List ℕ) (players : ℕ → Player
 -- A wire that opens stands so.
 abbrev pub OpenedWiresStand : Type 0
 OpenedWiresStand =
-    (plan : WirePlan) (p : Setting) (s : State) → IsPlan plan → AgreesWith plan p s
-    → IsReachableState s → wire_refusal s 0 true ≡ None
+    (plan : WirePlan) (p : Setting) (s : State) → IsPlan plan → OverflowsWithRoom plan
+    → AgreesWith plan p s → IsReachableState s → wire_refusal s 0 true ≡ None
     → (r : Run) × (r.first ≡ at_work (opened s)) × (r.beats ≡ []) × (r.last ≡ at_work (opened s))
     × WireStands p (replicate (total_words p.layout.sizes) 0)
     (λ n. record { seat = opened_seat p n; said = [] }) r

@@ -1,13 +1,18 @@
 -- How a node begins a call.
-use Rattle.std.specs.Prelude.{◌≡◌, ◌+◌, ◌<◌, ◌^◌, ℕ, if◌then◌else◌, IfSome, None, Option, true}
+use Rattle.std.specs.Prelude.{◌≡◌, ◌+◌, ◌<◌, ◌^◌, ℕ, if◌then◌else◌, IfSome, List, None, Option, true}
+use Rattle.std.specs.Option.{option_map_or}
+use Rattle.iox_model.specs.declared.call.Call.TheVariants as calls
 use Rattle.iox_model.specs.declared.call.WireCall.TheVariants.{Port}
 use Rattle.iox_model.specs.declared.kind.Kind.{Kind}
+use Rattle.iox_model.specs.declared.kind.Role.{Role}
+use Rattle.iox_model.specs.declared.kind.Role.TheVariants.{Client, Server}
 use Rattle.iox_model.specs.Commands.{Refusal, WireCall}
 use Rattle.iox_model.specs.Handles.{is_request_loan}
 use Rattle.iox_wire_begins.specs.WirePlan.{WirePlan}
 use Rattle.iox_wire_begins.specs.HandleCalls.{refusal_in}
 use Rattle.iox_wire_begins.specs.WirePlans.{HandleStands}
 use Rattle.iox_wire_begins.specs.WireTerms.{WireTerms}
+use Rattle.iox_wire_begins.specs.Entry.{Entry}
 use Rattle.iox_wire_begins.specs.Seat.{Seat}
 use Rattle.iox_wire_begins.specs.Lendings.{next_handle}
 use Rattle.iox_wire_begins.specs.Aims.{KeepsRoom}
@@ -66,6 +71,25 @@ pub record IsAtOnce (p : Setting) (old : Node) (there : Seat) (new : Node) : Typ
 -- the call by which a loan of that kind is sent
 abbrev pub send_at : Kind → CallAt
 send_at kind = if is_request_loan kind then at.SendsRequest else at.SendsResponse
+
+-- and by which what was found is, if that is a loan
+abbrev pub sent_at : Option Entry → CallAt
+sent_at found = option_map_or (λ e. send_at e.kind) found at.Seats
+
+-- the call by which a message of that role is copied and sent
+abbrev pub copy_at : Role → CallAt
+copy_at Client = at.CopiesRequest
+copy_at Server = at.CopiesResponse
+
+-- Where a node with these handles keeps a call that it begins: each by its name, a send by the kind of
+-- its loan, and a copy by the role of its payload.
+abbrev pub begun_at : List Entry → WireCall → CallAt
+begun_at table (Port (calls.Loan n k)) = at.Lends
+begun_at table (Port (calls.LoanUninit n k)) = at.Lends
+begun_at table (Port (calls.Send n)) = sent_at (entry_at n table)
+begun_at table (Port (calls.SendCopy n y)) = copy_at y.role
+begun_at table (Port (calls.Receive n)) = at.Receives
+begun_at table call = at.Seats
 
 -- ---- why no call begins
 

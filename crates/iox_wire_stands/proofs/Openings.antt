@@ -48,7 +48,7 @@ use Rattle.iox_wire_layouts.proofs.Planned.{same_found, same_numbers}
 use Rattle.iox_wire_layouts.proofs.Regions.{ports_have_regions}
 use Rattle.iox_wire_pools.specs.Uses.{UsesAreCounted, how_often}
 use Rattle.iox_wire_stands.specs.Nodes.{NodeStands}
-use Rattle.iox_wire_stands.specs.Openings.{AgreesWith, AWireOpens, opened_desk, opened_seat, ports_on, ways_into, ways_on}
+use Rattle.iox_wire_stands.specs.Openings.{AgreesWith, AWireOpens, OverflowsWithRoom, opened_desk, opened_seat, ports_on, ways_into, ways_on}
 use Rattle.iox_wire_stands.specs.Stands.{AreNumbered, OwnersAre, word_of}
 use Rattle.iox_wire_stands.proofs.PortWays.{sent_by, ways_apart}
 use Rattle.iox_wire_stands.proofs.Ranges.{and_true, range_distinct, range_number, zero_word}
@@ -56,7 +56,7 @@ use Rattle.iox_wire_stands.proofs.OpenedDesks.{all_from, desk_there, empty_recor
 
 -- ---- the wire
 
-module _ (plan : WirePlan) (p : Setting) (s : State) (is : IsPlan plan) (agrees : AgreesWith plan p s) where
+module _ (plan : WirePlan) (p : Setting) (s : State) (is : IsPlan plan) (roomy : OverflowsWithRoom plan) (agrees : AgreesWith plan p s) where
   abbrev f : Fixed
   f = (opened s).fixed
 
@@ -129,7 +129,7 @@ module _ (plan : WirePlan) (p : Setting) (s : State) (is : IsPlan plan) (agrees 
 
       planned : (r : WireQueue) → (layout_of plan).kind r ≡ Overflowing → 0 < (layout_of plan).capacity r
       planned (MessageQueue y) kind =
-          by_kind (planned_overflow plan.limits (role_of plan y.sender)) (planned_buffer plan.limits (role_of plan y.sender)) (agrees.room (role_of plan y.sender))
+          by_kind (planned_overflow plan.limits (role_of plan y.sender)) (planned_buffer plan.limits (role_of plan y.sender)) (roomy (role_of plan y.sender))
           kind
       planned (ReturningQueue y) kind = absurd (let e : Index ≡ Overflowing = kind in (cc))
 
@@ -341,7 +341,7 @@ module _ (plan : WirePlan) (p : Setting) (s : State) (is : IsPlan plan) (agrees 
         none_there e there = absurd (none-some e there)
 
 pub a_wire_opens : AWireOpens
-a_wire_opens plan p s is agrees reach allowed =
+a_wire_opens plan p s is roomy agrees reach allowed =
     let z : World = at_work (opened s) in (
       record { first = z; beats = []; last = z; opened = (s, reach, allowed, refl); woven = refl },
       refl,
@@ -350,19 +350,19 @@ a_wire_opens plan p s is agrees reach allowed =
       record {
         held = held_first;
         contents = empty_contents p.layout (word_of (replicate (total_words p.layout.sizes) 0));
-        shows = shows plan p s is agrees reach allowed;
+        shows = shows plan p s is roomy agrees reach allowed;
         length_is = length-replicate (total_words p.layout.sizes) 0;
-        layout = fits plan p s is agrees;
-        owners = owners plan p s is agrees;
-        numbers = numbered plan p s is agrees;
-        regions = λ port there. ports_have_regions plan p port is (setting plan p s is agrees) there;
+        layout = fits plan p s is roomy agrees;
+        owners = owners plan p s is roomy agrees;
+        numbers = numbered plan p s is roomy agrees;
+        regions = λ port there. ports_have_regions plan p port is (setting plan p s is roomy agrees) there;
         rooms = room;
         queues = record {
           waiting = λ y slot way on has. absurd (true≢false (sym has));
           in_hand = λ y slot way on has. absurd (true≢false (sym has));
           returned = λ y slot way on has. absurd (true≢false (sym has));
         };
-        nodes = λ n lives. node plan p s is agrees n;
+        nodes = λ n lives. node plan p s is roomy agrees n;
         histories = λ n. refl;
       },
       λ port slot. beyond slot,

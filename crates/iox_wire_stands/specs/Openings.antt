@@ -68,8 +68,12 @@ opened_seat p n = record (bare_seat n) {
 
 -- ---- the wire
 
--- The setting has the ports and limits of a service, no port has a handler, and a queue that
--- overflows has room for at least one message.
+-- a queue of the plan that overflows has room for at least one message
+abbrev pub OverflowsWithRoom : WirePlan → Type 0
+OverflowsWithRoom plan =
+    (role : Role) → planned_overflow plan.limits role ≡ true → 0 < planned_buffer plan.limits role
+
+-- The setting has the ports and limits of a service, and no port has a handler.
 pub record AgreesWith (plan : WirePlan) (p : Setting) (s : State) : Type 0 where
   pub layout : p.layout ≡ layout_of plan
   pub plan_of : IsPlanOf plan s.fixed
@@ -77,15 +81,13 @@ pub record AgreesWith (plan : WirePlan) (p : Setting) (s : State) : Type 0 where
   pub ports : s.fixed.ports ≡ map p.port p.layout.sizes.ports
   pub unhandled : (port : ℕ) → (p.port port).handler ≡ None
   pub next_number : s.fixed.next_number ≡ p.next_number
-  pub room : (role : Role) → planned_overflow plan.limits role ≡ true
-      → 0 < planned_buffer plan.limits role
 
 -- A wire that opens on a state that a service reached: its words are all 0, each node has nothing,
 -- and no beat was made. They stand for that run, with serials in the slots that are of no loan.
 abbrev pub AWireOpens : Type 0
 AWireOpens =
-    (plan : WirePlan) (p : Setting) (s : State) → IsPlan plan → AgreesWith plan p s
-    → IsReachableState s → wire_refusal s 0 true ≡ None
+    (plan : WirePlan) (p : Setting) (s : State) → IsPlan plan → OverflowsWithRoom plan
+    → AgreesWith plan p s → IsReachableState s → wire_refusal s 0 true ≡ None
     → (r : Run) × (r.first ≡ at_work (opened s)) × (r.beats ≡ []) × (r.last ≡ at_work (opened s))
     × (stands : Stands p (replicate (total_words p.layout.sizes) 0)
     (λ n. record { seat = opened_seat p n; said = [] }) r)

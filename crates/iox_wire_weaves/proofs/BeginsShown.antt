@@ -13,6 +13,7 @@ use Rattle.iox_model.specs.WireCalls.{in_wire_words}
 use Rattle.iox_model.specs.Weaves.{Begins, World, begin_refusal, miscalled}
 use Rattle.iox_steps.specs.Sites.{last_position}
 use Rattle.iox_wire_nodes.specs.Aims.{IsAimed}
+use Rattle.iox_wire_nodes.specs.Begins.{begun_at}
 use Rattle.iox_wire_nodes.specs.WirePlan.{WirePlan}
 use Rattle.iox_wire_nodes.specs.LocalsBegins.{begin, refusal_at}
 use Rattle.iox_wire_nodes.specs.Nodes.{seat_in}
@@ -65,7 +66,7 @@ refusals_are_shown p wire r n call shows = by_node p wire r n call shows (living
 module _ (p : Setting) (old new : WireData) (r : Run) (n : ℕ) (x y : WireNode) (call : WireCall) (shows : Shows p old r)
     (free : begin_refusal r.last n call ≡ None) (whole : WordsAreWhole p.limits call) (few : (seat_in x.node).accesses < last_position)
     (puts : Replaces old.nodes n x y new.nodes) (lives_as : LivesAs x y) (begins : seat_in y.node ≡ begin p (seat_in x.node) call)
-    (aimed : InPools p (seat_in y.node).local → IsAimed p y.node)
+    (kept : y.node.at ≡ begun_at x.node.seat.seat.table call) (aimed : InPools p (seat_in y.node).local → IsAimed p y.node)
     (plan : new.plan ≡ old.plan) (terms : new.terms ≡ old.terms) (words : new.words ≡ old.words) (replies : new.replies ≡ old.replies)
     (same_events : new.events ≡ old.events)
     (call_is : y.call ≡ Some (record { call = call_within x.longest (in_wire_words call); begun = length old.events })) where
@@ -190,13 +191,22 @@ module _ (p : Setting) (old new : WireData) (r : Run) (n : ℕ) (x y : WireNode)
   }
 
   begins_call : BeginsCall p old n call new
-  begins_call = record { setting = record { plan = plan; terms = terms }; node = there; others = puts.others; words = words; replies = replies; events = same_events }
+  begins_call = record {
+    setting = record { plan = plan; terms = terms };
+    node = there;
+    kept = ap (option_map (λ (z : WireNode). z.node.at)) puts.here ∙ ap (λ a. Some a) kept
+        ∙ sym (ap (option_map (λ (z : WireNode). begun_at z.node.seat.seat.table call)) puts.before);
+    others = puts.others;
+    words = words;
+    replies = replies;
+    events = same_events;
+  }
 
 pub begins_show : BeginsShow
-begins_show p old new r n x y call shows free whole few puts lives_as begins aimed plan terms words replies same_events call_is = (
-  begins_call p old new r n x y call shows free whole few puts lives_as begins aimed plan terms words replies same_events call_is,
+begins_show p old new r n x y call shows free whole few puts lives_as begins kept aimed plan terms words replies same_events call_is = (
+  begins_call p old new r n x y call shows free whole few puts lives_as begins kept aimed plan terms words replies same_events call_is,
   choice_for p (seat_of p old.nodes n) call,
-  (goes p old new r n x y call shows free whole few puts lives_as begins aimed plan terms words replies same_events call_is).0,
-  (goes p old new r n x y call shows free whole few puts lives_as begins aimed plan terms words replies same_events call_is).1,
-  shows_then p old new r n x y call shows free whole few puts lives_as begins aimed plan terms words replies same_events call_is,
+  (goes p old new r n x y call shows free whole few puts lives_as begins kept aimed plan terms words replies same_events call_is).0,
+  (goes p old new r n x y call shows free whole few puts lives_as begins kept aimed plan terms words replies same_events call_is).1,
+  shows_then p old new r n x y call shows free whole few puts lives_as begins kept aimed plan terms words replies same_events call_is,
 )

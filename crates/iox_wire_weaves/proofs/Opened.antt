@@ -24,7 +24,7 @@ use Rattle.iox_wire_nodes.specs.Aims.{AreAimed, IsAimed}
 use Rattle.iox_wire_nodes.specs.declared.call_at.CallAt.{CallAt}
 use Rattle.iox_wire_nodes.specs.declared.call_at.CallAt.TheVariants.{Seats}
 use Rattle.iox_wire_nodes.specs.Nodes.{Node, seat_at, seat_in}
-use Rattle.iox_wire_needs.specs.Openings.{opened_seat}
+use Rattle.iox_wire_needs.specs.Openings.{OverflowsWithRoom, opened_seat}
 use Rattle.iox_wire_needs.specs.Runs.{Run, Said, history}
 use Rattle.iox_wire_needs.specs.Stands.{Player}
 use Rattle.iox_wire_needs.specs.WireStands.{WireStands}
@@ -44,11 +44,11 @@ idle_aims p n k same at =
     let rests : k.seat.seat.local ≡ Idle = ap (λ (x : Seat). x.local) own in
     subst (λ (c : CallAt). AreAimed p c k) (sym at) (subst (λ (l : Local). seats.AreAimed p l k.seat) (sym rests) tt)
 
-module _ (plan : WirePlan) (terms : WireTerms) (nodes : List ℕ) (p : Setting) (s : State) (wire : WireData) (is : IsPlan plan) (opens : OpensOn plan terms nodes p s)
+module _ (plan : WirePlan) (terms : WireTerms) (nodes : List ℕ) (p : Setting) (s : State) (wire : WireData) (is : IsPlan plan) (roomy : OverflowsWithRoom plan) (opens : OpensOn plan terms nodes p s)
     (fresh : IsFresh p plan terms nodes wire) where
   abbrev o : (r : Run) × (r.first ≡ at_work (opened s)) × (r.beats ≡ []) × (r.last ≡ at_work (opened s))
       × WireStands p (replicate (total_words p.layout.sizes) 0) (λ n. record { seat = opened_seat p n; said = [] }) r
-  o = opened_wires_stand plan p s is opens.agrees opens.reached opens.allowed
+  o = opened_wires_stand plan p s is roomy opens.agrees opens.reached opens.allowed
 
   seat_is : (n : ℕ) (u : Option WireNode) → node_at n wire.nodes ≡ u → option_map_or (λ (x : WireNode). seat_in x.node) u (opened_seat p n) ≡ opened_seat p n
   seat_is n None at = refl
@@ -102,11 +102,11 @@ module _ (plan : WirePlan) (terms : WireTerms) (nodes : List ℕ) (p : Setting) 
   }
 
 pub wires_open : WiresOpen
-wires_open plan terms nodes p s wire is opens fresh =
-    let o = opened_wires_stand plan p s is opens.agrees opens.reached opens.allowed in (
+wires_open plan terms nodes p s wire is roomy opens fresh =
+    let o = opened_wires_stand plan p s is roomy opens.agrees opens.reached opens.allowed in (
       o.0,
       o.1,
       o.2,
       o.3,
-      shows plan terms nodes p s wire is opens fresh,
+      shows plan terms nodes p s wire is roomy opens fresh,
     )

@@ -310,7 +310,14 @@ module _ (p : Setting) (old new : WireData) (r : Run) (n : ℕ) (x y : WireNode)
       ∙ sym (ap (λ o. option_map_or (λ (z : WireNode). z.node.seat.room + length z.node.seat.seat.table) o 0) puts.before)
 
   one_access : MakesOneAccess p old n new
-  one_access = record { setting = record { plan = plan; terms = terms }; words = words; node = there; handles = as_many; others = puts.others }
+  one_access = record {
+    setting = record { plan = plan; terms = terms };
+    words = words;
+    node = there;
+    call = ap (option_map (λ (z : WireNode). z.node.at)) puts.here ∙ ap (λ a. Some a) went.call ∙ sym (ap (option_map (λ (z : WireNode). z.node.at)) puts.before);
+    handles = as_many;
+    others = puts.others;
+  }
 
 pub steps_show : StepsShow
 steps_show p old new r n x y reply shows goes puts lives_as went plan terms words call_is told tells_event =

@@ -9,6 +9,7 @@ use Rattle.iox_model.specs.Maps.{or_else}
 use Rattle.iox_model.specs.States.{Fixed}
 use Rattle.iox_model.specs.Weaves.{Begins, begin_refusal}
 use Rattle.iox_model.specs.WireCalls.{copied_payload, said, written_payload}
+use Rattle.iox_wire_nodes.specs.Begins.{begun_at}
 use Rattle.iox_wire_nodes.specs.Calls.{call_in_words}
 use Rattle.iox_wire_nodes.specs.LocalsBegins.{begin, refusal_at}
 use Rattle.iox_wire_nodes.specs.Tables.{Setting}
@@ -16,7 +17,7 @@ use Rattle.iox_wire_nodes.specs.declared.node_call.NodeCall.{NodeCall}
 use Rattle.iox_wire_nodes.specs.declared.node_call.NodeCall.TheVariants as node_calls
 use Rattle.iox_wire_needs.specs.Runs.{GoesOnBy, Run}
 use Rattle.iox_wire_weaves.specs.declared.refusal.WireRefusal.{WireRefusal}
-use Rattle.iox_wire_weaves.specs.Wires.{IsSameSetting, Shows, WireData, living_refusal, machine_refusal, node_at, refusal_in, seat_of}
+use Rattle.iox_wire_weaves.specs.Wires.{IsSameSetting, Shows, WireData, kept_at, living_refusal, machine_refusal, node_at, refusal_in, seat_of}
 
 -- ---- calls
 
@@ -57,12 +58,14 @@ MayBegin wire n call =
 
 -- ---- a begin
 
--- The node is at the first place of the call; words, replies, events, all other nodes and the setting
--- stay.
+-- The node is at the first place of the call, and keeps it as its name, its loan or its payload tells;
+-- words, replies, events, all other nodes and the setting stay.
 pub record BeginsCall (p : Setting) (old : WireData) (n : ℕ) (call : WireCall) (new : WireData)
     : Type 0 where
   pub setting : IsSameSetting old new
   pub node : seat_of p new.nodes n ≡ begin p (seat_of p old.nodes n) call
+  pub kept : kept_at new.nodes n
+      ≡ option_map (λ x. begun_at x.node.seat.seat.table call) (node_at n old.nodes)
   pub others : (m : ℕ) → (m == n) ≡ false → node_at m new.nodes ≡ node_at m old.nodes
   pub words : new.words ≡ old.words
   pub replies : new.replies ≡ old.replies

@@ -16,6 +16,7 @@ use Rattle.iox_steps.specs.Sites.{last_position}
 use Rattle.iox_wire_needs.specs.Counts.{IsTidy}
 use Rattle.iox_wire_needs.specs.MessageBegins.{WordsAreWhole}
 use Rattle.iox_model.specs.Names.{is_port}
+use Rattle.iox_wire_nodes.specs.Begins.{begun_at}
 use Rattle.iox_wire_nodes.specs.Calls.{call_in, call_in_words}
 use Rattle.iox_wire_nodes.specs.LocalsBegins.{begin, is_busy, refusal_at}
 use Rattle.iox_word_map.specs.WordMaps.{total_words}
@@ -30,7 +31,7 @@ use Rattle.iox_wire_nodes.specs.declared.call_at.CallAt.TheVariants.{Seats}
 use Rattle.iox_wire_nodes.specs.declared.call_at.NodeReply.{NodeReply}
 use Rattle.iox_wire_nodes.specs.declared.node_call.NodeCall.{NodeCall}
 use Rattle.iox_wire_nodes.specs.Nodes.{Node, reply_in, seat_in}
-use Rattle.iox_wire_needs.specs.Openings.{opened_seat}
+use Rattle.iox_wire_needs.specs.Openings.{OverflowsWithRoom, opened_seat}
 use Rattle.iox_wire_needs.specs.Places.{InPools}
 use Rattle.iox_wire_needs.specs.ReadWords.{TellsNoWords}
 use Rattle.iox_wire_needs.specs.Runs.{GoesOnBy, Run}
@@ -56,12 +57,13 @@ pub record IsFresh (p : Setting) (plan : WirePlan) (terms : WireTerms) (nodes : 
   pub replies : wire.replies ≡ []
   pub events : wire.events ≡ []
 
--- It shows a run from each state on which it may open.
+-- It shows a run from each state on which it may open, if its queues that overflow have room.
 abbrev pub WiresOpen : Type 0
 WiresOpen =
     (plan : WirePlan) (terms : WireTerms) (nodes : List ℕ) (p : Setting) (s : State)
     (wire : WireData)
-    → IsPlan plan → OpensOn plan terms nodes p s → IsFresh p plan terms nodes wire
+    → IsPlan plan → OverflowsWithRoom plan → OpensOn plan terms nodes p s
+    → IsFresh p plan terms nodes wire
     → ShowsOpened p s wire
 
 -- ---- one node
@@ -86,12 +88,13 @@ abbrev pub progress_of : Option NodeReply → Progress NodeReply
 progress_of None = Going
 progress_of (Some reply) = Done reply
 
--- After an access that found this the node is the next, it answers this if its call is over, it knows
--- where the words stand that it accesses next, as far as a slot that it took is one of a pool, and room
--- for handles is neither made nor lost.
+-- After an access that found this the node is the next, in the same call, it answers this if that is
+-- over, it knows where the words stand that it accesses next, as far as a slot that it took is one of a
+-- pool, and room for handles is neither made nor lost.
 pub record WentOn (p : Setting) (x : Node) (seen : ℕ) (reply : Option NodeReply) (y : Node)
     : Type 0 where
   pub next_is : seat_in y ≡ next p (seat_in x) seen
+  pub call : y.at ≡ x.at
   pub told : tells p (seat_in x) seen ≡ option_map (reply_in y.seat.words) reply
   pub aimed : InPools p (seat_in y).local → IsAimed p y
   pub room : y.seat.room + length y.seat.seat.table ≡ x.seat.room + length x.seat.seat.table
@@ -192,6 +195,7 @@ BeginsShow =
     → (seat_in x.node).accesses < last_position
     → Replaces old.nodes n x y new.nodes → LivesAs x y
     → seat_in y.node ≡ begin p (seat_in x.node) call
+    → y.node.at ≡ begun_at x.node.seat.seat.table call
     → (InPools p (seat_in y.node).local → IsAimed p y.node)
     → new.plan ≡ old.plan → new.terms ≡ old.terms → new.words ≡ old.words
     → new.replies ≡ old.replies → new.events ≡ old.events

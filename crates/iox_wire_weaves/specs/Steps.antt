@@ -31,7 +31,7 @@ use Rattle.iox_wire_weaves.specs.Events.{with_serials}
 use Rattle.iox_wire_weaves.specs.Owners.{serial_of}
 use Rattle.iox_wire_weaves.specs.declared.refusal.WireRefusal.{WireRefusal}
 use Rattle.iox_wire_weaves.specs.declared.refusal.WireRefusal.TheVariants.{AccessesSpent, AtRest}
-use Rattle.iox_wire_weaves.specs.Wires.{IsSameSetting, Shows, WireData, WireNode, answers_in, living_refusal, node_at, read_of, seat_of}
+use Rattle.iox_wire_weaves.specs.Wires.{IsSameSetting, Shows, WireData, WireNode, answers_in, kept_at, living_refusal, node_at, read_of, seat_of}
 
 -- ---- refusals
 
@@ -62,12 +62,14 @@ most_handles nodes n =
     option_map_or (λ x. x.node.seat.room + length x.node.seat.seat.table) (node_at n nodes) 0
 
 -- The step of a node is the one access of its place: the words are those after it, the node goes on
--- with what it found, it may have as many handles as before, and all other nodes and the setting stay.
+-- with what it found, in the call that it keeps, it may have as many handles as before, and all other
+-- nodes and the setting stay.
 pub record MakesOneAccess (p : Setting) (old : WireData) (n : ℕ) (new : WireData) : Type 0 where
   pub setting : IsSameSetting old new
   pub words : new.words ≡ words_after (access_of p old n) old.words
   pub node : seat_of p new.nodes n
       ≡ next p (seat_of p old.nodes n) (seen_at (access_of p old n) old.words)
+  pub call : kept_at new.nodes n ≡ kept_at old.nodes n
   pub handles : most_handles new.nodes n ≡ most_handles old.nodes n
   pub others : (m : ℕ) → (m == n) ≡ false → node_at m new.nodes ≡ node_at m old.nodes
 
@@ -86,11 +88,13 @@ abbrev pub IsWireCallAt : WordsCall → CallAt → Type 0
 IsWireCallAt (Port call) a = IsKeptAt call a
 IsWireCallAt (Forget dead) a = a ≡ Seats
 
--- what the step of a node answers is an answer to the call that it has under way
+-- What the step of a node answers is an answer to the call that it has under way, and of the call that
+-- it keeps: to a request not as to a response.
 abbrev pub IsOwnAnswer : WireData → ℕ → Progress NodeReply → Type 0
 IsOwnAnswer old n Going = Unit {0}
 IsOwnAnswer old n (Done reply) =
-    IfSome (node_at n old.nodes) (λ x. IfSome x.call (λ u. IsWireCallAt u.call (answered_at reply)))
+    IfSome (node_at n old.nodes) (λ x. (answered_at reply ≡ x.node.at)
+    × IfSome x.call (λ u. IsWireCallAt u.call (answered_at reply)))
 
 -- the words of a read that is over with that answer; else those of the read before
 abbrev pub read_after : List ℕ → (words : List ℕ) → Option NodeReply → List ℕ

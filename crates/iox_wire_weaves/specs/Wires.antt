@@ -19,8 +19,9 @@ use Rattle.iox_wire_nodes.specs.WireTerms.{WireTerms}
 use Rattle.iox_wire_nodes.specs.Plans.{IsSlotAt}
 use Rattle.iox_wire_needs.specs.WireStands.{WireStands}
 use Rattle.iox_wire_nodes.specs.Aims.{IsAimed}
+use Rattle.iox_wire_nodes.specs.declared.call_at.CallAt.{CallAt}
 use Rattle.iox_wire_nodes.specs.Nodes.{Node, seat_in}
-use Rattle.iox_wire_needs.specs.Openings.{AgreesWith, opened_seat}
+use Rattle.iox_wire_needs.specs.Openings.{AgreesWith, OverflowsWithRoom, opened_seat}
 use Rattle.iox_wire_needs.specs.Runs.{Run, history}
 use Rattle.iox_wire_needs.specs.Stands.{Player}
 use Rattle.iox_wire_weaves.specs.PortCounts.{TellsCounts}
@@ -62,6 +63,10 @@ pub record IsSameSetting (old new : WireData) : Type 0 where
 -- the node of that number
 abbrev pub node_at : ℕ → List WireNode → Option WireNode
 node_at n nodes = find (λ x. x.number == n) nodes
+
+-- where the node keeps the call that it began last, until it is over
+abbrev pub kept_at : List WireNode → ℕ → Option CallAt
+kept_at nodes n = option_map (λ x. x.node.at) (node_at n nodes)
 
 -- the words of the node's last read that is over
 abbrev pub read_of : List WireNode → ℕ → Option (List ℕ)
@@ -141,10 +146,11 @@ pub record Shows (p : Setting) (wire : WireData) (r : Run) : Type 0 where
 
 -- ---- an opening
 
--- The terms fit the plan, and each port has a slot.
+-- The terms fit the plan, each port has a slot, and a queue that overflows has room for a message.
 pub record AreWhole (plan : WirePlan) (terms : WireTerms) : Type 0 where
   pub fit : FitsPlan plan terms
   pub slots : (i : ℕ) → i < length plan.ports.items → IsSlotAt plan i 0
+  pub room : OverflowsWithRoom plan
 
 -- A state that a service reached, on which a wire of that plan and these terms may open with these
 -- nodes alive, and the setting of that wire.

@@ -8,13 +8,14 @@ ghost use Rattle.iox_wire_weaves.specs.Replies.{call_within};
 ghost use Rattle.iox_wire_weaves.specs.Seats.{reply_with};
 ghost use Rattle.iox_wire_weaves.specs.Steps.{finished_by, read_after};
 ghost use Rattle.iox_wire_weaves.specs.NodeReply.TheVariants.{OfSeat};
-ghost use Rattle.iox_wire.specs.Replies.{HasWordsIfRead, IsReadWithin, finished_of, under_way_of};
+ghost use Rattle.iox_wire.specs.Replies.{HasWordsIfRead, IsReadWithin, ended_of, under_way_of};
 ghost use Rattle.iox_wire.specs.Replies.{words_brought, words_call};
 
 use super::{BegunCall, Member};
-use crate::finished::{CallUnderWay, FinishedCall, Replies};
+use crate::finished::{CallUnderWay, EndedCall, Replies};
 use crate::spans::{first_of, write_behind};
 use crate::stored_call::{StoredCall, words_of};
+use crate::told::call_told;
 use iox_wire_weaves::{NodeCall, NodeReply, SeatReply};
 
 /// The words that a reply of a handle has, where so many were loaded.
@@ -69,6 +70,7 @@ impl Member {
           });
         } }
     {
+        let call = call_told(call);
         put(&mut self.words, words_of(call), self.longest);
         self.call = Some(BegunCall {
             call: StoredCall::of(call),
@@ -90,9 +92,9 @@ impl Member {
     }
 
     /// The call that it has under way, as it is over with that reply after so many events.
-    fn finished(&self, reply: NodeReply, ended: usize) -> Option<FinishedCall<'_>>
+    fn finished(&self, reply: NodeReply, ended: usize) -> Option<EndedCall<'_>>
         requires within { IsReadWithin self.now.longest reply self.now.node.seat.words }
-        ensures told { option_to_list (option_map finished_of result)
+        ensures told { option_to_list (option_map ended_of result)
             ≡ finish self.now.call self.now.number (reply_in self.now.node.seat.words reply)
             ended [] }
         ensures brought { IfSome result (λ f. length (words_brought f.call) ≤ self.now.longest) }
@@ -102,7 +104,7 @@ impl Member {
         let Some(begun) = self.call else {
             return None;
         };
-        Some(FinishedCall {
+        Some(EndedCall {
             node: self.number,
             call: begun.call.with_words(&self.words),
             reply,

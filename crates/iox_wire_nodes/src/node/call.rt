@@ -10,7 +10,7 @@ ghost use Rattle.iox_wire_begins.specs.Terms.{IsSettingWith};
 ghost use Rattle.iox_wire_begins.specs.Begins.{is_busy, refusal_at};
 ghost use Rattle.iox_wire_begins.specs.Tables.{Setting};
 ghost use Rattle.iox_wire_nodes.specs.Begins.{AddsHandle, IsUnderWay};
-ghost use Rattle.iox_wire_nodes.specs.Begins.{MayBegin, node_refusal};
+ghost use Rattle.iox_wire_nodes.specs.Begins.{MayBegin, begun_at, node_refusal};
 ghost use Rattle.iox_wire_nodes.specs.Calls.{IsKeptAt, call_in, call_in_words, may_add_handle};
 ghost use Rattle.iox_wire_nodes.specs.Calls.{number_in};
 ghost use Rattle.iox_wire_nodes.specs.Nodes.{seat_in};
@@ -47,6 +47,8 @@ impl StoredNode {
             (λ error. refusal_at p (seat_in self.old)
             (Port (call_in p (seat_in self.old) call.entry)) ≡ node_refusal error) }
         ensures at { OnOk result (IsKeptAt (call_in_words call.entry) self.new.at) }
+        ensures role { (p : Setting) → OnOk result (self.new.at ≡ begun_at
+            self.old.seat.seat.table (Port (call_in p (seat_in self.old) call.entry))) }
         ensures adds { OnOk result (AddsHandle self.new.at → may_add_handle call.entry ≡ true) }
         ensures unchanged { OnErr result (self.new ≡ self.old) }
         ensures lists { HasRoomFor map.now lists.new }
@@ -83,6 +85,8 @@ impl StoredNode {
             (λ error. refusal_at p (seat_in self.old)
             (Port (call_in p (seat_in self.old) call.entry)) ≡ node_refusal error) }
         ensures at { OnOk result (IsKeptAt (call_in_words call.entry) self.new.at) }
+        ensures role { (p : Setting) → OnOk result (self.new.at ≡ begun_at
+            self.old.seat.seat.table (Port (call_in p (seat_in self.old) call.entry))) }
         ensures adds { OnOk result (AddsHandle self.new.at → may_add_handle call.entry ≡ true) }
         ensures unchanged { OnErr result (self.new ≡ self.old) }
         ensures lists { HasRoomFor map.now lists.new }
@@ -147,6 +151,8 @@ impl StoredNode {
             (λ error. refusal_at p (seat_in self.old)
             (Port (call_in p (seat_in self.old) call.entry)) ≡ node_refusal error) }
         ensures at { OnOk result (IsKeptAt (call_in_words call.entry) self.new.at) }
+        ensures role { (p : Setting) → OnOk result (self.new.at ≡ begun_at
+            self.old.seat.seat.table (Port (call_in p (seat_in self.old) call.entry))) }
         ensures adds { OnOk result (AddsHandle self.new.at → may_add_handle call.entry ≡ true) }
         ensures unchanged { OnErr result (self.new ≡ self.old) }
         ensures lists { HasRoomFor map.now lists.new }

@@ -2,6 +2,7 @@
 ghost use Rattle.std.specs.Prelude.{◌≡◌, ◌+◌, ◌<◌, ◌≤◌, ◌^◌, IfErr, OnErr, OnOk, length};
 ghost use Rattle.iox_model.specs.declared.call.Call.TheVariants.{SendCopy};
 ghost use Rattle.iox_model.specs.declared.call.WireCall.TheVariants.{Port};
+ghost use Rattle.iox_model.specs.declared.kind.Role.TheVariants.{Client};
 ghost use Rattle.iox_wire_begins.specs.ListRooms.{HasRoomFor, HasRoomToCopy};
 ghost use Rattle.iox_wire_begins.specs.Plans.{most_ways, number_at};
 ghost use Rattle.iox_wire_begins.specs.WirePlans.{IsWirePlan};
@@ -47,6 +48,7 @@ impl StoredNode {
             (λ error. refusal_at p (seat_in self.old)
             (Port (SendCopy number (payload_with p role words.now))) ≡ refusal_in error) }
         ensures at { OnOk result (self.new.at ≡ CopiesRequest) }
+        ensures role { OnOk result (role ≡ Client) }
         ensures unchanged { OnErr result (self.new ≡ self.old) }
         ensures lists { HasRoomFor map.now lists.new }
         ensures rooms { OnOk result (KeepsRooms self.old self.new) }

@@ -2,6 +2,7 @@
 ghost use Rattle.std.specs.Prelude.{◌+◌, ◌<◌, ◌^◌, ◌≡◌, ◌≤◌, IfErr, IfSome, None, OnErr, OnOk, vec_capacity};
 ghost use Rattle.iox_model.specs.declared.call.Call.TheVariants.{SendCopy};
 ghost use Rattle.iox_model.specs.declared.call.WireCall.TheVariants.{Port};
+ghost use Rattle.iox_model.specs.declared.kind.Role.TheVariants.{Server};
 ghost use Rattle.iox_wire_begins.specs.Plans.{most_ways, port_of};
 ghost use Rattle.iox_wire_begins.specs.WirePlans.{HandleStands, IsWirePlan};
 ghost use Rattle.iox_wire_begins.specs.HandleCalls.{refusal_in};
@@ -48,6 +49,7 @@ impl StoredNode {
             (λ error. refusal_at p (seat_in self.old)
             (Port (SendCopy number (payload_with p role words.now))) ≡ refusal_in error) }
         ensures at { OnOk result (self.new.at ≡ CopiesResponse) }
+        ensures role { OnOk result (role ≡ Server) }
         ensures unchanged { OnErr result (self.new ≡ self.old) }
         ensures list { vec_capacity stops.new ≡ vec_capacity stops.old }
         ensures rooms { OnOk result (KeepsRooms self.old self.new) }

@@ -3,7 +3,7 @@ use Rattle.std.specs.Prelude.{vec_capacity, vec_len}
 use Rattle.std.proofs.Common.{◌≡◌, ℕ, ◌-◌, ◌+◌, ◌*◌, ◌<◌, ◌≤◌, ◌++◌, ◌∷◌, List, [], ap, ap₂, arith, length, map, refl, subst, sym, ◌∙◌}
 use Rattle.std.proofs.lemmas.List.{length-append}
 use Rattle.iox_model.specs.Schedules.{Finished}
-use Rattle.iox_wire.specs.Replies.{FinishedCalls, HasItsWords, finished_of, told_with, words_brought}
+use Rattle.iox_wire.specs.Replies.{FinishedCalls, HasItsWords, ended_of, told_with, words_brought}
 use Rattle.iox_wire.specs.declared.finished.Answer.{Answer}
 use Rattle.iox_wire.proofs.KeptWords.{has_more, room_left, told_more}
 use Rattle.iox_wire.proofs.finished.Replies.tell.Goals as goal
@@ -61,4 +61,4 @@ returns c =
     (c.write_behind-read.ensures.start ∙ ap length (c.write_behind-brought.ensures.items ∙ ap (λ vs. c.self.inside.words.items ++ vs) c.words_of.ensures))
     (c.write_behind-read.ensures.end
     ∙ ap (λ vs. length vs + length c.args.call.words.now) (c.write_behind-brought.ensures.items ∙ ap (λ vs. c.self.inside.words.items ++ vs) c.words_of.ensures)))
-    ∙ ap (λ (d : FinishedCalls). record d { finished = d.finished ++ finished_of c.args.call ∷ []; room = d.room - 1 }) c.self.view_is
+    ∙ ap (λ (d : FinishedCalls). record d { finished = d.finished ++ ended_of c.args.call ∷ []; room = d.room - 1 }) c.self.view_is

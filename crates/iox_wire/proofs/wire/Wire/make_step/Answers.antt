@@ -202,7 +202,7 @@ returns-clause-own c =
     let first = ap (λ (v : WireData). position (λ x. x.number == c.args.node) v.nodes) c.self.view_is ∙ c.requires.there in
     let w : WireData = record { plan = c.self.inside.places; terms = c.self.inside.terms; words = c.self.inside.words.items; nodes = c.self.inside.members.items; replies = c.self.inside.replies.finished; events = events_by c.self.inside.events.items; room = c.self.inside.room } in
     let goes : step_refusal w c.args.node ≡ None = ap (λ (v : WireData). step_refusal v c.args.node) c.self.view_is ∙ c.requires.goes in
-    subst (λ (v : WireData). IfSome (node_at c.args.node v.nodes) (λ x. IfSome x.call (λ u. IsWireCallAt u.call (answered_at c.in-Some.reply)))) c.self.view_is
+    subst (λ (v : WireData). IfSome (node_at c.args.node v.nodes) (λ x. (answered_at c.in-Some.reply ≡ x.node.at) × IfSome x.call (λ u. IsWireCallAt u.call (answered_at c.in-Some.reply)))) c.self.view_is
     (stepping.owned w c.args.node c.args.place c.index-member.result.now c.index_mut-member.result.now first c.index-member.ensures c.index_mut-member.ensures.value c.self.invariant.1 goes
     c.make_access-seen.result c.make_access-seen.new.words.items c.event-told.result c.make_access-seen.ensures.seen c.make_access-seen.ensures.words (λ q aimed. c.event-told.ensures q aimed)
     (Some c.in-Some.reply) c.go_on.new.self c.in-Some.ensures.made)

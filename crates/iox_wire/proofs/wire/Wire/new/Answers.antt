@@ -44,7 +44,7 @@ returns-clause-opened c p s opens =
     ∙ ap (λ n. replicate n 0) (c.total-total.ensures ∙ ap (λ (q : WirePlan). total_words (sizes_of q)) c.in_ok-places.ensures.made))
     c.args.handles
     (subst (λ (q : WirePlan). AreOpened q c.args.handles c.args.nodes.now c.in_ok-members.members.items) (c.plan.ensures.value ∙ c.in_ok-places.ensures.made) c.in_ok-members.ensures)
-    (ap (λ (d : FinishedCalls). d.finished) c.new-3.ensures) (ap events_by c.new-4.ensures.items) p s opens
+    (ap (λ (d : FinishedCalls). d.finished) c.new-3.ensures) (ap events_by c.new-4.ensures.items) p s opens c.requires.whole.room
 
 pub returns-clause-fresh : goal.returns-clause-fresh
 returns-clause-fresh c p s opens =

@@ -50,3 +50,6 @@ returns-clause-begun c p with =
 
 pub returns-clause-rooms : goal.returns-clause-rooms
 returns-clause-rooms c = keeps_copies c.self.view_is c.begin_request_copy.new.seat c.begin_request_copy.new.copying c.begin_request_copy.ensures.leaves.room.rooms c.begin_request_copy.ensures.rooms c.begin_request_copy.ensures.targets
+
+pub returns-clause-role : goal.returns-clause-role
+returns-clause-role c = (copies_as_client c.args.number (of_role c.args.role) (role_of c.args.map.now c.args.number) (c.in_ok-name_at_port.ensures.kind c.args.number (of_role c.args.role) refl)).1

@@ -71,3 +71,8 @@ returns-clause-begun c p with =
 
 pub returns-clause-rooms : goal.returns-clause-rooms
 returns-clause-rooms c = keeps_response_copies c.self.view_is c.begin_response_copy.new.seat c.begin_response_copy.new.copying c.begin_response_copy.ensures.leaves.room.rooms c.begin_response_copy.ensures.rooms
+
+pub returns-clause-role : goal.returns-clause-role
+returns-clause-role c =
+    let stands : HandleStands c.args.map.now c.args.self.now.seat.seat.desks c.in_ok-request.request = stands_at c.args.map.now c.args.self.now c.args.number c.in_ok-request.request c.in_ok-request.ensures.found c.requires.handle in
+    (copies_to_request c.args.number (of_role c.args.role) c.in_ok-request.request.kind stands.handle (c.in_ok-request.ensures.suits c.args.number (of_role c.args.role) refl)).1
