@@ -317,6 +317,7 @@ module _ (requests responses fire : Bool) where
     whole_terms = record {
       fit = record { ports = λ i low. whole_ports terms.ports.items are.ports i (four i low); user = user_bytes };
       slots = λ i low. subst (λ (qs : List PlanPort). IsSomeAnd (slice_get qs i) (λ q. 0 < q.pool)) (sym is.ports) (slot_there i (four i low));
+      room = λ role over. subst (λ (l : PlanLimits). 0 < planned_buffer l role) (sym is.limits) (buffered role);
     }
 
     opens : OpensOn plan terms (0 ∷ 1 ∷ 2 ∷ []) p state_here
@@ -328,7 +329,6 @@ module _ (requests responses fire : Bool) where
         ports = sym (ap (map p.port) numbers_are);
         unhandled = λ n. unhandled (n == 0) (n == 1) (n == 2);
         next_number = refl;
-        room = λ role over. subst (λ (l : PlanLimits). 0 < planned_buffer l role) (sym is.limits) (buffered role);
       };
       told = told;
       reached = reached_here;

@@ -360,6 +360,7 @@ module _ (many : Bool) (plan : WirePlan) (terms : WireTerms) (is : IsPlanOfUnits
   whole_terms = record {
     fit = record { ports = λ i low. whole_ports terms.ports.items are.ports i (two i low); user = user_bytes };
     slots = λ i low. subst (λ (qs : List PlanPort). IsSomeAnd (slice_get qs i) (λ q. 0 < q.pool)) (sym is.ports) (slot_there i (two i low));
+    room = λ role over. subst (λ (l : PlanLimits). 0 < planned_buffer l role) (sym is.limits) (buffered role);
   }
 
   -- ---- it opens
@@ -378,7 +379,6 @@ module _ (many : Bool) (plan : WirePlan) (terms : WireTerms) (is : IsPlanOfUnits
       ports = ports_are many ∙ sym (ap (map p.port) numbers_are);
       unhandled = λ n. unhandled many (n == 0);
       next_number = next_is many;
-      room = λ role over. subst (λ (l : PlanLimits). 0 < planned_buffer l role) (sym is.limits) (buffered role);
     };
     told = told;
     reached = reached_here many;

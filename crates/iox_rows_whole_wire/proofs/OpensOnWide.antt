@@ -5,7 +5,7 @@ use Rattle.std.proofs.lemmas.List.Elements.{All-nil, All-cons, All-same}
 use Rattle.iox_model.specs.declared.kind.Role.{Role}
 use Rattle.iox_model.specs.declared.kind.Role.TheVariants.{Client, Server}
 use Rattle.iox_model.specs.declared.reply.Refusal.TheVariants.{UnknownNode}
-use Rattle.iox_model.specs.Commands.{Command, Options, Reply}
+use Rattle.iox_model.specs.Commands.{Command, Options}
 use Rattle.iox_model.specs.declared.command.PortCommand.TheVariants as asks
 use Rattle.iox_model.specs.declared.command.Command.TheVariants as commands
 use Rattle.iox_model.specs.Defaults.{follow}
@@ -330,6 +330,7 @@ module _ (huge : Bool) (plan : WirePlan) (terms : WireTerms) (is : IsWidePlan hu
   whole_terms = record {
     fit = record { ports = λ i low. whole_ports terms.ports.items are.ports i (two i low); user = user_bytes };
     slots = λ i low. subst (λ (qs : List PlanPort). IsSomeAnd (slice_get qs i) (λ q. 0 < q.pool)) (sym is.ports) (slot_there i (two i low));
+    room = λ role over. subst (λ (l : PlanLimits). 0 < planned_buffer l role) (sym is.limits) (buffered huge role);
   }
 
   -- ---- it opens
@@ -348,7 +349,6 @@ module _ (huge : Bool) (plan : WirePlan) (terms : WireTerms) (is : IsWidePlan hu
       ports = ports_are huge ∙ sym (ap (map p.port) numbers_are);
       unhandled = λ n. unhandled (n == 0);
       next_number = next_is huge;
-      room = λ role over. subst (λ (l : PlanLimits). 0 < planned_buffer l role) (sym is.limits) (buffered huge role);
     };
     told = told;
     reached = reached_here huge;

@@ -1,5 +1,5 @@
 -- A plan, and its terms, of a client on one node and a server on the other, whose elements have no words.
-use Rattle.std.specs.Prelude.{◌≡◌, ℕ, Bool, true, false, if◌then◌else◌, List, [], ◌∷◌}
+use Rattle.std.specs.Prelude.{◌≡◌, ℕ, Bool, true, false, if◌then◌else◌, [], ◌∷◌}
 use Rattle.iox_wire_lenders.specs.declared.terms.MessageTerms.{MessageTerms}
 use Rattle.iox_wire_lenders.specs.declared.terms.WireTerms.{WireTerms}
 use Rattle.iox_model.specs.declared.kind.Role.TheVariants.{Client, Server}

@@ -1,5 +1,5 @@
 //! What a port keeps and has outstanding, where full queues give up their oldest message.
-use super::play::{Ask, Came, Told, begin, calls, steps};
+use super::play::{Act, Ask, Came, Told, calls, plays};
 use super::settings::{OVERFLOW, open};
 use iox_wire::Wire;
 use std::alloc::Global;
@@ -36,55 +36,66 @@ fn open_with_two(rt: &impl Abort, alloc: Global) -> Result<Wire, Fail> {
     Ok(wire)
 }
 
+/// Plays a table on that wire.
+fn plays_on_two(rt: &impl Abort, alloc: Global, table: &[Act]) -> Result<(), Fail> {
+    let mut wire = open_with_two(rt, alloc)?;
+    plays(rt, &mut wire, table);
+    Ok(())
+}
+
 #[test]
 fn evicted_request_is_outstanding_up_to_the_last_step(rt: HostRuntime) -> Result<(), Fail> {
-    let mut wire = open_with_two(&rt, rt.alloc())?;
-    assert_eq!(rt; counts(&wire), (2, 2));
-    begin(&mut wire, 0, Ask::CopyRequest(0, 13))?;
-    assert_eq!(rt; steps(&mut wire, 0, 17), Came::UnderWay);
-    assert_eq!(rt; counts(&wire), (3, 3));
-    assert_eq!(rt; steps(&mut wire, 0, 1), Came::UnderWay);
-    assert_eq!(rt; counts(&wire), (3, 3));
-    let last = steps(&mut wire, 0, 1);
-    assert_eq!(rt; last, Came::Ended(1, Told::Handle(4)));
-    assert_eq!(rt; counts(&wire), (2, 2));
-    let lent = answers(&mut wire, 0, Ask::Loan(0));
-    assert_eq!(rt; lent, Some(Told::Handle(5)));
-    assert_eq!(rt; counts(&wire), (3, 2));
-    Ok(())
+    let table = [
+        Act::Keeps(0, 2),
+        Act::Lacks(0, 1, 0, 2),
+        Act::Begins(0, Ask::CopyRequest(0, 13)),
+        Act::Goes(0, 17),
+        Act::Keeps(0, 3),
+        Act::Lacks(0, 1, 0, 3),
+        Act::Goes(0, 1),
+        Act::Keeps(0, 3),
+        Act::Lacks(0, 1, 0, 3),
+        Act::Ends(0, 1, Told::Handle(4)),
+        Act::Keeps(0, 2),
+        Act::Lacks(0, 1, 0, 2),
+        Act::Whole(0, Ask::Loan(0), 9, Told::Handle(5)),
+        Act::Keeps(0, 3),
+        Act::Lacks(0, 1, 0, 2),
+    ];
+    plays_on_two(&rt, rt.alloc(), &table)
 }
 
 #[test]
 fn other_ways_have_nothing_outstanding(rt: HostRuntime) -> Result<(), Fail> {
-    let wire = open_with_two(&rt, rt.alloc())?;
-    assert_eq!(rt; wire.kept(1), 0);
-    assert_eq!(rt; wire.outstanding(1, 0, 0), 0);
-    assert_eq!(rt; wire.outstanding(0, 1, 1), 0);
-    assert_eq!(rt; wire.outstanding(0, 0, 0), 0);
-    assert_eq!(rt; wire.outstanding(0, 7, 0), 0);
-    Ok(())
+    let table = [
+        Act::Keeps(1, 0),
+        Act::Lacks(1, 0, 0, 0),
+        Act::Lacks(0, 1, 1, 0),
+        Act::Lacks(0, 0, 0, 0),
+        Act::Lacks(0, 7, 0, 0),
+    ];
+    plays_on_two(&rt, rt.alloc(), &table)
 }
 
 #[test]
 fn no_port_has_nothing(rt: HostRuntime) -> Result<(), Fail> {
-    let wire = open_with_two(&rt, rt.alloc())?;
-    assert_eq!(rt; wire.kept(7), 0);
-    assert_eq!(rt; wire.outstanding(7, 1, 0), 0);
-    Ok(())
+    let table = [Act::Keeps(7, 0), Act::Lacks(7, 1, 0, 0)];
+    plays_on_two(&rt, rt.alloc(), &table)
 }
 
 #[test]
 fn port_of_a_dead_node_has_what_it_had(rt: HostRuntime) -> Result<(), Fail> {
-    let mut wire = open_with_two(&rt, rt.alloc())?;
-    begin(&mut wire, 0, Ask::CopyRequest(0, 13))?;
-    assert_eq!(rt; steps(&mut wire, 0, 17), Came::UnderWay);
-    wire.declare_dead(0)?;
-    assert_eq!(rt; counts(&wire), (3, 3));
-    assert_eq!(rt; wire.kept(1), 0);
-    let released = answers(&mut wire, 1, Ask::Release(2));
-    assert_eq!(rt; released, Some(Told::Done));
-    let received = answers(&mut wire, 1, Ask::Receive(1));
-    assert_eq!(rt; received, Some(Told::Handle(3)));
-    assert_eq!(rt; counts(&wire), (3, 3));
-    Ok(())
+    let table = [
+        Act::Begins(0, Ask::CopyRequest(0, 13)),
+        Act::Goes(0, 17),
+        Act::Dies(0),
+        Act::Keeps(0, 3),
+        Act::Lacks(0, 1, 0, 3),
+        Act::Keeps(1, 0),
+        Act::Whole(1, Ask::Release(2), 5, Told::Done),
+        Act::Whole(1, Ask::Receive(1), 11, Told::Handle(3)),
+        Act::Keeps(0, 3),
+        Act::Lacks(0, 1, 0, 3),
+    ];
+    plays_on_two(&rt, rt.alloc(), &table)
 }

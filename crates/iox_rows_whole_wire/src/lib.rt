@@ -22,6 +22,8 @@ mod four;
 #[cfg(test)]
 mod games;
 #[cfg(test)]
+mod kinds_of_replies;
+#[cfg(test)]
 mod lists;
 #[cfg(test)]
 mod play;

@@ -2,7 +2,7 @@
 use iox_model::kind::Role;
 use iox_wire::{
     CopyReply, HandleCall, LendReply, NodeCall, NodePayload, NodeReply, Progress, ReceiveReply,
-    RequestReply, RespondReply, ResponseCopyReply, SeatReply, Wire, WireRefusal,
+    RequestReply, RespondReply, ResponseCopyReply, SeatReply, ToldReply, Wire, WireRefusal,
 };
 use iox_wire_locals::CallRefusal;
 use std::process::Abort;
@@ -159,7 +159,7 @@ fn answered(reply: SeatReply, words: Option<&[u64]>) -> Told {
 }
 
 /// What that reply says, where a read has these words.
-pub(super) fn what_is_told(reply: NodeReply, words: Option<&[u64]>) -> Told {
+fn what_is_told(reply: NodeReply, words: Option<&[u64]>) -> Told {
     match reply {
         NodeReply::OfSeat(reply) => answered(reply, words),
         NodeReply::OfReceive(ReceiveReply::Nothing) => Told::Nothing,
@@ -168,10 +168,25 @@ pub(super) fn what_is_told(reply: NodeReply, words: Option<&[u64]>) -> Told {
         NodeReply::OfLoan(reply) => lent(reply),
         NodeReply::OfRequest(reply) => requested(reply),
         NodeReply::OfResponse(reply) => responded(reply),
-        NodeReply::OfRequestCopy(CopyReply::OfLoan(reply)) => lent(reply),
-        NodeReply::OfRequestCopy(CopyReply::OfSend(reply)) => requested(reply),
-        NodeReply::OfResponseCopy(ResponseCopyReply::OfLoan(reply)) => lent(reply),
-        NodeReply::OfResponseCopy(ResponseCopyReply::OfSend(reply)) => responded(reply),
+        NodeReply::OfRequestCopy(CopyReply::Handle(number)) => Told::Handle(number),
+        NodeReply::OfRequestCopy(CopyReply::Sent(count)) => Told::Sent(count),
+        NodeReply::OfRequestCopy(CopyReply::Refused(refused)) => refusal(refused),
+        NodeReply::OfResponseCopy(ResponseCopyReply::Done) => Told::Done,
+        NodeReply::OfResponseCopy(ResponseCopyReply::Handle(number)) => Told::Handle(number),
+        NodeReply::OfResponseCopy(ResponseCopyReply::Refused(refused)) => refusal(refused),
+    }
+}
+
+/// What that reply of a finished call says.
+pub(super) fn replied(reply: ToldReply<'_>) -> Told {
+    match reply {
+        ToldReply::Handle(number) => Told::Handle(number),
+        ToldReply::Sent(count) => Told::Sent(count),
+        ToldReply::Done => Told::Done,
+        ToldReply::Nothing => Told::Nothing,
+        ToldReply::Answer(answer) => Told::Answer(answer),
+        ToldReply::Words(words) => word_read(Some(words)),
+        ToldReply::Refused(refused) => refusal(refused),
     }
 }
 

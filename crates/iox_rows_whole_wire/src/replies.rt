@@ -1,10 +1,10 @@
 //! The finished calls that a wire keeps: each with its node, its call, its reply, and the numbers of
 //! events before its begin and before its end.
 use super::counts::answers;
-use super::play::{Ask, Came, Told, begin, steps, what_is_told};
+use super::play::{Ask, Came, Told, begin, replied, steps};
 use super::settings::{NO_OVERFLOW, OVERFLOW, open};
 use iox_model::kind::Role;
-use iox_wire::{FinishedCall, HandleCall, NodeCall, NodePayload, Wire};
+use iox_wire::{FinishedCall, HandleCall, NodeCall, NodePayload, ToldCall, Wire};
 use std::process::Abort;
 use std::test::Fail;
 
@@ -25,27 +25,27 @@ enum Kind {
 type Row = (u64, Kind, u64, Option<u64>, Told, usize, usize);
 
 /// The first word of a payload.
-fn first(payload: NodePayload<'_>) -> Option<u64> {
-    payload.words.first().copied()
+fn first(words: &[u64]) -> Option<u64> {
+    words.first().copied()
 }
 
 /// What a call asks, of which number, and its first word.
-fn asked(call: NodeCall<'_>) -> (Kind, u64, Option<u64>) {
+fn asked(call: ToldCall<'_>) -> (Kind, u64, Option<u64>) {
     match call {
-        NodeCall::Loan { number, elements } => (Kind::Loan(elements), number, None),
-        NodeCall::Write { number, payload } => (Kind::Write, number, first(payload)),
-        NodeCall::Send { number } => (Kind::Send, number, None),
-        NodeCall::SendCopy { number, payload } => (Kind::SendCopy, number, first(payload)),
-        NodeCall::Receive { number } => (Kind::Receive, number, None),
-        NodeCall::HasRequests { number } => (Kind::HasRequests, number, None),
-        NodeCall::Handle { number, call } => (Kind::Handle(call), number, None),
+        ToldCall::Loan { number, elements } => (Kind::Loan(elements), number, None),
+        ToldCall::Write { number, words } => (Kind::Write, number, first(words)),
+        ToldCall::Send { number } => (Kind::Send, number, None),
+        ToldCall::SendCopy { number, words } => (Kind::SendCopy, number, first(words)),
+        ToldCall::Receive { number } => (Kind::Receive, number, None),
+        ToldCall::HasRequests { number } => (Kind::HasRequests, number, None),
+        ToldCall::Handle { number, call } => (Kind::Handle(call), number, None),
     }
 }
 
 /// The row of a finished call.
 fn row(call: FinishedCall<'_>) -> Row {
     let (kind, number, word) = asked(call.call);
-    let reply = what_is_told(call.reply, Some(call.words));
+    let reply = replied(call.reply);
     (call.node, kind, number, word, reply, call.begun, call.ended)
 }
 
@@ -157,9 +157,15 @@ fn words_past_the_longest_message_are_left_out(rt: HostRuntime) -> Result<(), Fa
     );
     answers(&mut wire, 0, Ask::CopyRequest(0, 13));
     let kept = wire.replies().get(0).map(|call| call.call);
-    let Some(NodeCall::SendCopy { number: 0, payload }) = kept else {
+    let Some(
+        ToldCall::SendCopy {
+            number: 0,
+            words: told,
+        },
+    ) = kept
+    else {
         return Err(Fail::from("another call"));
     };
-    assert_eq!(rt; payload.words, &words[..10]);
+    assert_eq!(rt; told, &words[..10]);
     Ok(())
 }

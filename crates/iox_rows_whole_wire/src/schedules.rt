@@ -1,8 +1,10 @@
 //! Schedules on the wire where each limit is 1.
-use super::play::{Act, Ask, Told, plays};
+use super::play::{Act, Ask, Told, plays, replied};
 use super::settings::{NO_OVERFLOW, open, open_with};
 use iox_model::kind::Role;
 use iox_wire::{HandleCall, NodeCall, NodePayload, WireEntry, WireRefusal};
+use std::alloc::Global;
+use std::process::Abort;
 use std::test::Fail;
 
 const RECEIVE: NodeCall<'static> = NodeCall::Receive { number: 1 };
@@ -37,53 +39,61 @@ fn add<'a>(
     Ok(())
 }
 
+/// A wire runs a schedule, which ends so many calls, and then plays a table.
+fn runs_on(
+    rt: &impl Abort,
+    alloc: Global,
+    schedule: &[WireEntry<'_>],
+    ended: usize,
+    table: &[Act],
+) -> Result<(), Fail> {
+    let mut wire = open(alloc, NO_OVERFLOW)?;
+    wire.run(schedule)?;
+    assert_eq!(rt; wire.replies().len(), ended);
+    plays(rt, &mut wire, table);
+    Ok(())
+}
+
 #[test]
 fn schedule_passes_over_what_is_refused(rt: HostRuntime) -> Result<(), Fail> {
-    let mut wire = open(rt.alloc(), NO_OVERFLOW)?;
-    wire.run(&[
+    let schedule = [
         WireEntry::Step(0),
         WireEntry::Die(1),
         WireEntry::Step(1),
         WireEntry::Die(9),
         WireEntry::Begin(1, RECEIVE),
-    ])?;
+    ];
     let table = [
         Act::RefusedStep(0, WireRefusal::AtRest),
         Act::RefusedStep(1, WireRefusal::NodeIsDead),
     ];
-    plays(&rt, &mut wire, &table);
-    Ok(())
+    runs_on(&rt, rt.alloc(), &schedule, 0, &table)
 }
 
 #[test]
 fn node_dies_in_its_look(rt: HostRuntime) -> Result<(), Fail> {
-    let mut wire = open(rt.alloc(), NO_OVERFLOW)?;
-    wire.run(&[
+    let schedule = [
         WireEntry::Begin(1, LOOK),
         WireEntry::Step(1),
         WireEntry::Die(1),
         WireEntry::Step(1),
         WireEntry::Begin(1, LOOK),
-    ])?;
-    assert!(rt; wire.replies().is_empty());
-    Ok(())
+    ];
+    runs_on(&rt, rt.alloc(), &schedule, 0, &[])
 }
 
 #[test]
 fn each_step_of_a_schedule_is_made(rt: HostRuntime) -> Result<(), Fail> {
-    let mut wire = open(rt.alloc(), NO_OVERFLOW)?;
     let mut schedule = Vec::new(rt.alloc());
     add(&mut schedule, 0, copy(&[456]), 18)?;
     add(&mut schedule, 1, RECEIVE, 2)?;
-    wire.run(&schedule)?;
     let table = [
         Act::RefusedStep(1, WireRefusal::AtRest),
         Act::Ends(0, 1, Told::Handle(2)),
         Act::Whole(1, Ask::Receive(1), 11, Told::Handle(2)),
         Act::Whole(1, Ask::Read(2), 1, Told::Word(456)),
     ];
-    plays(&rt, &mut wire, &table);
-    Ok(())
+    runs_on(&rt, rt.alloc(), &schedule, 1, &table)
 }
 
 #[test]
@@ -111,14 +121,12 @@ fn schedule_lends_writes_and_sends(rt: HostRuntime) -> Result<(), Fail> {
 
 #[test]
 fn call_that_is_under_way_goes_on(rt: HostRuntime) -> Result<(), Fail> {
-    let mut wire = open(rt.alloc(), NO_OVERFLOW)?;
     let mut schedule = Vec::new(rt.alloc());
     add(&mut schedule, 0, copy(&[456]), 19)?;
     add(&mut schedule, 1, RECEIVE, 0)?;
     add(&mut schedule, 1, RECEIVE, 1)?;
-    wire.run(&schedule)?;
-    plays(&rt, &mut wire, &[Act::Ends(1, 10, Told::Handle(2))]);
-    Ok(())
+    let table = [Act::Ends(1, 10, Told::Handle(2))];
+    runs_on(&rt, rt.alloc(), &schedule, 1, &table)
 }
 
 #[test]
@@ -130,8 +138,11 @@ fn schedule_is_played_in_the_room_that_was_made(rt: HostRuntime) -> Result<(), F
     wire.run(&schedule)?;
     wire.reserve(1)?;
     assert_eq!(rt; wire.replies().len(), 1);
-    let told = wire.replies().get(0).map(|finished| finished.words.len());
-    assert_eq!(rt; told, Some(0));
+    let told = wire
+        .replies()
+        .get(0)
+        .map(|finished| replied(finished.reply));
+    assert_eq!(rt; told, Some(Told::Handle(2)));
     Ok(())
 }
 

@@ -12,6 +12,7 @@ use iox_wire::{Wire, WireRefusal};
 use iox_wire_lenders::{MessageTerms, WireTerms};
 use iox_word_places::{PlanPort, WirePlan};
 use std::alloc::Global;
+use std::process::Abort;
 use std::test::Fail;
 
 /// A client, whose messages have up to three elements, or one.
@@ -105,86 +106,111 @@ fn open(alloc: Global, many: bool) -> Result<Wire, Fail> {
     Ok(Wire::new(alloc, plan, terms, &[0, 1], 8)?)
 }
 
+/// Plays a table on such a wire. The last word of the first header tells how many elements its
+/// message has: so many, if a number is given.
+fn plays_on(
+    rt: &impl Abort,
+    alloc: Global,
+    many: bool,
+    elements: Option<u64>,
+    table: &[Act],
+) -> Result<(), Fail> {
+    let mut wire = open(alloc, many)?;
+    plays(rt, &mut wire, table);
+    if elements.is_some() {
+        assert_eq!(rt; wire.words().get(6).copied(), elements);
+    }
+    Ok(())
+}
+
 #[test]
 fn several_elements_without_words_are_written_by_no_words(rt: HostRuntime) -> Result<(), Fail> {
-    let table = [
-        Act::Whole(0, Ask::LoanOf(0, 4), 1, Told::ExceedsMaxLoanSize),
-        // three elements are lent: a write has no word, and takes one step
-        Act::Whole(0, Ask::LoanOf(0, 3), 9, Told::Handle(2)),
-        Act::Whole(0, Ask::WriteRequest(2, 7), 1, Told::WrongLength),
-        Act::Whole(0, Ask::WriteNoRequest(2), 1, Told::Done),
-        Act::Whole(0, Ask::WriteNoRequest(2), 1, Told::Done),
-        Act::RefusedCall(0, Ask::WriteNoResponse(2), WireRefusal::WrongKind),
-        Act::Whole(0, Ask::Read(2), 1, Told::NoWord),
-        Act::Whole(0, Ask::Send(2), 9, Told::Sent(1)),
-        Act::Whole(1, Ask::Receive(1), 11, Told::Handle(2)),
-        Act::Whole(1, Ask::Read(2), 1, Told::NoWord),
-        // so it is of a response, of two
-        Act::Whole(1, Ask::LoanOf(2, 2), 14, Told::Handle(3)),
-        Act::Whole(1, Ask::WriteResponse(3, 7), 1, Told::WrongLength),
-        Act::Whole(1, Ask::WriteNoResponse(3), 1, Told::Done),
-        Act::Whole(1, Ask::Send(3), 9, Told::Done),
-        Act::Whole(0, Ask::Receive(2), 10, Told::Handle(3)),
-        Act::Whole(0, Ask::Read(3), 1, Told::NoWord),
-    ];
-    let mut wire = open(rt.alloc(), true)?;
-    plays(&rt, &mut wire, &table);
-    // the last word of a header tells how many elements its message has
-    assert_eq!(rt; wire.words().get(6), Some(&3));
-    Ok(())
+    plays_on(
+        &rt,
+        rt.alloc(),
+        true,
+        Some(3),
+        &[
+            Act::Whole(0, Ask::LoanOf(0, 4), 1, Told::ExceedsMaxLoanSize),
+            // three elements are lent: a write has no word, and takes one step
+            Act::Whole(0, Ask::LoanOf(0, 3), 9, Told::Handle(2)),
+            Act::Whole(0, Ask::WriteRequest(2, 7), 1, Told::WrongLength),
+            Act::Whole(0, Ask::WriteNoRequest(2), 1, Told::Done),
+            Act::Whole(0, Ask::WriteNoRequest(2), 1, Told::Done),
+            Act::RefusedCall(0, Ask::WriteNoResponse(2), WireRefusal::WrongKind),
+            Act::Whole(0, Ask::Read(2), 1, Told::NoWord),
+            Act::Whole(0, Ask::Send(2), 9, Told::Sent(1)),
+            Act::Whole(1, Ask::Receive(1), 11, Told::Handle(2)),
+            Act::Whole(1, Ask::Read(2), 1, Told::NoWord),
+            // so it is of a response, of two
+            Act::Whole(1, Ask::LoanOf(2, 2), 14, Told::Handle(3)),
+            Act::Whole(1, Ask::WriteResponse(3, 7), 1, Told::WrongLength),
+            Act::Whole(1, Ask::WriteNoResponse(3), 1, Told::Done),
+            Act::Whole(1, Ask::Send(3), 9, Told::Done),
+            Act::Whole(0, Ask::Receive(2), 10, Told::Handle(3)),
+            Act::Whole(0, Ask::Read(3), 1, Told::NoWord),
+        ],
+    )
 }
 
 #[test]
 fn messages_of_no_elements_are_written_by_no_words(rt: HostRuntime) -> Result<(), Fail> {
-    let table = [
-        Act::Whole(0, Ask::LoanOf(0, 0), 9, Told::Handle(2)),
-        Act::Whole(0, Ask::WriteRequest(2, 7), 1, Told::WrongLength),
-        Act::Whole(0, Ask::WriteNoRequest(2), 1, Told::Done),
-        Act::Whole(0, Ask::Release(2), 1, Told::Done),
-        // a copy of no words has no element
-        Act::Whole(0, Ask::CopyRequest(0, 7), 1, Told::WrongLength),
-        Act::Whole(0, Ask::CopyNoRequest(0), 18, Told::Handle(3)),
-        Act::Whole(1, Ask::Receive(1), 11, Told::Handle(2)),
-        Act::Whole(1, Ask::Read(2), 1, Told::NoWord),
-    ];
-    let mut wire = open(rt.alloc(), true)?;
-    plays(&rt, &mut wire, &table);
-    Ok(())
+    plays_on(
+        &rt,
+        rt.alloc(),
+        true,
+        None,
+        &[
+            Act::Whole(0, Ask::LoanOf(0, 0), 9, Told::Handle(2)),
+            Act::Whole(0, Ask::WriteRequest(2, 7), 1, Told::WrongLength),
+            Act::Whole(0, Ask::WriteNoRequest(2), 1, Told::Done),
+            Act::Whole(0, Ask::Release(2), 1, Told::Done),
+            // a copy of no words has no element
+            Act::Whole(0, Ask::CopyRequest(0, 7), 1, Told::WrongLength),
+            Act::Whole(0, Ask::CopyNoRequest(0), 18, Told::Handle(3)),
+            Act::Whole(1, Ask::Receive(1), 11, Told::Handle(2)),
+            Act::Whole(1, Ask::Read(2), 1, Told::NoWord),
+        ],
+    )
 }
 
 #[test]
 fn one_element_without_words_is_written_by_no_words(rt: HostRuntime) -> Result<(), Fail> {
-    let table = [
-        Act::Whole(0, Ask::LoanOf(0, 0), 1, Told::WrongLength),
-        Act::Whole(0, Ask::LoanOf(0, 3), 1, Told::WrongLength),
-        Act::Whole(0, Ask::Loan(0), 9, Told::Handle(2)),
-        Act::Whole(0, Ask::WriteRequest(2, 7), 1, Told::WrongLength),
-        Act::Whole(0, Ask::WriteNoRequest(2), 1, Told::Done),
-        Act::Whole(0, Ask::Read(2), 1, Told::NoWord),
-        Act::Whole(0, Ask::Send(2), 9, Told::Sent(1)),
-        Act::Whole(1, Ask::Receive(1), 11, Told::Handle(2)),
-        Act::Whole(1, Ask::Read(2), 1, Told::NoWord),
-        Act::Whole(1, Ask::Loan(2), 14, Told::Handle(3)),
-        Act::Whole(1, Ask::WriteNoResponse(3), 1, Told::Done),
-        Act::Whole(1, Ask::Send(3), 9, Told::Done),
-        Act::Whole(0, Ask::Receive(2), 10, Told::Handle(3)),
-        Act::Whole(0, Ask::Read(3), 1, Told::NoWord),
-    ];
-    let mut wire = open(rt.alloc(), false)?;
-    plays(&rt, &mut wire, &table);
-    assert_eq!(rt; wire.words().get(6), Some(&1));
-    Ok(())
+    plays_on(
+        &rt,
+        rt.alloc(),
+        false,
+        Some(1),
+        &[
+            Act::Whole(0, Ask::LoanOf(0, 0), 1, Told::WrongLength),
+            Act::Whole(0, Ask::LoanOf(0, 3), 1, Told::WrongLength),
+            Act::Whole(0, Ask::Loan(0), 9, Told::Handle(2)),
+            Act::Whole(0, Ask::WriteRequest(2, 7), 1, Told::WrongLength),
+            Act::Whole(0, Ask::WriteNoRequest(2), 1, Told::Done),
+            Act::Whole(0, Ask::Read(2), 1, Told::NoWord),
+            Act::Whole(0, Ask::Send(2), 9, Told::Sent(1)),
+            Act::Whole(1, Ask::Receive(1), 11, Told::Handle(2)),
+            Act::Whole(1, Ask::Read(2), 1, Told::NoWord),
+            Act::Whole(1, Ask::Loan(2), 14, Told::Handle(3)),
+            Act::Whole(1, Ask::WriteNoResponse(3), 1, Told::Done),
+            Act::Whole(1, Ask::Send(3), 9, Told::Done),
+            Act::Whole(0, Ask::Receive(2), 10, Told::Handle(3)),
+            Act::Whole(0, Ask::Read(3), 1, Told::NoWord),
+        ],
+    )
 }
 
 #[test]
 fn copy_of_no_words_is_of_one_element(rt: HostRuntime) -> Result<(), Fail> {
-    let table = [
-        Act::Whole(0, Ask::CopyNoRequest(0), 18, Told::Handle(2)),
-        Act::Whole(1, Ask::Receive(1), 11, Told::Handle(2)),
-        Act::Whole(1, Ask::Read(2), 1, Told::NoWord),
-    ];
-    let mut wire = open(rt.alloc(), false)?;
-    plays(&rt, &mut wire, &table);
-    assert_eq!(rt; wire.words().get(6), Some(&1));
-    Ok(())
+    plays_on(
+        &rt,
+        rt.alloc(),
+        false,
+        Some(1),
+        &[
+            Act::Whole(0, Ask::CopyNoRequest(0), 18, Told::Handle(2)),
+            Act::Whole(1, Ask::Receive(1), 11, Told::Handle(2)),
+            Act::Whole(1, Ask::Read(2), 1, Told::NoWord),
+        ],
+    )
 }

@@ -1,5 +1,5 @@
 //! A wire where each setting is 1, with a client on one node and a server on the other.
-use super::settings::{NO_OVERFLOW, open, plan, terms};
+use super::settings::{NO_OVERFLOW, OVERFLOW, open, plan, terms};
 use iox_wire::{NodeReply, Progress, SeatReply, Wire, WireRefusal, is_plan, is_whole};
 use std::test::Fail;
 
@@ -99,5 +99,21 @@ fn terms_of_one_port_are_too_few(rt: HostRuntime) -> Result<(), Fail> {
     let mut terms = terms(rt.alloc(), NO_OVERFLOW)?;
     terms.ports.pop();
     assert!(rt; !is_whole(&plan, &terms));
+    Ok(())
+}
+
+#[test]
+fn queues_that_overflow_without_room_are_not_whole(rt: HostRuntime) -> Result<(), Fail> {
+    let mut plan = plan(rt.alloc(), OVERFLOW)?;
+    let terms = terms(rt.alloc(), OVERFLOW)?;
+    assert!(rt; is_whole(&plan, &terms));
+    plan.limits.response_buffer = 0;
+    assert!(rt; !is_whole(&plan, &terms));
+    plan.limits.response_overflow = false;
+    assert!(rt; is_whole(&plan, &terms));
+    plan.limits.active_requests = 0;
+    assert!(rt; !is_whole(&plan, &terms));
+    plan.limits.request_overflow = false;
+    assert!(rt; is_whole(&plan, &terms));
     Ok(())
 }
