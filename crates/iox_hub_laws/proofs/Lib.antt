@@ -8,7 +8,9 @@ pub mod Came
 pub mod Loaned
 pub mod OfHubs
 pub mod Receiving
+pub mod Unrefused
 pub mod Lending
+pub mod Succeeding
 pub mod Values
 pub mod Only
 pub mod BringsOnly

@@ -1,10 +1,10 @@
 -- A loan answers what its tests and its pool say.
-use Rattle.std.specs.Prelude.{◌≡◌, ℕ, ◌*◌, ◌^◌, Bool, true, false, not, ◌&&◌, ◌||◌, nat_le, if◌then◌else◌, List, [], Option, Some, None, refl}
+use Rattle.std.specs.Prelude.{◌≡◌, ◌⊎◌, ℕ, ◌*◌, ◌^◌, Bool, true, false, not, ◌&&◌, ◌||◌, nat_le, if◌then◌else◌, List, [], Option, Some, None, refl}
 use Rattle.std.specs.Option.{option_map_or}
-use Rattle.std.proofs.Common.{sym, ap, ap₂, ◌∙◌, inl, inr}
+use Rattle.std.proofs.Common.{sym, ap, ap₂, subst, ◌∙◌, inl, inr, true≢false}
 use Rattle.iox_model.specs.declared.kind.Role.{Role}
 use Rattle.iox_model.specs.declared.kind.Role.TheVariants.{Client, Server}
-use Rattle.iox_model.specs.declared.reply.Refusal.TheVariants.{CallsSpent, ExceedsMaxLoans, ExceedsMaxLoanSize, OutOfMemory, WrongLength}
+use Rattle.iox_model.specs.declared.reply.Refusal.TheVariants.{CallsSpent, ExceedsMaxLoans, ExceedsMaxLoanSize, OutOfMemory, WantOfMemory, WrongLength}
 use Rattle.iox_model.specs.declared.reply.Reply.TheVariants.{Handle, Refused}
 use Rattle.iox_model.specs.Begins.{MayChoose}
 use Rattle.iox_model.specs.Commands.{Call, Refusal, Reply, number_of}
@@ -17,12 +17,16 @@ use Rattle.iox_model.specs.Responses.{ordered}
 use Rattle.iox_model.specs.Runs.{IsReachableState}
 use Rattle.iox_model.specs.Settings.{Shape, has_layout, is_count}
 use Rattle.iox_model.specs.States as m
-use Rattle.iox_model.specs.WholeCalls.{IsWholeCall}
+use Rattle.iox_model.specs.WholeCalls.{IsDone, IsWholeCall, UnlessRefused, spent}
 use Rattle.iox_laws.specs.CallFunctions.Answers.{answered_with, refusing, unless}
 use Rattle.iox_laws.specs.CallFunctions.Calls.{call_by, LoanMayHold}
 use Rattle.iox_laws.specs.CallFunctions.Loans.{handed_out, lent_from, lent_unless}
 use Rattle.iox_laws.specs.ReplyLaws.Determined.{tells_want}
-use Rattle.iox_laws.proofs.ReplyLaws.Ready.{taking_calls_answer_plainly}
+use Rattle.iox_laws.proofs.CallFunctions.Calling.{each_call_is_whole}
+use Rattle.iox_laws.proofs.ReplyLaws.Choosing.{IsTold, answer, done_like}
+use Rattle.iox_laws.proofs.ReplyLaws.Hands.{NoneInHand, none_in_hand}
+use Rattle.iox_laws.proofs.ReplyLaws.Laws.{IsNear, reply_or, whole_answer, whole_near}
+use Rattle.iox_laws.proofs.ReplyLaws.Ready.{reachable_states_are_ready}
 use Rattle.iox_laws.proofs.RunLaws.Choices.{something_may_be_chosen}
 use Rattle.iox_tables.specs.HubStates.Tables.{HubTables, PortState}
 use Rattle.iox_tables.specs.HubStates.Ways.{lane_on}
@@ -157,18 +161,50 @@ module _ (x : Given) (t : HubTables) (node n k : ℕ) (uninit : Bool) (c : Choic
 
 -- ---- any whole call
 
-module _ (x : Given) (t : HubTables) (order : AreInOrder t) (reached : IsReachableState (state_shown x t)) (node n k : ℕ) (uninit : Bool) (reply : Reply) (u : m.State)
-    (whole : IsWholeCall (state_shown x t) node (loan_call uninit n k) reply u) (quiet : tells_want reply ≡ false) where
+-- the reply is that one, or says that there was no memory
+abbrev pub OrWants : Reply → Reply → Type 0
+OrWants a b = (a ≡ b) ⊎ (a ≡ Refused WantOfMemory)
+
+wants_unless : (q : Option Refusal) (s t : m.State) (a b : Reply) (P : Type 0) → (q ≡ None → P → OrWants a b) → UnlessRefused q s a t P
+    → OrWants a (reply_or q b)
+wants_unless (Some r) s t a b P f u = inl u.0
+wants_unless None s t a b P f u = f refl u
+
+done_wants : (call : Call) (memory : Bool) (a b : Reply) → IsTold call memory a b → OrWants a b
+done_wants call memory a b (inl e) = inl e
+done_wants call memory a b (inr want) = inr want.2
+
+whole_wants : (s t : m.State) (node : ℕ) (call : Call) (a : Reply) → NoneInHand s → IsWholeCall s node call a t → OrWants a (whole_answer s node call)
+whole_wants s t node call a none =
+    wants_unless (misnamed s.fixed node call) s t a (reply_or (spent s.fixed call) (answer s node call)) (UnlessRefused (spent s.fixed call) s a t (IsDone s node call a t))
+    (λ named. wants_unless (spent s.fixed call) s t a (answer s node call) (IsDone s node call a t)
+    (λ u done. done_wants call (done.0).memory a (answer s node call) (done_like s t node call a none named done)))
+
+plainly : (a b : Reply) → OrWants a b → tells_want a ≡ false → a ≡ b
+plainly a b (inl e) quiet = e
+plainly a b (inr e) quiet = absurd (true≢false (ap tells_want (sym e) ∙ quiet))
+
+near : (a b c : Reply) → IsNear a b → a ≡ c → tells_want c ≡ false → b ≡ c
+near a b c (inl e) same quiet = sym e ∙ same
+near a b c (inr e) same quiet = absurd (true≢false (sym e ∙ ap tells_want same ∙ quiet))
+
+module _ (x : Given) (t : HubTables) (order : AreInOrder t) (reached : IsReachableState (state_shown x t)) (node n k : ℕ) (uninit : Bool) where
   abbrev call : Call
   call = loan_call uninit n k
 
-  chosen : (c : Choice) (y : Lender) → IsLender t node n c.lane y → c.memory ≡ true → MayChoose (fixed_of x t) node c call → reply ≡ loan_answer x t y k
+  abbrev now : m.State
+  now = state_shown x t
+
+  chosen : (c : Choice) (y : Lender) → IsLender t node n c.lane y → c.memory ≡ true → MayChoose (fixed_of x t) node c call
+      → whole_answer now node call ≡ loan_answer x t y k
   chosen c y on has may =
-      let p : (payload : List ℕ) × LoanMayHold (state_shown x t) node call c payload = some_payload_may_be_held x t node call c in
+      let p : (payload : List ℕ) × LoanMayHold now node call c payload = some_payload_may_be_held x t node call c in
       let so : Lends x t node n c y = lends_so x t node n c (handles_are_on_nodes t order) y on in
-      let same : (call_by (state_shown x t) node call c p.0).0 ≡ loan_answer x t y k = answers x t node n k uninit c p.0 y so order on has in
-      taking_calls_answer_plainly (state_shown x t) u node call c p.0 reply reached may p.1 whole quiet
-      (ap tells_want same ∙ answer_quiet x t y k) ∙ same
+      let same : (call_by now node call c p.0).0 ≡ loan_answer x t y k = answers x t node n k uninit c p.0 y so order on has in
+      near (call_by now node call c p.0).0 (whole_answer now node call) (loan_answer x t y k)
+      (whole_near now (call_by now node call c p.0).1 node call (call_by now node call c p.0).0 (none_in_hand now reached)
+      (each_call_is_whole now node call c p.0 (reachable_states_are_ready now node reached) may p.1))
+      same (answer_quiet x t y k)
 
   -- a client's loan takes some lane, and its answer does not depend on that
   same_refusal : (p : PortState) (a b : ℕ) (role : Role) → count_refusal_by role t (lender_of_request p a) ≡ count_refusal_by role t (lender_of_request p b)
@@ -180,12 +216,29 @@ module _ (x : Given) (t : HubTables) (order : AreInOrder t) (reached : IsReachab
       ap (λ (o : Option Refusal). option_map_or Refused (or_else (calls_refusal t) (or_else (size_refusal p (shape_in x t p) k) o))
       (if is_pool_to_be_dry x t p then Refused OutOfMemory else Handle t.next_number)) (same_refusal p a b p.role)
 
-  pub client_answers : (client : IsClient t node n) → reply ≡ loan_answer x t (lender_of_request client.port 0) k
-  client_answers client =
+  of_client : (client : IsClient t node n) → whole_answer now node call ≡ loan_answer x t (lender_of_request client.port 0) k
+  of_client client =
       let p = something_may_be_chosen (fixed_of x t) node call true refl in
       chosen p.0 (lender_of_request client.port p.0.lane) (inl (client, refl)) p.1 p.2 ∙ same_answer client.port p.0.lane 0
 
-  pub server_answers : (active : IsActive t node n) → reply ≡ loan_answer x t (lender_of_response t active.handle active.port) k
-  server_answers active =
+  of_server : (active : IsActive t node n) → whole_answer now node call ≡ loan_answer x t (lender_of_response t active.handle active.port) k
+  of_server active =
       let p = something_may_be_chosen (fixed_of x t) node call true refl in
       chosen p.0 (lender_of_response t active.handle active.port) (inr (active, refl)) p.1 p.2
+
+  module _ (reply : Reply) (u : m.State) (whole : IsWholeCall now node call reply u) where
+    wants : OrWants reply (whole_answer now node call)
+    wants = whole_wants now u node call reply (none_in_hand now reached) whole
+
+    pub client_tells : (client : IsClient t node n) → OrWants reply (loan_answer x t (lender_of_request client.port 0) k)
+    client_tells client = subst (λ (a : Reply). OrWants reply a) (of_client client) wants
+
+    pub server_tells : (active : IsActive t node n) → OrWants reply (loan_answer x t (lender_of_response t active.handle active.port) k)
+    server_tells active = subst (λ (a : Reply). OrWants reply a) (of_server active) wants
+
+    pub client_answers : tells_want reply ≡ false → (client : IsClient t node n) → reply ≡ loan_answer x t (lender_of_request client.port 0) k
+    client_answers quiet client = plainly reply (loan_answer x t (lender_of_request client.port 0) k) (client_tells client) quiet
+
+    pub server_answers : tells_want reply ≡ false → (active : IsActive t node n)
+        → reply ≡ loan_answer x t (lender_of_response t active.handle active.port) k
+    server_answers quiet active = plainly reply (loan_answer x t (lender_of_response t active.handle active.port) k) (server_tells active) quiet

@@ -1,12 +1,17 @@
 -- What a loan answers.
-use Rattle.std.specs.Prelude.{◌≡◌, ℕ, ◌*◌, ◌<◌, ◌≤◌, ◌^◌, true, if◌then◌else◌, Some, ⊤}
+use Rattle.std.specs.Prelude.{◌≡◌, ◌⊎◌, ℕ, ◌*◌, ◌<◌, ◌≤◌, ◌^◌, Bool, true, if◌then◌else◌, Some, ⊤}
 use Rattle.std.specs.Option.{option_map_or}
-use Rattle.iox_model.specs.Commands.{Reply}
+use Rattle.iox_model.specs.Commands.{Call, Reply}
 use Rattle.iox_model.specs.Settings.{Shape, has_layout, is_count}
+use Rattle.iox_model.specs.States.{State}
+use Rattle.iox_model.specs.WholeCalls.{IsWholeCall}
+use Rattle.iox_model.specs.declared.kind.Kind.TheVariants.{ActiveRequest, Client}
+use Rattle.iox_model.specs.declared.reply.Refusal.TheVariants as reasons
 use Rattle.iox_model.specs.declared.reply.Refusal.TheVariants.{OutOfMemory}
 use Rattle.iox_model.specs.declared.reply.Reply.TheVariants.{Handle, Refused}
 use Rattle.iox_laws.specs.RunPools.Finding.{IsUnreducedNode}
 use Rattle.iox_tables.specs.HubLoans.Counts.{requests_on_loan, responses_on_loan, responses_to}
+use Rattle.iox_tables.specs.HubLoans.Loans.{loan_call}
 use Rattle.iox_tables.specs.HubLoans.Lenders.{Lender, is_pool_to_be_dry, lender_of_request, lender_of_response, loan_refusal}
 use Rattle.iox_tables.specs.HubStates.Releases.{request_of}
 use Rattle.iox_tables.specs.HubStates.States.{Given}
@@ -17,7 +22,7 @@ use Rattle.iox_hub.specs.Lent.{Lent}
 use Rattle.iox_hub.specs.Lent.TheVariants as lents
 use Rattle.iox_hub.specs.LoanRefusal.TheVariants.{WantOfMemory}
 use Rattle.iox_hub.specs.Growing.{GrowsPast}
-use Rattle.iox_hub.specs.Hubs.{HubState, given_by, nothing_given}
+use Rattle.iox_hub.specs.Hubs.{HasValue, HubState, IsReached, given_by, nothing_given, state_of_hub}
 use Rattle.iox_hub_laws.specs.Shown.{shown}
 
 -- The first test that refuses the loan. If none does, the pool decides: it refuses exactly where the
@@ -99,3 +104,44 @@ RespondsWithinLimits h node number k lent =
     (a : HandleState) → handle_in h.control.tables.handles node number ≡ Some a
     → (p : PortState) → port_in h.control.tables.ports a.port ≡ Some p
     → IsWithinServersLimits h.control.tables h.response a p k → HasFullPools h node → IsLent lent
+
+-- The client may lend so many elements: it is within its limits, and its node has full pools.
+pub record CanLend (h : HubState) (node client k : ℕ) : Type 0 where
+  pub port : PortState
+  pub there : port_in h.control.tables.ports client ≡ Some port
+  pub limits : IsWithinLimits h.control.tables h.request port k
+  pub pools : HasFullPools h node
+
+-- The server may answer that request with so many elements: it is within its limits, and its node has
+-- full pools.
+pub record CanRespond (h : HubState) (node n k : ℕ) : Type 0 where
+  pub active : HandleState
+  pub named : handle_in h.control.tables.handles node n ≡ Some active
+  pub port : PortState
+  pub there : port_in h.control.tables.ports active.port ≡ Some port
+  pub limits : IsWithinServersLimits h.control.tables h.response active port k
+  pub pools : HasFullPools h node
+
+-- ---- any whole call
+
+-- the loan is made, and has the next number, or it finds no memory
+abbrev pub IsLentOrWants : HubState → Reply → Type 0
+IsLentOrWants h reply =
+    (reply ≡ Handle h.control.tables.next_number) ⊎ (reply ≡ Refused reasons.WantOfMemory)
+
+-- Where a node has full pools, a loan by its client that is within limits is made, or finds no
+-- memory. So is one to its active request. And no call of the node runs out of messages.
+pub record LoansSucceed (h : HubState) : Type 0 where
+  pub requests :
+      (r : IsReached h) (t : State) (node client k : ℕ) (uninit : Bool) (reply : Reply)
+      → HasValue h node client Client → CanLend h node client k
+      → IsWholeCall (state_of_hub r.0 h) node (loan_call uninit client k) reply t
+      → IsLentOrWants h reply
+  pub responses :
+      (r : IsReached h) (t : State) (node active k : ℕ) (uninit : Bool) (reply : Reply)
+      → HasValue h node active ActiveRequest → CanRespond h node active k
+      → IsWholeCall (state_of_hub r.0 h) node (loan_call uninit active k) reply t
+      → IsLentOrWants h reply
+  pub never :
+      (r : IsReached h) (t : State) (node : ℕ) (call : Call) → HasFullPools h node
+      → IsWholeCall (state_of_hub r.0 h) node call (Refused OutOfMemory) t → ⊥

@@ -22,8 +22,8 @@ pub use iox_hub::{
     default_settings, words_tell_answers,
 };
 pub use limits::{
-    borrows_hold, buffers_hold, few_are_kept_of_the_gone, nothing_is_kept_of_the_gone,
-    slots_are_of_holders,
+    borrows_hold, buffers_hold, few_are_kept_of_the_gone, loans_succeed,
+    nothing_is_kept_of_the_gone, slots_are_of_holders,
 };
 pub use loans::{lend_request, lend_response};
 pub use receives::{receive_request, receive_response};

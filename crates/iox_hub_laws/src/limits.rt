@@ -1,8 +1,10 @@
 //! What holds of a hub between calls: who has which messages, and how many. The functions have
 //! nothing to do: each is there for its contract.
 ghost use Rattle.iox_tables.specs.HubKeeping.Connected.{KeepsNone};
+ghost use Rattle.iox_hub.specs.Hubs.{IsReached};
 ghost use Rattle.iox_hub_laws.specs.Gone.{KeepsFewGone, KeepsNoGone};
 ghost use Rattle.iox_hub_laws.specs.Limits.{BorrowsHold, BuffersHold};
+ghost use Rattle.iox_hub_laws.specs.Loans.{LoansSucceed};
 ghost use Rattle.iox_hub_laws.specs.Slots.{SlotsAreOfHolders};
 
 use iox_hub::{Backpressure, Hub};
@@ -23,6 +25,17 @@ pub fn borrows_hold<Q: Payload, QH: Words, P: Payload, PH: Words, H: Backpressur
     hub: &Hub<Q, QH, P, PH, H>,
 )
     ensures { BorrowsHold hub.now }
+{
+    hub.is_in_order();
+}
+
+/// A loan within its limits is made, or finds no memory, where no pool of its node was reduced. Then
+/// no call of the node runs out of messages.
+pub fn loans_succeed<Q: Payload, QH: Words, P: Payload, PH: Words, H: Backpressure>(
+    hub: &Hub<Q, QH, P, PH, H>,
+)
+    ensures reached { IsReached hub.now }
+    ensures made { LoansSucceed hub.now }
 {
     hub.is_in_order();
 }
