@@ -1,8 +1,9 @@
 -- A port that is made has nothing, has nothing on loan, and has room; for all others nothing comes, and who had room has it still.
 use Rattle.std.specs.Prelude.{◌≡◌, ◌⊎◌, ℕ, ◌<◌, ◌≤◌, Bool, true, false, ◌||◌, ◌==◌, nat_le, if◌then◌else◌, List, [], ◌∷◌, ◌++◌, filter, find, length, map, max, Option, None, Some, is_some, refl}
 use Rattle.std.specs.List.{list_any}
-use Rattle.std.specs.Option.{option_map_or}
+use Rattle.std.specs.Option.{option_map, option_map_or}
 use Rattle.std.proofs.Common.{sym, ap, ◌∙◌, arith, inl, inr, eqb-true, true≢false}
+use Rattle.std.proofs.lemmas.Option.{none-some}
 use Rattle.iox_types.specs.declared.identifiers.system_id.UniqueSystemId.{UniqueSystemId}
 use Rattle.iox_model.specs.declared.kind.Role.{Role}
 use Rattle.iox_model.specs.declared.kind.Role.TheVariants.{Client, Server}
@@ -15,14 +16,14 @@ use Rattle.iox_model.specs.Makings.{IsHubCommand, making_refusal, new_port, port
 use Rattle.iox_model.specs.Maps.{has_number}
 use Rattle.iox_model.specs.Messages.{Message}
 use Rattle.iox_model.specs.Handles.{count_of, is_request_loan}
-use Rattle.iox_model.specs.Peers.{borrow_limit_on, buffer_on, is_connected_port, node_of_port, role_at}
+use Rattle.iox_model.specs.Peers.{borrow_limit_on, buffer_on, is_connected_port, node_of_port, port_at, role_at}
 use Rattle.iox_model.specs.Receives.{is_at_limit}
 use Rattle.iox_model.specs.Runs.{IsReachableState}
 use Rattle.iox_model.specs.Settings.{Limits, borrow_limit_of, buffer_of, other_role}
 use Rattle.iox_model.specs.States as m
 use Rattle.iox_model.specs.WholeCalls.{UnlessRefused}
 use Rattle.iox_laws.specs.CallFunctions.Sends.{is_full}
-use Rattle.iox_laws.proofs.WeaveLaws.MapLemmas.{either}
+use Rattle.iox_laws.proofs.WeaveLaws.MapLemmas.{either, eqb-refl}
 use Rattle.iox_laws.proofs.WeaveLedger.Truths.{by_cases, or-right}
 use Rattle.iox_laws.proofs.WeaveWorlds.Inductions.{reached_keeps}
 use Rattle.iox_laws.proofs.WeaveWorlds.PortsKept.{is_kept}
@@ -32,12 +33,13 @@ use Rattle.iox_tables.specs.HubStates.Shown.{waiting_in}
 use Rattle.iox_tables.specs.HubBooks.Handles.{IsOfPort}
 use Rattle.iox_tables.proofs.HubKeeping.Ordered.{order_is_ready_for_ports}
 use Rattle.iox_tables.specs.HubStates.Ends.{OfEachHandle}
-use Rattle.iox_tables.specs.HubStates.States.{Given, expired_in, handle_of, message_of}
+use Rattle.iox_tables.specs.HubStates.States.{Given, expired_in, handle_of, message_of, port_of}
 use Rattle.iox_tables.specs.HubStates.Steps.{is_there}
 use Rattle.iox_tables.specs.HubStates.Tables.{HandleState, HubTables, PortState, numbers_of, port_in}
 use Rattle.iox_tables.specs.HubStates.Ways.{lane_on}
 use Rattle.iox_tables.proofs.HubLending.Owning.{handles_are_on_nodes}
 use Rattle.iox_tables.proofs.HubLoans.Counting.{each_count_is_the_same}
+use Rattle.iox_tables.proofs.HubStates.Fixing.{find_port}
 use Rattle.iox_hub_laws.specs.Hubs.{HubState, IsHub, given_by, nothing_given, state_of_hub}
 use Rattle.iox_hub_laws.specs.Gone.{IsToPort}
 use Rattle.iox_hub_laws.specs.Sends.{NothingComes}
@@ -159,6 +161,18 @@ found_still (q ∷ qs) p k e =
     (Some q) (find (λ (r : m.Port). r.number == k) (qs ++ p ∷ []))
     (λ same. sym (ap (λ (b : Bool). if b then Some q else find (λ (r : m.Port). r.number == k) qs) same))
     (λ other. found_still qs p k e ∙ sym (ap (λ (b : Bool). if b then Some q else find (λ (r : m.Port). r.number == k) qs) other))
+
+-- the new one is found under its number, where none had that
+found_new : (ps : List m.Port) (p : m.Port) (k : ℕ) → (p.number == k) ≡ true → find (λ (q : m.Port). q.number == k) ps ≡ None
+    → find (λ (q : m.Port). q.number == k) (ps ++ p ∷ []) ≡ Some p
+found_new [] p k e none = ap (λ (b : Bool). if b then Some p else None) e
+found_new (q ∷ qs) p k e none = step (q.number == k) (λ rest. found_new qs p k e rest) none
+  where
+    step : (b : Bool) → (find (λ (r : m.Port). r.number == k) qs ≡ None → find (λ (r : m.Port). r.number == k) (qs ++ p ∷ []) ≡ Some p)
+        → (if b then Some q else find (λ (r : m.Port). r.number == k) qs) ≡ None
+        → (if b then Some q else find (λ (r : m.Port). r.number == k) (qs ++ p ∷ [])) ≡ Some p
+    step true f rest = absurd (none-some q (sym rest))
+    step false f rest = f rest
 
 -- it is connected as before
 any_still : (ps : List m.Port) (p : m.Port) (k : ℕ) → (p.number == k) ≡ false → list_any (λ (q : m.Port). q.number == k) (ps ++ p ∷ []) ≡ list_any (λ (q : m.Port). q.number == k) ps
@@ -347,3 +361,21 @@ module _ (old new : HubState) (hub : IsHub old) (node : ℕ) (role : Role) (id :
         where
           its : x.port ≡ t.next_number
           its = is ∙ sym (told_number role n) ∙ ap number_in (sym told ∙ c.0) ∙ told_number role t.next_number
+
+  -- The port that is made is there, as the machine makes it.
+  pub made_port : (n : ℕ) → reply ≡ port_reply role n → port_at (shown new).fixed n ≡ Some p
+  made_port n told = elim made as (λ q. port_at (shown new).fixed n ≡ Some p) [
+    | inl c ↦ absurd (true≢false (sym c.0 ∙ ap is_refused told ∙ no_refusal role n))
+    | inr c ↦ ap (λ (v : m.State). port_at v.fixed n) c.1
+        ∙ ap (port_at u.fixed) (sym (told_number role n) ∙ ap number_in (sym told ∙ c.0) ∙ told_number role t.next_number)
+        ∙ found_new s.fixed.ports p t.next_number (eqb-refl t.next_number)
+        (find_port (given_by (nothing_given old) old) t.ports t.next_number ∙ ap (option_map (port_of (given_by (nothing_given old) old))) (no_port (port_in t.ports t.next_number) away))
+  ]
+    where
+      no_refusal : (r : Role) (k : ℕ) → is_refused (port_reply r k) ≡ false
+      no_refusal Client k = refl
+      no_refusal Server k = refl
+
+      no_port : (q : Option PortState) → is_some q ≡ false → q ≡ None
+      no_port None e = refl
+      no_port (Some r) e = absurd (true≢false e)

@@ -11,7 +11,7 @@ use Rattle.iox_model.specs.declared.reply.Reply.TheVariants as replies
 use Rattle.iox_model.specs.Begins.{begins_at, start}
 use Rattle.iox_model.specs.Commands.{Call, Refusal, Reply}
 use Rattle.iox_model.specs.Counts.{holding, numbered}
-use Rattle.iox_model.specs.Doings.{refused, Doing, Loans, Outcome, Tells}
+use Rattle.iox_model.specs.Doings.{refused, Doing, Loans, Outcome, Receiver, Tells}
 use Rattle.iox_model.specs.Ends.{settled}
 use Rattle.iox_model.specs.Handles.{Subject, TheHandle, ThePort, handle_at, new_number, subject}
 use Rattle.iox_model.specs.Loans.{Choice, Order, lending_ways, loan_of, memory_refusal, next_request, request_loan_refusal, response_loan_refusal, unless_refused}
@@ -212,6 +212,12 @@ module _ (old new : HubState) (hub : IsHub old) (node client k : ℕ) (uninit : 
       (λ h e. eqb-true h.number (new_number z.fixed p.node) e ∙ ap (new_number z.fixed) lender.on_node)
       (loan_call uninit client k)
       (request_begins p z.fixed z refl node client k (each_port_is_named x ts node client lender.port lender.there lender.held).names uninit) (whole hub.reached.0)
+
+  -- A request that is lent is of its client.
+  pub lends_by_client : (client_in new node i).port ≡ client
+  lends_by_client =
+      ap (λ (r : Receiver). r.port) (client_shown new node i made.handle made.there) ∙ made.is.port
+      ∙ first_key (λ (q : PortState). q.number) ts.ports client lender.port lender.there
 
   -- A client that was idle for each request is so for that of its new loan.
   pub lends_quietly : NothingComes old new → KeepsRoom old new → LendsQuietly old client new node i

@@ -36,3 +36,5 @@ pub mod SentOpen
 pub mod Unclosed
 pub mod CopyAsked
 pub mod ChosenPools
+pub mod Senders
+pub mod MadeAs

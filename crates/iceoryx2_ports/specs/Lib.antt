@@ -4,6 +4,7 @@ pub use Rattle.iox_model.specs.Makings as MachineMakings
 pub use Rattle.iox_model.specs.Messages
 pub use Rattle.iox_model.specs.WholeCalls
 pub use Rattle.iox_model.specs.declared.backpressure.BackpressureAction
+pub use Rattle.iox_laws.specs.BackpressureStrategy
 pub use Rattle.iox_model.specs.declared.call.Call
 pub use Rattle.iox_model.specs.declared.kind.Kind
 pub use Rattle.iox_model.specs.declared.kind.Role
@@ -32,6 +33,7 @@ pub use Rattle.iox_hub_laws.specs.Sends
 pub use Rattle.iox_hub_laws.specs.Waiting
 pub use Rattle.iox_hub_laws.specs.Histories as HubHistories
 pub use Rattle.iox_hub_laws.specs.Limits as HubLimits
+pub use Rattle.iox_hub_laws.specs.Loans as HubLoans
 pub use Rattle.iox_hub_laws.specs.Slots as HubSlots
 pub use Rattle.iox_hub_laws.specs.Gone as HubGone
 pub use Rattle.iox_tables.specs.HubKeeping.Connected as HubConnected
@@ -75,4 +77,5 @@ pub mod Asking
 pub mod Opens
 pub mod Releases
 pub mod Rooms
+pub mod Senders
 pub mod Overrides

@@ -9,10 +9,9 @@ use Rattle.iox_model.specs.Settings.{is_count}
 use Rattle.iox_model.specs.States.{Handle, Port}
 use Rattle.iox_tables.specs.HubLoans.Counts.{requests_on_loan}
 use Rattle.iox_tables.specs.HubLoans.Lenders.{size_refusal}
-use Rattle.iox_tables.specs.HubStates.Tables.{HandleState, PortState, port_in}
-use Rattle.iox_tables.specs.HubStates.Wirings.{handle_in}
+use Rattle.iox_tables.specs.HubStates.Tables.{PortState, port_in}
 use Rattle.iox_hub_laws.specs.Hubs.{HubState}
-use Rattle.iox_hub_laws.specs.Loans.{HasFullPools, IsWithinLimits, IsWithinServersLimits}
+pub use Rattle.iox_hub_laws.specs.Loans.{CanLend, CanRespond}
 use Rattle.iox_hub_laws.specs.Shown.{shown}
 use Rattle.iceoryx2_ports.specs.Calls.{HasCallsLeft}
 
@@ -46,13 +45,6 @@ pub record LendsOneMore (old : HubState) (client k : ℕ) (new : HubState) : Typ
   pub limit :
       new.control.tables.settings.loaned_requests ≡ old.control.tables.settings.loaned_requests
   pub length : LendsLength new client k
-
--- The client may lend so many elements: it is within its limits, and its node has full pools.
-pub record CanLend (h : HubState) (node client k : ℕ) : Type 0 where
-  pub port : PortState
-  pub there : port_in h.control.tables.ports client ≡ Some port
-  pub limits : IsWithinLimits h.control.tables h.request port k
-  pub pools : HasFullPools h node
 
 -- So many elements are no more than the client's messages have room for.
 abbrev pub LendsAtMostLongest : HubState → ℕ → ℕ → Type 0
@@ -97,16 +89,6 @@ pub record RespondsOneMore (old : HubState) (node n k : ℕ) (new : HubState) : 
   pub count : responses_lent new node n ≡ responses_lent old node n + 1
   pub limit : most_responses new node n ≡ most_responses old node n
   pub length : RespondsLength new node n k
-
--- The server may answer that request with so many elements: it is within its limits, and its node has
--- full pools.
-pub record CanRespond (h : HubState) (node n k : ℕ) : Type 0 where
-  pub active : HandleState
-  pub named : handle_in h.control.tables.handles node n ≡ Some active
-  pub port : PortState
-  pub there : port_in h.control.tables.ports active.port ≡ Some port
-  pub limits : IsWithinServersLimits h.control.tables h.response active port k
-  pub pools : HasFullPools h node
 
 -- So many elements are no more than the server's messages have room for.
 abbrev pub RespondsAtMostLongest : HubState → ℕ → ℕ → ℕ → Type 0

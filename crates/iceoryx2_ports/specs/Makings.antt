@@ -1,8 +1,16 @@
--- What typed ports are made with, and what their makings answer.
-use Rattle.std.specs.Prelude.{None, Result, Ok, Err}
+-- What typed ports are made with, what their makings answer, and what the ports are then.
+use Rattle.std.specs.Prelude.{◌≡◌, ℕ, not, if◌then◌else◌, Option, None, Some, Result, Ok, Err}
+use Rattle.std.specs.Option.{option_map}
+use Rattle.iox_laws.specs.AllocationStrategy.{AllocationStrategy}
+use Rattle.iox_laws.specs.BackpressureStrategy.{BackpressureStrategy}
 use Rattle.iox_model.specs.declared.reply.Refusal.TheVariants as refusals
 use Rattle.iox_model.specs.declared.reply.Reply.TheVariants as replies
 use Rattle.iox_model.specs.Commands.{Reply}
+use Rattle.iox_model.specs.Peers.{port_at}
+use Rattle.iox_model.specs.Settings.{Shape, is_static}
+use Rattle.iox_model.specs.States.{Port}
+use Rattle.iox_hub_laws.specs.Hubs.{HubState}
+use Rattle.iox_hub_laws.specs.Shown.{shown}
 use Rattle.iox_hub_laws.specs.Options.{Options}
 use Rattle.iceoryx2_ports.specs.declared.client.Client.{Client}
 use Rattle.iceoryx2_ports.specs.declared.server.Server.{Server}
@@ -37,3 +45,20 @@ reply_of_server (Err servers.UnableToCreateDataSegment) = replies.Refused refusa
 reply_of_server (Err servers.ExceedsMaxSupportedServers) = replies.Refused refusals.ExceedsMaxSupportedServers
 reply_of_server (Err servers.UnableToCreatePortTag) = replies.Refused refusals.UnableToCreatePortTag
 reply_of_server (Err servers.FailedToDeployThreadsafetyPolicy) = replies.Nothing
+
+-- the connected port of that number, as the machine has it
+abbrev pub port_shown : HubState → ℕ → Option Port
+port_shown h n = port_at (shown h).fixed n
+
+-- The port of that number is connected, and is as its maker asked: how long its messages of this
+-- shape may be, whether they grow, and what it does at a full receiver.
+pub record IsMadeAs (h : HubState) (n : ℕ) (shape : Shape) (o : Options) : Type 0 where
+  pub longest :
+      option_map (λ p. p.longest) (port_shown h n)
+      ≡ Some (if shape.many then o.max_slice_len else 1)
+  pub grows :
+      (strategy : AllocationStrategy) → o.allocation ≡ Some strategy
+      → option_map (λ p. p.grows) (port_shown h n) ≡ Some (not (is_static strategy))
+  pub strategy :
+      (strategy : BackpressureStrategy) → o.strategy ≡ Some strategy
+      → option_map (λ p. p.strategy) (port_shown h n) ≡ Some strategy

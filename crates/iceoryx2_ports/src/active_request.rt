@@ -7,7 +7,7 @@ ghost use Rattle.iox_model.specs.declared.kind.Role.TheVariants as roles;
 ghost use Rattle.iox_model.specs.declared.reply.Reply.TheVariants.{Answer, Words};
 ghost use Rattle.iox_model.specs.WholeCalls.{IsWholeCall};
 ghost use Rattle.iox_tables.specs.HubStates.States.{Given};
-ghost use Rattle.iox_hub_laws.specs.Headers.{IsHeaderShown, header_in};
+ghost use Rattle.iox_hub_laws.specs.Headers.{IsHeaderShown, header_in, sender_in};
 ghost use Rattle.iox_hub_laws.specs.Hubs.{HasValue, state_of_hub, with_control};
 ghost use Rattle.iox_hub_laws.specs.Keeping.{HaveSameShapes, KeepsAll};
 ghost use Rattle.iox_hub_laws.specs.Lending.{IsFresh};
@@ -25,7 +25,7 @@ ghost use Rattle.iceoryx2_ports.specs.Opens.{KeepsRequests};
 ghost use Rattle.iceoryx2_ports.specs.Payloads.{BeginsWith};
 ghost use Rattle.iceoryx2_ports.specs.Reaching.{KeepsRoom};
 ghost use Rattle.iceoryx2_ports.specs.Releases.{IsReleased};
-ghost use Rattle.iceoryx2_ports.specs.Responses.{is_open};
+ghost use Rattle.iceoryx2_ports.specs.Responses.{asker_in, is_open};
 ghost use Rattle.iceoryx2_ports.specs.declared.errors.LoanError.TheVariants.{ExceedsMaxLoans};
 ghost use Rattle.iceoryx2_ports.specs.declared.errors.LoanError.TheVariants.{OutOfMemory};
 ghost use Rattle.iceoryx2_ports.specs.declared.errors.LoanError.TheVariants.{WantOfMemory};
@@ -119,8 +119,13 @@ impl<Q: Payload, QH: Words, P: Payload, PH: Words> ActiveRequest<Q, QH, P, PH> {
         requires has { HasValue hub.now self.now.node self.now.number kinds.ActiveRequest }
         ensures header { result ≡ request_header_of
             (header_in hub.now self.now.node self.now.number) }
+        ensures id { IfOk result (λ header. header.client_id
+            ≡ (header_in hub.now self.now.node self.now.number).port_id) }
         ensures shown { IsHeaderShown hub.now self.now.node self.now.number }
+        ensures sender { sender_in hub.now self.now.node self.now.number
+            ≡ (asker_in hub.now self.now.node self.now.number).port }
     {
+        hub.is_in_order();
         request_header(hub.message_header(self.node, self.number, self.hint))
     }
 
@@ -129,7 +134,10 @@ impl<Q: Payload, QH: Words, P: Payload, PH: Words> ActiveRequest<Q, QH, P, PH> {
         requires has { HasValue hub.now self.now.node self.now.number kinds.ActiveRequest }
         ensures id { result ≡ (header_in hub.now self.now.node self.now.number).port_id }
         ensures shown { IsHeaderShown hub.now self.now.node self.now.number }
+        ensures sender { sender_in hub.now self.now.node self.now.number
+            ≡ (asker_in hub.now self.now.node self.now.number).port }
     {
+        hub.is_in_order();
         let header = hub.message_header(self.node, self.number, self.hint);
         UniqueClientId::new(header.port_id)
     }

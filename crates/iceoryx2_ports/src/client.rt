@@ -14,11 +14,13 @@ ghost use Rattle.iox_hub_laws.specs.Keeping.{HaveSameShapes, KeepsAll};
 ghost use Rattle.iox_hub_laws.specs.Lending.{IsFresh};
 ghost use Rattle.iox_hub_laws.specs.Sending.{HasNothing};
 ghost use Rattle.iox_hub_laws.specs.Sends.{NothingComes};
+ghost use Rattle.iox_hub_laws.specs.Waiting.{client_in};
 ghost use Rattle.iceoryx2_ports.specs.Asking.{LendsQuietly};
 ghost use Rattle.iceoryx2_ports.specs.Keeping.{KeepsAsking};
 ghost use Rattle.iceoryx2_ports.specs.LoanLimits.{CanLend, HasAllLoans, LendsAtMostLongest};
 ghost use Rattle.iceoryx2_ports.specs.LoanLimits.{LendsOneMore};
 ghost use Rattle.iceoryx2_ports.specs.Loans.{reply_of_loan};
+ghost use Rattle.iceoryx2_ports.specs.Makings.{port_shown};
 ghost use Rattle.iceoryx2_ports.specs.Opens.{KeepsRequests};
 ghost use Rattle.iceoryx2_ports.specs.Reaching.{KeepsRoom};
 ghost use Rattle.iceoryx2_ports.specs.Releases.{IsReleased};
@@ -75,8 +77,10 @@ impl<Q: Payload, QH: Words, P: Payload, PH: Words> Client<Q, QH, P, PH> {
         hub: &Hub<Q, QH, P, PH, H>,
     ) -> BackpressureStrategy
         requires has { HasValue hub.now self.now.node self.now.number kinds.Client }
-        ensures { (x : Given) → option_map (λ p. p.strategy)
+        ensures machine { (x : Given) → option_map (λ p. p.strategy)
             (port_at (state_of_hub x hub.now).fixed self.now.number) ≡ Some result }
+        ensures told { option_map (λ p. p.strategy) (port_shown hub.now self.now.number)
+            ≡ Some result }
     {
         hub.port_strategy(self.node, self.number)
     }
@@ -84,8 +88,10 @@ impl<Q: Payload, QH: Words, P: Payload, PH: Words> Client<Q, QH, P, PH> {
     /// The greatest length of its requests.
     pub fn initial_max_slice_len<H: Backpressure>(&self, hub: &Hub<Q, QH, P, PH, H>) -> u64
         requires has { HasValue hub.now self.now.node self.now.number kinds.Client }
-        ensures { (x : Given) → option_map (λ p. p.longest)
+        ensures machine { (x : Given) → option_map (λ p. p.longest)
             (port_at (state_of_hub x hub.now).fixed self.now.number) ≡ Some result }
+        ensures told { option_map (λ p. p.longest) (port_shown hub.now self.now.number)
+            ≡ Some result }
     {
         hub.port_longest(self.node, self.number)
     }
@@ -143,6 +149,8 @@ impl<E: Words, QH: Words, P: Payload, PH: Words> Client<One<E>, QH, P, PH> {
         ensures requests { KeepsRequests hub.old hub.new }
         ensures quiet { IfOk result (λ loan.
             LendsQuietly hub.old self.now.number hub.new loan.node loan.number) }
+        ensures asker { IfOk result (λ loan.
+            (client_in hub.new loan.node loan.number).port ≡ self.now.number) }
         ensures counted { OnOk result
             (LendsOneMore hub.old self.now.number 1 hub.new) }
         ensures past { HasAllLoans hub.old self.now.number 1
@@ -181,6 +189,8 @@ impl<E: Words, QH: Words, P: Payload, PH: Words> Client<One<E>, QH, P, PH> {
         ensures requests { KeepsRequests hub.old hub.new }
         ensures quiet { IfOk result (λ loan.
             LendsQuietly hub.old self.now.number hub.new loan.node loan.number) }
+        ensures asker { IfOk result (λ loan.
+            (client_in hub.new loan.node loan.number).port ≡ self.now.number) }
         ensures counted { OnOk result
             (LendsOneMore hub.old self.now.number 1 hub.new) }
         ensures past { HasAllLoans hub.old self.now.number 1
@@ -221,6 +231,8 @@ impl<E: Words, QH: Words, P: Payload, PH: Words> Client<Many<E>, QH, P, PH> {
         ensures requests { KeepsRequests hub.old hub.new }
         ensures quiet { IfOk result (λ loan.
             LendsQuietly hub.old self.now.number hub.new loan.node loan.number) }
+        ensures asker { IfOk result (λ loan.
+            (client_in hub.new loan.node loan.number).port ≡ self.now.number) }
         ensures counted { OnOk result
             (LendsOneMore hub.old self.now.number elements hub.new) }
         ensures past { HasAllLoans hub.old self.now.number elements
@@ -260,6 +272,8 @@ impl<E: Words, QH: Words, P: Payload, PH: Words> Client<Many<E>, QH, P, PH> {
         ensures requests { KeepsRequests hub.old hub.new }
         ensures quiet { IfOk result (λ loan.
             LendsQuietly hub.old self.now.number hub.new loan.node loan.number) }
+        ensures asker { IfOk result (λ loan.
+            (client_in hub.new loan.node loan.number).port ≡ self.now.number) }
         ensures counted { OnOk result
             (LendsOneMore hub.old self.now.number elements hub.new) }
         ensures past { HasAllLoans hub.old self.now.number elements

@@ -31,6 +31,7 @@ pub mod uses_headers;
 pub mod uses_keeping;
 pub mod uses_laws;
 pub mod uses_limits;
+pub mod uses_making;
 pub mod uses_reaching;
 pub mod uses_reading;
 pub mod uses_round_trip;

@@ -10,6 +10,7 @@ ghost use Rattle.iox_hub_laws.specs.Keeping.{HaveSameShapes, KeepsAll};
 ghost use Rattle.iox_hub_laws.specs.Lending.{IsFresh};
 ghost use Rattle.iox_hub_laws.specs.Sending.{HasNothing};
 ghost use Rattle.iox_hub_laws.specs.Sends.{NothingComes};
+ghost use Rattle.iox_hub_laws.specs.Waiting.{client_in};
 ghost use Rattle.iceoryx2_ports.specs.Asking.{AnswersAs, LendsQuietly};
 ghost use Rattle.iceoryx2_ports.specs.Keeping.{KeepsAsking};
 ghost use Rattle.iceoryx2_ports.specs.LoanLimits.{CanLend, CanRespond, HasAllLoans};
@@ -51,6 +52,7 @@ pub(crate) fn lend_request<Q: Payload, QH: Words, P: Payload, PH: Words, H: Back
     ensures room { KeepsRoom hub.old hub.new }
     ensures requests { KeepsRequests hub.old hub.new }
     ensures quiet { IfOk result (λ n. LendsQuietly hub.old client hub.new node n) }
+    ensures asker { IfOk result (λ n. (client_in hub.new node n).port ≡ client) }
     ensures counted { OnOk result (LendsOneMore hub.old client elements hub.new) }
     ensures past { HasAllLoans hub.old client elements → result ≡ Err ExceedsMaxLoans }
     ensures within { CanLend hub.old node client elements → IsOk result }

@@ -5,7 +5,7 @@ ghost use Rattle.iox_model.specs.declared.kind.Kind.TheVariants as kinds;
 ghost use Rattle.iox_model.specs.declared.reply.Reply.TheVariants.{Answer, Done, Words};
 ghost use Rattle.iox_model.specs.WholeCalls.{IsWholeCall};
 ghost use Rattle.iox_tables.specs.HubStates.States.{Given};
-ghost use Rattle.iox_hub_laws.specs.Headers.{IsHeaderShown, header_in};
+ghost use Rattle.iox_hub_laws.specs.Headers.{IsHeaderShown, header_in, sender_in};
 ghost use Rattle.iox_hub_laws.specs.Hubs.{HasValue, state_of_hub, with_control};
 ghost use Rattle.iox_hub_laws.specs.Keeping.{HaveSameShapes, KeepsAll};
 ghost use Rattle.iox_hub_laws.specs.Reads.{message_in};
@@ -21,6 +21,7 @@ ghost use Rattle.iceoryx2_ports.specs.Keeping.{KeepsAsking};
 ghost use Rattle.iceoryx2_ports.specs.Opens.{KeepsRequests};
 ghost use Rattle.iceoryx2_ports.specs.Releases.{IsReleased};
 ghost use Rattle.iceoryx2_ports.specs.Rooms.{TakesOfRoom};
+ghost use Rattle.iceoryx2_ports.specs.Senders.{TakesFrom};
 ghost use Rattle.iceoryx2_ports.specs.declared.errors.ReceiveError.TheVariants.{ExceedsMaxBorrows};
 
 use crate::errors::ReceiveError;
@@ -93,6 +94,9 @@ impl<Q: Payload, QH: Words, P: Payload, PH: Words> PendingResponse<Q, QH, P, PH>
             (received_response result) hub.new }
         ensures carries { IfOk result (λ got. IfSome got (λ response.
             CarriesWhatWaited hub.old (client_in hub.old self.now.node self.now.number) hub.new
+            response.node response.number)) }
+        ensures from { IfOk result (λ got. IfSome got (λ response.
+            TakesFrom hub.old (client_in hub.old self.now.node self.now.number) hub.new
             response.node response.number)) }
         ensures idle { IfOk result (λ got. IfSome got (λ response.
             TakesTheOne hub.old (client_in hub.old self.now.node self.now.number) hub.new
@@ -171,8 +175,13 @@ impl<Q: Payload, QH: Words, P: Payload, PH: Words> PendingResponse<Q, QH, P, PH>
         requires has { HasValue hub.now self.now.node self.now.number kinds.PendingResponse }
         ensures header { result ≡ request_header_of
             (header_in hub.now self.now.node self.now.number) }
+        ensures id { IfOk result (λ header. header.client_id
+            ≡ (header_in hub.now self.now.node self.now.number).port_id) }
         ensures shown { IsHeaderShown hub.now self.now.node self.now.number }
+        ensures sender { sender_in hub.now self.now.node self.now.number
+            ≡ (client_in hub.now self.now.node self.now.number).port }
     {
+        hub.is_in_order();
         request_header(hub.message_header(self.node, self.number, self.hint))
     }
 

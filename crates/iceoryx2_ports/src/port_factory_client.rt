@@ -12,7 +12,7 @@ ghost use Rattle.iox_hub_laws.specs.Keeping.{HaveSameShapes, KeepsAll};
 ghost use Rattle.iox_hub_laws.specs.Making.{LeavesMessages, StaysAs, options_with};
 ghost use Rattle.iox_hub_laws.specs.Sends.{NothingComes};
 ghost use Rattle.iceoryx2_ports.specs.LoanLimits.{LendsNone};
-ghost use Rattle.iceoryx2_ports.specs.Makings.{first_options, reply_of_client};
+ghost use Rattle.iceoryx2_ports.specs.Makings.{IsMadeAs, first_options, reply_of_client};
 ghost use Rattle.iceoryx2_ports.specs.Idling.{IsIdle, client_on};
 ghost use Rattle.iceoryx2_ports.specs.Reaching.{KeepsRoom};
 ghost use Rattle.iceoryx2_ports.specs.declared.errors.ClientCreateError.TheVariants.{FailedToDeployThreadsafetyPolicy};
@@ -144,6 +144,8 @@ impl<Q: Payload, QH: Words, P: Payload, PH: Words, H: Backpressure> PortFactoryC
         ensures node { IfOk result (λ client. client.node ≡ self.node) }
         ensures has { IfOk result (λ client.
             HasValue hub.new self.node client.number kinds.Client) }
+        ensures made { IfOk result (λ client.
+            IsMadeAs hub.new client.number hub.old.request self.options) }
         ensures keeps { KeepsAll hub.old hub.new }
         ensures shapes { HaveSameShapes hub.old hub.new }
         ensures messages { LeavesMessages hub.old hub.new }

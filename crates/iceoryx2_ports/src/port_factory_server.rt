@@ -12,7 +12,7 @@ ghost use Rattle.iox_hub_laws.specs.Keeping.{HaveSameShapes, KeepsAll};
 ghost use Rattle.iox_hub_laws.specs.Making.{LeavesMessages, StaysAs, options_with};
 ghost use Rattle.iox_hub_laws.specs.Sends.{NothingComes};
 ghost use Rattle.iox_hub_laws.specs.Waiting.{server_of};
-ghost use Rattle.iceoryx2_ports.specs.Makings.{first_options, reply_of_server};
+ghost use Rattle.iceoryx2_ports.specs.Makings.{IsMadeAs, first_options, reply_of_server};
 ghost use Rattle.iceoryx2_ports.specs.Idling.{IsIdle};
 ghost use Rattle.iceoryx2_ports.specs.Reaching.{KeepsRoom};
 ghost use Rattle.iceoryx2_ports.specs.declared.errors.ServerCreateError.TheVariants.{FailedToDeployThreadsafetyPolicy};
@@ -155,6 +155,8 @@ impl<Q: Payload, QH: Words, P: Payload, PH: Words, H: Backpressure> PortFactoryS
         ensures node { IfOk result (λ server. server.node ≡ self.node) }
         ensures has { IfOk result (λ server.
             HasValue hub.new self.node server.number kinds.Server) }
+        ensures made { IfOk result (λ server.
+            IsMadeAs hub.new server.number hub.old.response self.options) }
         ensures keeps { KeepsAll hub.old hub.new }
         ensures shapes { HaveSameShapes hub.old hub.new }
         ensures messages { LeavesMessages hub.old hub.new }

@@ -8,7 +8,7 @@ ghost use Rattle.iox_model.specs.declared.kind.Role.TheVariants as roles;
 ghost use Rattle.iox_model.specs.declared.reply.Reply.TheVariants.{Done, Words};
 ghost use Rattle.iox_model.specs.WholeCalls.{IsWholeCall};
 ghost use Rattle.iox_tables.specs.HubStates.States.{Given};
-ghost use Rattle.iox_hub_laws.specs.Headers.{IsHeaderShown, header_in};
+ghost use Rattle.iox_hub_laws.specs.Headers.{IsHeaderShown, header_in, sender_in};
 ghost use Rattle.iox_hub_laws.specs.Hubs.{HasValue, state_of_hub};
 ghost use Rattle.iox_hub_laws.specs.Keeping.{HaveSameShapes, KeepsOthers};
 ghost use Rattle.iox_hub_laws.specs.Lending.{IsWritten, payload_of};
@@ -26,6 +26,7 @@ ghost use Rattle.iceoryx2_ports.specs.Loans.{reply_of_request_send, reply_of_wri
 ghost use Rattle.iceoryx2_ports.specs.Opens.{KeepsRequests};
 ghost use Rattle.iceoryx2_ports.specs.Reaching.{KeepsRoom, ReachesServers};
 ghost use Rattle.iceoryx2_ports.specs.Releases.{IsReleased};
+ghost use Rattle.iceoryx2_ports.specs.Senders.{BringsFrom};
 
 mod payloads;
 
@@ -131,8 +132,13 @@ impl<Q: Payload, QH: Words, P: Payload, PH: Words> RequestMutUninit<Q, QH, P, PH
         requires has { HasValue hub.now self.now.node self.now.number kinds.RequestMutUninit }
         ensures header { result ≡ request_header_of
             (header_in hub.now self.now.node self.now.number) }
+        ensures id { IfOk result (λ header. header.client_id
+            ≡ (header_in hub.now self.now.node self.now.number).port_id) }
         ensures shown { IsHeaderShown hub.now self.now.node self.now.number }
+        ensures sender { sender_in hub.now self.now.node self.now.number
+            ≡ (client_in hub.now self.now.node self.now.number).port }
     {
+        hub.is_in_order();
         let header = hub.message_header(self.node, self.number, self.hint);
         request_header(header)
     }
@@ -252,8 +258,13 @@ impl<Q: Payload, QH: Words, P: Payload, PH: Words> RequestMut<Q, QH, P, PH> {
         requires has { HasValue hub.now self.now.node self.now.number kinds.RequestMut }
         ensures header { result ≡ request_header_of
             (header_in hub.now self.now.node self.now.number) }
+        ensures id { IfOk result (λ header. header.client_id
+            ≡ (header_in hub.now self.now.node self.now.number).port_id) }
         ensures shown { IsHeaderShown hub.now self.now.node self.now.number }
+        ensures sender { sender_in hub.now self.now.node self.now.number
+            ≡ (client_in hub.now self.now.node self.now.number).port }
     {
+        hub.is_in_order();
         request_header(hub.message_header(self.node, self.number, self.hint))
     }
 
@@ -281,6 +292,7 @@ impl<Q: Payload, QH: Words, P: Payload, PH: Words> RequestMut<Q, QH, P, PH> {
         ensures sent { OnOk result (SendsRequest hub.old self.node self.number hub.new) }
         ensures unsent { OnErr result (BringsNothing hub.old self.node self.number hub.new) }
         ensures only { BringsItsWords hub.old self.node self.number hub.new }
+        ensures from { BringsFrom hub.old (client_in hub.old self.node self.number).port hub.new }
         ensures reaches { OnOk result (ReachesServers hub.old hub.new) }
         ensures keeps { KeepsOthers hub.old self.node self.number hub.new }
         ensures shapes { HaveSameShapes hub.old hub.new }

@@ -1,5 +1,5 @@
 //! A response that was received.
-ghost use Rattle.std.specs.Prelude.{◌≡◌, ◌++◌, ◌↔◌, IfNone, IfSome, IsTrue, [], flat_map};
+ghost use Rattle.std.specs.Prelude.{◌≡◌, ◌++◌, ◌↔◌, IfNone, IfOk, IfSome, IsTrue, [], flat_map};
 ghost use Rattle.iox_model.specs.declared.call.Call.TheVariants.{Read};
 ghost use Rattle.iox_model.specs.declared.kind.Kind.TheVariants as kinds;
 ghost use Rattle.iox_model.specs.declared.reply.Reply.TheVariants.{Words};
@@ -98,6 +98,8 @@ impl<Q: Payload, QH: Words, P: Payload, PH: Words> Response<Q, QH, P, PH> {
         requires has { HasValue hub.now self.now.node self.now.number kinds.Response }
         ensures header { result ≡ response_header_of
             (header_in hub.now self.now.node self.now.number) }
+        ensures id { IfOk result (λ header. header.server_id
+            ≡ (header_in hub.now self.now.node self.now.number).port_id) }
         ensures shown { IsHeaderShown hub.now self.now.node self.now.number }
     {
         response_header(hub.message_header(self.node, self.number, self.hint))

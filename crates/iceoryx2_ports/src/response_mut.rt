@@ -8,7 +8,7 @@ ghost use Rattle.iox_model.specs.declared.kind.Role.TheVariants as roles;
 ghost use Rattle.iox_model.specs.declared.reply.Reply.TheVariants.{Done, Words};
 ghost use Rattle.iox_model.specs.WholeCalls.{IsWholeCall};
 ghost use Rattle.iox_tables.specs.HubStates.States.{Given};
-ghost use Rattle.iox_hub_laws.specs.Headers.{IsHeaderShown, header_in};
+ghost use Rattle.iox_hub_laws.specs.Headers.{IsHeaderShown, header_in, sender_in};
 ghost use Rattle.iox_hub_laws.specs.Hubs.{HasValue, state_of_hub};
 ghost use Rattle.iox_hub_laws.specs.Keeping.{HaveSameShapes, KeepsOthers};
 ghost use Rattle.iox_hub_laws.specs.Lending.{IsWritten, payload_of};
@@ -24,7 +24,8 @@ ghost use Rattle.iceoryx2_ports.specs.Loans.{reply_of_response_send, reply_of_wr
 ghost use Rattle.iceoryx2_ports.specs.Opens.{ClosesNone, KeepsRequests};
 ghost use Rattle.iceoryx2_ports.specs.Reaching.{KeepsRoom};
 ghost use Rattle.iceoryx2_ports.specs.Releases.{IsReleased};
-ghost use Rattle.iceoryx2_ports.specs.Responses.{ReachesItsAsker};
+ghost use Rattle.iceoryx2_ports.specs.Responses.{ReachesItsAsker, answerer_in};
+ghost use Rattle.iceoryx2_ports.specs.Senders.{BringsFrom};
 
 mod payloads;
 
@@ -129,8 +130,13 @@ impl<Q: Payload, QH: Words, P: Payload, PH: Words> ResponseMutUninit<Q, QH, P, P
         requires has { HasValue hub.now self.now.node self.now.number kinds.ResponseMutUninit }
         ensures header { result ≡ response_header_of
             (header_in hub.now self.now.node self.now.number) }
+        ensures id { IfOk result (λ header. header.server_id
+            ≡ (header_in hub.now self.now.node self.now.number).port_id) }
         ensures shown { IsHeaderShown hub.now self.now.node self.now.number }
+        ensures sender { sender_in hub.now self.now.node self.now.number
+            ≡ answerer_in hub.now self.now.node self.now.number }
     {
+        hub.is_in_order();
         let header = hub.message_header(self.node, self.number, self.hint);
         response_header(header)
     }
@@ -251,8 +257,13 @@ impl<Q: Payload, QH: Words, P: Payload, PH: Words> ResponseMut<Q, QH, P, PH> {
         requires has { HasValue hub.now self.now.node self.now.number kinds.ResponseMut }
         ensures header { result ≡ response_header_of
             (header_in hub.now self.now.node self.now.number) }
+        ensures id { IfOk result (λ header. header.server_id
+            ≡ (header_in hub.now self.now.node self.now.number).port_id) }
         ensures shown { IsHeaderShown hub.now self.now.node self.now.number }
+        ensures sender { sender_in hub.now self.now.node self.now.number
+            ≡ answerer_in hub.now self.now.node self.now.number }
     {
+        hub.is_in_order();
         response_header(hub.message_header(self.node, self.number, self.hint))
     }
 
@@ -266,6 +277,7 @@ impl<Q: Payload, QH: Words, P: Payload, PH: Words> ResponseMut<Q, QH, P, PH> {
         ensures sent { OnOk result (SendsResponse hub.old self.node self.number hub.new) }
         ensures unsent { OnErr result (BringsNothing hub.old self.node self.number hub.new) }
         ensures only { BringsItsWords hub.old self.node self.number hub.new }
+        ensures from { BringsFrom hub.old (answerer_in hub.old self.node self.number) hub.new }
         ensures reaches { OnOk result
             (ReachesItsAsker hub.old self.node self.number hub.new) }
         ensures requests { ClosesNone hub.old self.node self.number hub.new }

@@ -19,8 +19,10 @@ ghost use Rattle.iceoryx2_ports.specs.Holding.{KeepsValues};
 ghost use Rattle.iceoryx2_ports.specs.Idling.{TakesTheOne};
 ghost use Rattle.iox_hub_laws.specs.Keeping.{HaveSameShapes};
 ghost use Rattle.iceoryx2_ports.specs.Keeping.{KeepsAsking};
+ghost use Rattle.iceoryx2_ports.specs.Makings.{port_shown};
 ghost use Rattle.iceoryx2_ports.specs.Opens.{KeepsRequests};
 ghost use Rattle.iceoryx2_ports.specs.Releases.{IsReleased};
+ghost use Rattle.iceoryx2_ports.specs.Senders.{TakesFrom};
 ghost use Rattle.iceoryx2_ports.specs.declared.errors.ReceiveError.TheVariants.{ExceedsMaxBorrows};
 
 use crate::active_request::ActiveRequest;
@@ -79,6 +81,8 @@ impl<Q: Payload, QH: Words, P: Payload, PH: Words> Server<Q, QH, P, PH> {
         ensures carries { IfOk result (λ got. IfSome got (λ request.
             CarriesWhatWaited hub.old (server_of self.now.number) hub.new request.node
             request.number)) }
+        ensures from { IfOk result (λ got. IfSome got (λ request.
+            TakesFrom hub.old (server_of self.now.number) hub.new request.node request.number)) }
         ensures idle { IfOk result (λ got. IfSome got (λ request.
             TakesTheOne hub.old (server_of self.now.number) hub.new request.node
             request.number)) }
@@ -126,8 +130,10 @@ impl<Q: Payload, QH: Words, P: Payload, PH: Words> Server<Q, QH, P, PH> {
         hub: &Hub<Q, QH, P, PH, H>,
     ) -> BackpressureStrategy
         requires has { HasValue hub.now self.now.node self.now.number kinds.Server }
-        ensures { (x : Given) → option_map (λ p. p.strategy)
+        ensures machine { (x : Given) → option_map (λ p. p.strategy)
             (port_at (state_of_hub x hub.now).fixed self.now.number) ≡ Some result }
+        ensures told { option_map (λ p. p.strategy) (port_shown hub.now self.now.number)
+            ≡ Some result }
     {
         hub.port_strategy(self.node, self.number)
     }
@@ -135,8 +141,10 @@ impl<Q: Payload, QH: Words, P: Payload, PH: Words> Server<Q, QH, P, PH> {
     /// The greatest length of its responses.
     pub fn initial_max_slice_len<H: Backpressure>(&self, hub: &Hub<Q, QH, P, PH, H>) -> u64
         requires has { HasValue hub.now self.now.node self.now.number kinds.Server }
-        ensures { (x : Given) → option_map (λ p. p.longest)
+        ensures machine { (x : Given) → option_map (λ p. p.longest)
             (port_at (state_of_hub x hub.now).fixed self.now.number) ≡ Some result }
+        ensures told { option_map (λ p. p.longest) (port_shown hub.now self.now.number)
+            ≡ Some result }
     {
         hub.port_longest(self.node, self.number)
     }

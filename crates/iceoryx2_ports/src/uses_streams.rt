@@ -2,13 +2,18 @@
 //! proved from the clauses of typed ports alone.
 ghost use Rattle.std.specs.Prelude.{◌≡◌, ◌∷◌, IfOk, IsSome, OnOk, [], true};
 ghost use Rattle.std.specs.Bool.{OnTrue};
+ghost use Rattle.iceoryx2_ports.specs.Call.TheVariants.{Send};
+ghost use Rattle.iceoryx2_ports.specs.Calls.{HasCallsLeft};
 ghost use Rattle.iceoryx2_ports.specs.Kind.TheVariants as kinds;
-ghost use Rattle.iceoryx2_ports.specs.Hubs.{HasValue, IsReached};
+ghost use Rattle.iceoryx2_ports.specs.Hubs.{HasValue, IsReached, state_of_hub};
 ghost use Rattle.iceoryx2_ports.specs.Idling.{IsIdle};
 ghost use Rattle.iceoryx2_ports.specs.Reaching.{SomeCanCome};
 ghost use Rattle.iceoryx2_ports.specs.Reads.{message_in};
+ghost use Rattle.iceoryx2_ports.specs.Reply.TheVariants.{Sent};
 ghost use Rattle.iceoryx2_ports.specs.Responses.{answerer_in, asker_in, is_open};
+ghost use Rattle.iceoryx2_ports.specs.States.{Given};
 ghost use Rattle.iceoryx2_ports.specs.Waiting.{AllCarry, NothingWaits, client_in, server_of};
+ghost use Rattle.iceoryx2_ports.specs.WholeCalls.{IsWholeCall};
 
 use crate::{
     ActiveRequest, Client, Hub, LoanError, Many, One, PendingResponse, RequestMut,
@@ -150,4 +155,44 @@ pub fn puts_456_and_answers(
     }
     response.release(hub);
     false
+}
+
+/// A server answers what waits with 871238, one request after the other, at most so many, and stops
+/// where none is left. It still has what it had.
+pub fn serves_what_waits(
+    server: &Server<One<u64>, (), One<u64>, ()>,
+    hub: &mut Hub<One<u64>, (), One<u64>, ()>,
+    most: usize,
+)
+    ensures { IsReached hub.new }
+{
+    for _ in 0..most {
+        if hub.calls() >= 1 << 56 || !server.exists(hub) {
+            break;
+        }
+        let Ok(Some(request)) = server.receive(hub) else {
+            break;
+        };
+        let _answered = request.send_copy(hub, 871238).is_ok();
+        request.release(hub);
+    }
+    hub.calls();
+}
+
+/// A client asks with what it loaned, and says to how many servers that went: as many as the machine
+/// tells.
+pub fn counts_its_servers(
+    request: RequestMut<One<u64>, (), One<u64>, ()>,
+    hub: &mut Hub<One<u64>, (), One<u64>, ()>,
+) -> Result<(u64, PendingResponse<One<u64>, (), One<u64>, ()>), RequestSendError>
+    requires has { HasValue hub.old request.node request.number kinds.RequestMut }
+    requires calls { HasCallsLeft hub.old }
+    ensures has { IfOk result (λ both.
+        HasValue hub.new both.1.node both.1.number kinds.PendingResponse) }
+    ensures told { IfOk result (λ both. (x : Given) → IsWholeCall (state_of_hub x hub.old)
+        request.node (Send request.number) (Sent both.0) (state_of_hub x hub.new)) }
+{
+    let pending = request.send(hub)?;
+    let servers = pending.number_of_server_connections();
+    Ok((servers, pending))
 }

@@ -22,6 +22,8 @@ mod growing;
 #[cfg(test)]
 mod handlers;
 #[cfg(test)]
+mod headers;
+#[cfg(test)]
 mod long_requests;
 #[cfg(test)]
 mod overrides;

@@ -8,7 +8,7 @@ use Rattle.iceoryx2_ports.proofs.LoanLimits.{lends_one_more, loan_never_wants, r
 use Rattle.iceoryx2_ports.proofs.Reaching.{loan_keeps_room}
 use Rattle.iceoryx2_ports.proofs.Staying.{loan_asks_as_before}
 use Rattle.iceoryx2_ports.proofs.Telling.{called_as}
-use Rattle.iceoryx2_ports.proofs.Lent.{lends_quietly}
+use Rattle.iceoryx2_ports.proofs.Lent.{lends_by_client, lends_quietly}
 use Rattle.iceoryx2_ports.proofs.Remaining.{loan_keeps_requests}
 use Rattle.iceoryx2_ports.proofs.SameShapes.{same_shapes}
 use Rattle.iceoryx2_ports.proofs.loans.lend_request.Goals as goal
@@ -156,3 +156,8 @@ returns-in-Refused-WantOfMemory-clause-never g c =
     λ short e.
     loan_never_wants c.args.hub.now c.is_in_order.ensures c.args.node c.args.client c.args.elements c.in-Refused-WantOfMemory.field-0
     c.in-Refused-WantOfMemory.field-0-is c.requires.has c.in-Refused-WantOfMemory.ensures.answers short
+
+pub returns-in-Handle-clause-asker : goal.returns-in-Handle-clause-asker
+returns-in-Handle-clause-asker g c =
+    lends_by_client c.args.hub.now c.lend_request.new.hub c.is_in_order.ensures c.args.node c.args.client c.args.elements c.args.uninit c.in-Handle.loan.number
+    c.requires.has c.in-Handle.ensures.whole

@@ -16,6 +16,8 @@ use Rattle.iceoryx2_ports.proofs.Remaining.{receive_keeps_requests}
 use Rattle.iceoryx2_ports.proofs.Kept.{keeps_values}
 use Rattle.iceoryx2_ports.proofs.SameShapes.{same_shapes}
 use Rattle.iceoryx2_ports.proofs.Telling.{called_as}
+use Rattle.iceoryx2_ports.specs.Senders.{TakesFrom}
+use Rattle.iceoryx2_ports.proofs.Senders.{response_takes_from}
 use Rattle.iceoryx2_ports.proofs.pending_response.PendingResponse.receive.Goals as goal
 
 pub returns-in-Handle-clause-takes : goal.returns-in-Handle-clause-takes
@@ -123,3 +125,9 @@ pub returns-in-Handle-clause-whole : goal.returns-in-Handle-clause-whole
 returns-in-Handle-clause-whole g c =
     called_as c.args.hub.now c.receive_response.new.hub c.args.self.now.node (Receive c.args.self.now.number) (replies.Handle c.in-Handle.number)
     (replies.Handle c.new.result.number) (ap replies.Handle (sym c.new.ensures.number)) c.in-Handle.ensures.whole
+
+pub returns-in-Handle-clause-from : goal.returns-in-Handle-clause-from
+returns-in-Handle-clause-from g c =
+    subst₂ (λ (i n : ℕ). TakesFrom c.args.hub.now (client_in c.args.hub.now c.args.self.now.node c.args.self.now.number) c.receive_response.new.hub i n)
+    (sym c.new.ensures.node) (sym c.new.ensures.number)
+    (response_takes_from c.args.hub.now c.receive_response.new.hub c.args.self.now.node c.args.self.now.number c.in-Handle.number c.requires.has c.in-Handle.ensures.takes)

@@ -1,6 +1,6 @@
 use Rattle.std.specs.Option.{option_map}
-use Rattle.std.specs.Prelude.{refl}
-use Rattle.std.proofs.Common.{ap, sym}
+use Rattle.std.specs.Prelude.{ℕ, refl}
+use Rattle.std.proofs.Common.{ap, subst, sym}
 use Rattle.iox_model.specs.Commands.{Create}
 use Rattle.iox_model.specs.declared.kind.Role.TheVariants as roles
 use Rattle.iox_model.specs.declared.reply.Reply.TheVariants as replies
@@ -9,7 +9,9 @@ use Rattle.iox_hub_laws.specs.NotMade.TheVariants as not_made
 use Rattle.iox_hub_laws.specs.Making.{options_with, reply_of_making}
 use Rattle.iox_hub_laws.specs.HandlerWords.{shown_by}
 use Rattle.iox_hub_laws.specs.Waiting.{server_of}
+use Rattle.iceoryx2_ports.specs.Makings.{IsMadeAs}
 use Rattle.iceoryx2_ports.proofs.Idle.{made_is_idle, making_brings_nothing, making_keeps_room}
+use Rattle.iceoryx2_ports.proofs.MadeAs.{server_made_as}
 use Rattle.iceoryx2_ports.proofs.Telling.{made_as}
 use Rattle.iceoryx2_ports.proofs.SameShapes.{made_shapes}
 use Rattle.iceoryx2_ports.proofs.port_factory_server.PortFactoryServer.create.Goals as goal
@@ -102,3 +104,9 @@ pub returns-in-Err-TooManyPorts-clause-shapes : goal.returns-in-Err-TooManyPorts
 returns-in-Err-TooManyPorts-clause-shapes g c =
     made_shapes c.args.hub.now c.make_port.new.self c.args.self.node roles.Server c.args.self.node_id
     (options_with c.args.self.options (option_map (shown_by g.H.Backpressure.action) c.args.self.handler)) (reply_of_making roles.Server c.make_port.result) c.make_port.ensures.whole
+
+pub returns-in-Ok-clause-made : goal.returns-in-Ok-clause-made
+returns-in-Ok-clause-made g c =
+    subst (λ (n : ℕ). IsMadeAs c.make_port.new.self n c.args.hub.now.response c.args.self.options) (sym c.new.ensures.number)
+    (server_made_as c.args.hub.now c.make_port.new.self c.is_in_order.ensures c.args.self.node c.args.self.node_id c.args.self.options
+    (option_map (shown_by g.H.Backpressure.action) c.args.self.handler) c.in-Ok.number c.in-Ok.ensures.whole)

@@ -12,6 +12,7 @@ use Rattle.iceoryx2_ports.proofs.Reaching.{send_brings_one, send_reaches}
 use Rattle.iceoryx2_ports.proofs.Requested.{send_asks_as, send_brings_its_request, send_opens}
 use Rattle.iceoryx2_ports.proofs.SameShapes.{same_shapes}
 use Rattle.iceoryx2_ports.proofs.Telling.{called_as}
+use Rattle.iceoryx2_ports.proofs.Senders.{brings_from_client}
 use Rattle.iceoryx2_ports.proofs.request_mut.RequestMut.send.Goals as goal
 
 pub returns-in-To-clause-whole : goal.returns-in-To-clause-whole
@@ -88,3 +89,18 @@ pub returns-in-UnableToDeliver-clause-shapes : goal.returns-in-UnableToDeliver-c
 returns-in-UnableToDeliver-clause-shapes g c =
     same_shapes c.args.hub.now c.send_request.new.hub c.args.self.node (Send c.args.self.number) (reply_of_send c.send_request.result)
     c.send_request.ensures.whole
+
+pub returns-in-To-clause-from : goal.returns-in-To-clause-from
+returns-in-To-clause-from g c =
+    brings_from_client c.args.hub.now c.send_request.new.hub c.is_in_order.ensures c.args.self.node c.args.self.number RequestMut refl refl c.requires.has
+    (reply_of_send c.send_request.result) c.send_request.ensures.whole
+
+pub returns-in-ExceedsMaxActiveRequests-clause-from : goal.returns-in-ExceedsMaxActiveRequests-clause-from
+returns-in-ExceedsMaxActiveRequests-clause-from g c =
+    brings_from_client c.args.hub.now c.send_request.new.hub c.is_in_order.ensures c.args.self.node c.args.self.number RequestMut refl refl c.requires.has
+    (reply_of_send c.send_request.result) c.send_request.ensures.whole
+
+pub returns-in-UnableToDeliver-clause-from : goal.returns-in-UnableToDeliver-clause-from
+returns-in-UnableToDeliver-clause-from g c =
+    brings_from_client c.args.hub.now c.send_request.new.hub c.is_in_order.ensures c.args.self.node c.args.self.number RequestMut refl refl c.requires.has
+    (reply_of_send c.send_request.result) c.send_request.ensures.whole

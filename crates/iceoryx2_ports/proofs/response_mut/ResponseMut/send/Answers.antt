@@ -8,6 +8,7 @@ use Rattle.iceoryx2_ports.proofs.Answering.{loan_reaches_asker}
 use Rattle.iceoryx2_ports.proofs.Aside.{loan_asks_as_always}
 use Rattle.iceoryx2_ports.proofs.SentOpen.{send_closes_none}
 use Rattle.iceoryx2_ports.proofs.SameShapes.{same_shapes}
+use Rattle.iceoryx2_ports.proofs.Senders.{brings_from_server}
 use Rattle.iceoryx2_ports.proofs.response_mut.ResponseMut.send.Goals as goal
 
 pub returns-in-Done-clause-only : goal.returns-in-Done-clause-only
@@ -52,3 +53,13 @@ pub returns-in-Undelivered-clause-shapes : goal.returns-in-Undelivered-clause-sh
 returns-in-Undelivered-clause-shapes g c =
     same_shapes c.args.hub.now c.send_response.new.hub c.args.self.node (Send c.args.self.number) (reply_of_send c.send_response.result)
     c.send_response.ensures.whole
+
+pub returns-in-Done-clause-from : goal.returns-in-Done-clause-from
+returns-in-Done-clause-from g c =
+    brings_from_server c.args.hub.now c.send_response.new.hub c.is_in_order.ensures c.args.self.node c.args.self.number ResponseMut refl refl c.requires.has
+    (reply_of_send c.send_response.result) c.send_response.ensures.whole
+
+pub returns-in-Undelivered-clause-from : goal.returns-in-Undelivered-clause-from
+returns-in-Undelivered-clause-from g c =
+    brings_from_server c.args.hub.now c.send_response.new.hub c.is_in_order.ensures c.args.self.node c.args.self.number ResponseMut refl refl c.requires.has
+    (reply_of_send c.send_response.result) c.send_response.ensures.whole

@@ -16,6 +16,8 @@ use Rattle.iceoryx2_ports.proofs.Received.{is_its_request, receive_keeps_askers_
 use Rattle.iceoryx2_ports.proofs.Remaining.{receive_keeps_requests}
 use Rattle.iceoryx2_ports.proofs.Kept.{keeps_values}
 use Rattle.iceoryx2_ports.proofs.SameShapes.{same_shapes}
+use Rattle.iceoryx2_ports.specs.Senders.{TakesFrom}
+use Rattle.iceoryx2_ports.proofs.Senders.{request_takes_from}
 use Rattle.iceoryx2_ports.proofs.server.Server.receive.Goals as goal
 
 pub returns-in-Handle-clause-takes : goal.returns-in-Handle-clause-takes
@@ -115,3 +117,8 @@ returns-in-Nothing-clause-keeps g c = keeps_values c.args.hub.now c.receive_requ
 
 pub returns-in-AtLimit-clause-keeps : goal.returns-in-AtLimit-clause-keeps
 returns-in-AtLimit-clause-keeps g c = keeps_values c.args.hub.now c.receive_request.new.hub c.receive_request.ensures.keeps
+
+pub returns-in-Handle-clause-from : goal.returns-in-Handle-clause-from
+returns-in-Handle-clause-from g c =
+    subst₂ (λ (i n : ℕ). TakesFrom c.args.hub.now (server_of c.args.self.now.number) c.receive_request.new.hub i n) (sym c.new.ensures.node) (sym c.new.ensures.number)
+    (request_takes_from c.args.hub.now c.receive_request.new.hub c.args.self.now.node c.args.self.now.number c.in-Handle.number c.in-Handle.ensures.takes)

@@ -1,0 +1,5 @@
+use Rattle.iox_hub_laws.specs.Hubs.{nothing_given}
+use Rattle.iceoryx2_ports.proofs.server.Server.backpressure_strategy.Goals as goal
+
+pub returns-clause-told : goal.returns-clause-told
+returns-clause-told g c = c.port_strategy.ensures (nothing_given c.args.hub.now)
