@@ -1,5 +1,5 @@
 //! Callers of each type, proved only from its clauses.
-ghost use Rattle.std.specs.Prelude.{◌≡◌, ◌≢◌, ◌<◌, ◌^◌, ℕ, IfOk, Some, true};
+ghost use Rattle.std.specs.Prelude.{◌≡◌, ◌≢◌, ◌<◌, ◌^◌, ℕ, IfOk, IfSome, None, Some, true};
 ghost use Rattle.iox_sets.specs.IndexSets.{IsHeld};
 ghost use Rattle.iox_sets.specs.OwnedIndices.{owner_of};
 
@@ -138,4 +138,19 @@ pub fn recovers_all(set: &mut RobustUniqueIndexSet, owner: OwnerId)
     ensures { (index : ℕ) → owner_of set.new index ≢ Some owner }
 {
     set.recover(owner, |_| true, ReleaseMode::Default);
+}
+
+/// What is found for an owner is its own, where the closure names the owner.
+pub fn finds_its_own(set: &RobustUniqueIndexSet) -> Option<u32>
+    ensures { IfSome result (λ index. owner_of set.now index ≡ Some 7) }
+{
+    set.find(|other| other == seventh())
+}
+
+/// Nothing of that owner is found once all of it is recovered.
+pub fn finds_nothing_recovered(set: &mut RobustUniqueIndexSet) -> Option<u32>
+    ensures { result ≡ None }
+{
+    set.recover(seventh(), |_| true, ReleaseMode::Default);
+    set.find(|other| other == seventh())
 }

@@ -180,6 +180,7 @@ fn each_owner_is_asked_about_once(rt: HostRuntime) -> Result<(), Fail> {
     }
     // Nothing is asked after a yes.
     equal(&rt, found(&set, Some(second)), (Some(1), 2));
+    equal(&rt, found_fixed(&fixed, Some(second)), (Some(1), 2));
     equal(&rt, found_fixed(&fixed, Some(third)), (None, 3));
     equal(&rt, recovered(&mut set, first, 9).1, 2);
     equal(&rt, recovered_fixed(&mut fixed, first, 0).1, 2);
