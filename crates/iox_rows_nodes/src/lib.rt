@@ -2,6 +2,8 @@
 //! limits together.
 #![tactic(auto)]
 
+#[cfg(test)]
+mod expected;
 pub mod first_limits;
 #[cfg(test)]
 mod nodes;

@@ -13,12 +13,14 @@ mod running;
 mod service;
 mod trying;
 
+use iox_control::Settings;
 use iox_model::reply::{Refusal, Reply};
 use iox_nodes::{Always, BackpressureAction, Service};
 use iox_store::{Many, One};
 use iox_types::BackpressureStrategy;
 use std::alloc::{AllocError, Global};
 use std::process::Abort;
+use std::test::Fail;
 
 /// Requests and responses of numbers. A handler has one answer, and a cause of attributes would be a
 /// number.
@@ -98,42 +100,65 @@ fn lent(reply: &TheReply) -> Told<'_> {
     }
 }
 
-/// Services that are asked the same: one by its calls, one by `serve`, and one by `try_serve`.
-#[derive(Drop)]
-struct Services {
-    called: TheService,
-    served: TheService,
-    tried: TheService,
+/// What is asked, and what is told.
+type Row<'a> = (Ask, Told<'a>);
+
+/// How a service is asked: by its calls, by `serve`, or by `try_serve`.
+#[derive(Clone, Copy)]
+enum Way {
+    Called,
+    Served,
+    Tried,
 }
 
-impl Services {
-    /// Services with so many nodes at most, and all else as at the defaults. Node 0 has id 1 0 0 0.
-    fn new(alloc: Global, nodes: u64) -> Result<Services, AllocError> {
-        Ok(Services {
-            called: service::first(alloc, nodes)?,
-            served: service::first(alloc, nodes)?,
-            tried: service::first(alloc, nodes)?,
-        })
-    }
+/// Ends the test where the reply of that place in its list is not the wanted one.
+fn tells(rt: &impl Abort, place: usize, reply: &TheReply, wanted: Told<'_>) {
+    let told = lent(reply);
+    assert_eq!(rt; (place, told), (place, wanted));
+}
 
-    /// Asks one after another, and ends the test where an answer is not the wanted one.
-    fn plays(
-        &mut self,
-        rt: &impl Abort,
-        alloc: Global,
-        script: &[(Ask, Told<'_>)],
-    ) -> Result<(), AllocError> {
-        for (place, (ask, wanted)) in script.iter().enumerate() {
-            let reply = asking::called(&mut self.called, alloc, *ask)?;
-            assert_eq!(rt; (place, lent(&reply)), (place, *wanted));
-            registered::as_many_as_listed(rt, alloc, &self.called)?;
-            let reply = asking::served(&mut self.served, alloc, *ask)?;
-            assert_eq!(rt; (place, lent(&reply)), (place, *wanted));
-            registered::as_many_as_listed(rt, alloc, &self.served)?;
-            let reply = asking::tried(&mut self.tried, alloc, *ask)?;
-            assert_eq!(rt; (place, lent(&reply)), (place, *wanted));
-            registered::as_many_as_listed(rt, alloc, &self.tried)?;
-        }
-        Ok(())
+/// Asks a service one after another, and ends the test where an answer is not the wanted one.
+fn goes(
+    rt: &impl Abort,
+    alloc: Global,
+    service: &mut TheService,
+    way: Way,
+    script: &[Row<'_>],
+) -> Result<(), AllocError> {
+    for (place, (ask, wanted)) in script.iter().enumerate() {
+        let reply = asking::asked(service, alloc, way, *ask)?;
+        tells(rt, place, &reply, *wanted);
+        registered::as_many_as_listed(rt, alloc, service)?;
     }
+    Ok(())
+}
+
+/// The same of a new service, whose node 0 has id 1 0 0 0.
+fn plays_in(
+    rt: &impl Abort,
+    alloc: Global,
+    settings: Settings,
+    way: Way,
+    script: &[Row<'_>],
+) -> Result<(), Fail> {
+    let mut service = service::with(alloc, settings)?;
+    goes(rt, alloc, &mut service, way, script)?;
+    Ok(())
+}
+
+/// The same in each way.
+fn plays_with(
+    rt: &impl Abort,
+    alloc: Global,
+    settings: Settings,
+    script: &[Row<'_>],
+) -> Result<(), Fail> {
+    plays_in(rt, alloc, settings, Way::Called, script)?;
+    plays_in(rt, alloc, settings, Way::Served, script)?;
+    plays_in(rt, alloc, settings, Way::Tried, script)
+}
+
+/// The same with so many nodes at most, and all else as at the defaults.
+fn plays(rt: &impl Abort, alloc: Global, nodes: u64, script: &[Row<'_>]) -> Result<(), Fail> {
+    plays_with(rt, alloc, service::settings(nodes), script)
 }

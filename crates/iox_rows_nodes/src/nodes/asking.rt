@@ -1,11 +1,11 @@
 //! How a service is asked: by its calls, by `serve`, or by `try_serve`.
 use super::service::id;
-use super::{Ask, TheReply, TheService};
+use super::{Ask, TheReply, TheService, Way};
 use iox_model::command::{self, PortCommand, PortOptions};
 use iox_model::reply::{Refusal, Reply};
 use iox_nodes::{Always, BackpressureAction, Elements};
 use iox_types::BackpressureStrategy;
-use iox_types::identifiers::UniqueNodeId;
+use iox_types::identifiers::{UniqueNodeId, UniqueSystemId};
 use std::alloc::{AllocError, Global};
 
 /// A command; a handler has one answer.
@@ -144,24 +144,53 @@ fn done(answer: Result<(), Refusal<u64>>) -> TheReply {
     }
 }
 
+fn joins(service: &mut TheService, id: UniqueSystemId, asked: Option<Refusal<u64>>) -> TheReply {
+    joined(service.join(id, asked))
+}
+
+fn leaves(service: &mut TheService, node: u64) -> TheReply {
+    done(service.leave(node))
+}
+
+fn dies(service: &mut TheService, node: u64) -> TheReply {
+    done(service.declare_dead(node))
+}
+
+fn is_cleaned_up(service: &mut TheService, node: u64) -> TheReply {
+    done(service.cleanup(node))
+}
+
+fn calls_port(service: &mut TheService, alloc: Global, command: AtPort) -> TheReply {
+    service.port(alloc, command)
+}
+
+pub(super) fn nodes(service: &TheService, alloc: Global) -> Result<Vec<u64>, AllocError> {
+    service.list_nodes(alloc)
+}
+
+fn clients(service: &TheService, alloc: Global) -> Result<Vec<u64>, AllocError> {
+    service.list_clients(alloc)
+}
+
+fn servers(service: &TheService, alloc: Global) -> Result<Vec<u64>, AllocError> {
+    service.list_servers(alloc)
+}
+
 /// Asks by the calls.
-pub(super) fn called(
+fn called(
     service: &mut TheService,
     alloc: Global,
-    ask: Ask,
+    command: Command,
 ) -> Result<TheReply, AllocError> {
-    let Some(command) = command(alloc, ask)? else {
-        return Ok(Reply::Answer(service.is_closed()));
-    };
     Ok(match command {
-        Command::Join { id, asked } => joined(service.join(id, asked)),
-        Command::Port(command) => service.port(alloc, command),
-        Command::Leave { node } => done(service.leave(node)),
-        Command::DeclareDead { node } => done(service.declare_dead(node)),
-        Command::Cleanup { node } => done(service.cleanup(node)),
-        Command::ListNodes => Reply::Listed(service.list_nodes(alloc)?),
-        Command::ListClients => Reply::Listed(service.list_clients(alloc)?),
-        Command::ListServers => Reply::Listed(service.list_servers(alloc)?),
+        Command::Join { id, asked } => joins(service, id, asked),
+        Command::Port(command) => calls_port(service, alloc, command),
+        Command::Leave { node } => leaves(service, node),
+        Command::DeclareDead { node } => dies(service, node),
+        Command::Cleanup { node } => is_cleaned_up(service, node),
+        Command::ListNodes => Reply::Listed(nodes(service, alloc)?),
+        Command::ListClients => Reply::Listed(clients(service, alloc)?),
+        Command::ListServers => Reply::Listed(servers(service, alloc)?),
     })
 }
 
@@ -169,11 +198,8 @@ pub(super) fn called(
 pub(super) fn served(
     service: &mut TheService,
     alloc: Global,
-    ask: Ask,
+    command: Command,
 ) -> Result<TheReply, AllocError> {
-    let Some(command) = command(alloc, ask)? else {
-        return Ok(Reply::Answer(service.is_closed()));
-    };
     service.serve(alloc, command)
 }
 
@@ -181,10 +207,24 @@ pub(super) fn served(
 pub(super) fn tried(
     service: &mut TheService,
     alloc: Global,
+    command: Command,
+) -> Result<TheReply, AllocError> {
+    service.try_serve(alloc, command)
+}
+
+/// Asks in this way.
+pub(super) fn asked(
+    service: &mut TheService,
+    alloc: Global,
+    way: Way,
     ask: Ask,
 ) -> Result<TheReply, AllocError> {
     let Some(command) = command(alloc, ask)? else {
         return Ok(Reply::Answer(service.is_closed()));
     };
-    service.try_serve(alloc, command)
+    match way {
+        Way::Called => called(service, alloc, command),
+        Way::Served => served(service, alloc, command),
+        Way::Tried => tried(service, alloc, command),
+    }
 }

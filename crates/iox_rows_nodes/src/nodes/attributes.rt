@@ -1,12 +1,14 @@
 //! A join of which attributes are asked.
 use super::TheService;
+use super::asking::nodes;
 use super::service::{first, id};
+use crate::expected::equal;
 use iox_attributes::{AttributeSpecifier, AttributeVerificationError, AttributeVerifier};
 use iox_model::reply::Refusal;
 use iox_names::attribute::{AttributeKey, AttributeValue};
 use iox_openers::{MessageTypes, ServiceDescription};
 use iox_types::{MessageTypeDetails, TypeVariant};
-use std::alloc::Global;
+use std::alloc::{AllocError, Global};
 use std::process::Abort;
 use std::test::Fail;
 
@@ -49,13 +51,40 @@ fn requiring(pairs: &[(&str, &str)], key: &str) -> Result<AttributeVerifier, Fai
     Ok(verifier)
 }
 
-/// What a join is answered, where an opener requires this of types that fit.
-fn join<'a>(
+/// What a join is answered.
+type Answer<'a> = Result<u64, Refusal<Cause<'a>>>;
+
+/// Why an opener that requires this of types that fit is refused, if it is.
+fn asked(verifier: &AttributeVerifier) -> Result<Option<Refusal<Cause<'_>>>, Fail> {
+    Ok(description()?.opener_refusal(&types()?, verifier))
+}
+
+fn join<'a>(service: &mut TheService, asked: Option<Refusal<Cause<'a>>>) -> Answer<'a> {
+    service.join(id(2), asked)
+}
+
+/// Ends the test where such an opener is answered otherwise.
+fn answers(
+    rt: &impl Abort,
     service: &mut TheService,
-    verifier: &'a AttributeVerifier,
-) -> Result<Result<u64, Refusal<Cause<'a>>>, Fail> {
-    let asked = description()?.opener_refusal(&types()?, verifier);
-    Ok(service.join(id(2), asked))
+    verifier: &AttributeVerifier,
+    wanted: Answer<'_>,
+) -> Result<(), Fail> {
+    let asked = asked(verifier)?;
+    equal(rt, join(service, asked), wanted);
+    Ok(())
+}
+
+/// Ends the test where other nodes are there.
+fn lists(
+    rt: &impl Abort,
+    alloc: Global,
+    service: &TheService,
+    wanted: &[u64],
+) -> Result<(), AllocError> {
+    let listed = nodes(service, alloc)?;
+    equal(rt, listed.as_slice(), wanted);
+    Ok(())
 }
 
 /// An opener that requires this is refused for that cause. Then the next that joins is number 1.
@@ -67,10 +96,16 @@ fn is_refused(
 ) -> Result<(), Fail> {
     let mut service = first(alloc, 20)?;
     let refused = Err(Refusal::IncompatibleAttributes(cause));
-    assert_eq!(rt; join(&mut service, verifier)?, refused);
-    assert_eq!(rt; service.list_nodes(alloc)?.len(), 1);
-    let nothing = AttributeVerifier::new();
-    assert_eq!(rt; join(&mut service, &nothing)?, Ok(1));
+    answers(rt, &mut service, verifier, refused)?;
+    lists(rt, alloc, &service, &[0])?;
+    answers(rt, &mut service, &AttributeVerifier::new(), Ok(1))
+}
+
+/// An opener that requires this joins, and is number 1.
+fn is_let_in(rt: &impl Abort, alloc: Global, verifier: &AttributeVerifier) -> Result<(), Fail> {
+    let mut service = first(alloc, 20)?;
+    answers(rt, &mut service, verifier, Ok(1))?;
+    lists(rt, alloc, &service, &[0, 1])?;
     Ok(())
 }
 
@@ -92,10 +127,6 @@ fn an_opener_is_told_a_missing_key(rt: HostRuntime) -> Result<(), Fail> {
 
 #[test]
 fn an_opener_with_the_attributes_joins(rt: HostRuntime) -> Result<(), Fail> {
-    let mut service = first(rt.alloc(), 20)?;
     let opener = requiring(&[("b", "2"), ("a", "1")], "b")?;
-    assert_eq!(rt; join(&mut service, &opener)?, Ok(1));
-    let numbers = service.list_nodes(rt.alloc())?;
-    assert_eq!(rt; numbers.as_slice(), [0, 1].as_slice());
-    Ok(())
+    is_let_in(&rt, rt.alloc(), &opener)
 }

@@ -1,5 +1,5 @@
 //! Nodes that are cleaned up.
-use super::{Ask, Services, Told};
+use super::{Ask, Told, plays};
 use iox_model::reply::Refusal;
 use std::test::Fail;
 
@@ -17,9 +17,7 @@ fn only_the_dead_are_cleaned_up(rt: HostRuntime) -> Result<(), Fail> {
         (Ask::Cleanup(0), Told::Refused(Refusal::NodeIsAlive)),
         (Ask::Nodes, Told::Listed(&[0])),
     ];
-    let mut services = Services::new(rt.alloc(), 20)?;
-    services.plays(&rt, rt.alloc(), &script)?;
-    Ok(())
+    plays(&rt, rt.alloc(), 20, &script)
 }
 
 #[test]
@@ -48,9 +46,7 @@ fn a_dead_server_is_there_until_its_cleanup(rt: HostRuntime) -> Result<(), Fail>
         (Ask::Server(0), Told::Server(6)),
         (Ask::Servers, Told::Listed(&[0, 6])),
     ];
-    let mut services = Services::new(rt.alloc(), 20)?;
-    services.plays(&rt, rt.alloc(), &script)?;
-    Ok(())
+    plays(&rt, rt.alloc(), 20, &script)
 }
 
 #[test]
@@ -81,9 +77,7 @@ fn the_cleanup_of_the_only_node_closes_the_service(rt: HostRuntime) -> Result<()
         (Ask::Cleanup(0), Told::Refused(Refusal::UnknownNode)),
         (Ask::Closed, Told::Answer(true)),
     ];
-    let mut services = Services::new(rt.alloc(), 20)?;
-    services.plays(&rt, rt.alloc(), &script)?;
-    Ok(())
+    plays(&rt, rt.alloc(), 20, &script)
 }
 
 #[test]
@@ -104,7 +98,5 @@ fn a_node_with_a_value_does_not_leave(rt: HostRuntime) -> Result<(), Fail> {
         (Ask::Closed, Told::Answer(true)),
         (Ask::Leave(0), Told::Refused(Refusal::UnknownNode)),
     ];
-    let mut services = Services::new(rt.alloc(), 20)?;
-    services.plays(&rt, rt.alloc(), &script)?;
-    Ok(())
+    plays(&rt, rt.alloc(), 20, &script)
 }

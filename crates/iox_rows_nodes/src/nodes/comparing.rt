@@ -1,55 +1,53 @@
 //! What others see of a node that is cleaned up, and of one that releases all and leaves.
-use super::{Ask, Services, Told};
+use super::{Ask, Row, Told, plays};
 use std::alloc::{AllocError, Global};
 use std::process::Abort;
 use std::test::Fail;
 
-type Script<'a> = &'a [(Ask, Told<'a>)];
+type Script<'a> = &'a [Row<'a>];
 
-/// The services after these commands.
-fn played(rt: &impl Abort, alloc: Global, script: Script<'_>) -> Result<Services, AllocError> {
-    let mut services = Services::new(alloc, 20)?;
-    services.plays(rt, alloc, script)?;
-    Ok(services)
+/// These lists, one behind another.
+fn joined<'a>(
+    alloc: Global,
+    before: Script<'a>,
+    between: Script<'a>,
+    after: Script<'a>,
+) -> Result<Vec<Row<'a>>, AllocError> {
+    let mut script = Vec::new(alloc);
+    script.extend_from_slice(before)?;
+    script.extend_from_slice(between)?;
+    script.extend_from_slice(after)?;
+    Ok(script)
 }
 
 /// Node 1 dies and is cleaned up, after the one and before the other.
-fn dies(
-    rt: &impl Abort,
-    alloc: Global,
-    before: Script<'_>,
-    after: Script<'_>,
-) -> Result<(), AllocError> {
-    let mut services = played(rt, alloc, before)?;
+fn dies(rt: &impl Abort, alloc: Global, before: Script<'_>, after: Script<'_>) -> Result<(), Fail> {
     let ends = [(Ask::Die(1), Told::Done), (Ask::Cleanup(1), Told::Done)];
-    services.plays(rt, alloc, &ends)?;
-    services.plays(rt, alloc, after)
+    let script = joined(alloc, before, &ends, after)?;
+    plays(rt, alloc, 20, &script)
 }
 
-/// Node 1 releases a value.
-fn releases(
-    rt: &impl Abort,
-    alloc: Global,
-    services: &mut Services,
-    number: u64,
-) -> Result<(), AllocError> {
-    services.plays(rt, alloc, &[(Ask::Release(1, number), Told::Done)])
+/// Node 1 releases these values and leaves.
+fn released<'a>(alloc: Global, values: &[u64]) -> Result<Vec<Row<'a>>, AllocError> {
+    let mut script = Vec::new(alloc);
+    for number in values {
+        script.push((Ask::Release(1, *number), Told::Done))?;
+    }
+    script.push((Ask::Leave(1), Told::Done))?;
+    Ok(script)
 }
 
-/// Node 1 releases these values and leaves, after the one and before the other.
+/// It does so after the one and before the other.
 fn leaves(
     rt: &impl Abort,
     alloc: Global,
     before: Script<'_>,
     values: &[u64],
     after: Script<'_>,
-) -> Result<(), AllocError> {
-    let mut services = played(rt, alloc, before)?;
-    for number in values {
-        releases(rt, alloc, &mut services, *number)?;
-    }
-    services.plays(rt, alloc, &[(Ask::Leave(1), Told::Done)])?;
-    services.plays(rt, alloc, after)
+) -> Result<(), Fail> {
+    let ends = released(alloc, values)?;
+    let script = joined(alloc, before, &ends, after)?;
+    plays(rt, alloc, 20, &script)
 }
 
 #[test]
@@ -88,8 +86,7 @@ fn a_server_that_is_cleaned_up_is_as_one_that_leaves(rt: HostRuntime) -> Result<
         (Ask::Receive(0, 9), Told::Nothing),
     ];
     dies(&rt, rt.alloc(), &before, &after)?;
-    leaves(&rt, rt.alloc(), &before, &[1, 5, 6, 7], &after)?;
-    Ok(())
+    leaves(&rt, rt.alloc(), &before, &[1, 5, 6, 7], &after)
 }
 
 #[test]
@@ -126,6 +123,5 @@ fn a_client_that_is_cleaned_up_is_as_one_that_leaves(rt: HostRuntime) -> Result<
         (Ask::Read(0, 10), Told::Words(&[6])),
     ];
     dies(&rt, rt.alloc(), &before, &after)?;
-    leaves(&rt, rt.alloc(), &before, &[1, 2, 3, 5, 6], &after)?;
-    Ok(())
+    leaves(&rt, rt.alloc(), &before, &[1, 2, 3, 5, 6], &after)
 }

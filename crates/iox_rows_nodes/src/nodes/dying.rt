@@ -1,5 +1,5 @@
 //! Nodes that are dead and not yet cleaned up.
-use super::{Ask, Services, Told};
+use super::{Ask, Told, plays};
 use iox_model::reply::Refusal;
 use std::test::Fail;
 
@@ -25,9 +25,7 @@ fn a_dead_node_asks_nothing_more(rt: HostRuntime) -> Result<(), Fail> {
         // What was refused used no number.
         (Ask::Client(0), Told::Client(1)),
     ];
-    let mut services = Services::new(rt.alloc(), 20)?;
-    services.plays(&rt, rt.alloc(), &script)?;
-    Ok(())
+    plays(&rt, rt.alloc(), 20, &script)
 }
 
 #[test]
@@ -57,9 +55,7 @@ fn a_dead_server_gets_requests_until_its_cleanup(rt: HostRuntime) -> Result<(), 
         (Ask::Send(0, 5), Told::Sent(0)),
         (Ask::Connected(0, 5), Told::Answer(false)),
     ];
-    let mut services = Services::new(rt.alloc(), 20)?;
-    services.plays(&rt, rt.alloc(), &script)?;
-    Ok(())
+    plays(&rt, rt.alloc(), 20, &script)
 }
 
 #[test]
@@ -90,9 +86,7 @@ fn a_dead_client_gets_responses_until_its_cleanup(rt: HostRuntime) -> Result<(),
         (Ask::Receive(0, 0), Told::Nothing),
         (Ask::Release(0, 5), Told::Done),
     ];
-    let mut services = Services::new(rt.alloc(), 20)?;
-    services.plays(&rt, rt.alloc(), &script)?;
-    Ok(())
+    plays(&rt, rt.alloc(), 20, &script)
 }
 
 #[test]
@@ -114,7 +108,5 @@ fn a_response_of_the_dead_is_received_and_then_no_more(rt: HostRuntime) -> Resul
         (Ask::Read(0, 4), Told::Words(&[456])),
         (Ask::Release(0, 4), Told::Done),
     ];
-    let mut services = Services::new(rt.alloc(), 20)?;
-    services.plays(&rt, rt.alloc(), &script)?;
-    Ok(())
+    plays(&rt, rt.alloc(), 20, &script)
 }

@@ -1,39 +1,25 @@
 //! Messages for full receivers, of ports that have a handler. Nothing overflows: a client has one
 //! active request, and one response may wait.
-use super::service::{id, new, settings};
-use super::{Ask, Services, TheService, Told};
+use super::service::settings;
+use super::{Ask, Told, plays_with};
 use iox_control::Settings;
 use iox_model::reply::Refusal;
 use iox_nodes::BackpressureAction;
 use iox_types::BackpressureStrategy;
-use std::alloc::{AllocError, Global};
+use std::alloc::Global;
 use std::process::Abort;
 use std::test::Fail;
 
-/// A service in which nothing overflows.
-fn full_at_one(alloc: Global) -> Result<TheService, AllocError> {
-    let settings = Settings {
+/// Ends the test where a service in which nothing overflows answers otherwise.
+fn plays(rt: &impl Abort, alloc: Global, script: &[(Ask, Told<'_>)]) -> Result<(), Fail> {
+    let full_at_one = Settings {
         active_requests: 1,
         response_buffer: 1,
         request_overflow: false,
         response_overflow: false,
         ..settings(20)
     };
-    match new(alloc, settings, id(1), None) {
-        Ok(service) => Ok(service),
-        Err(_) => Err(AllocError),
-    }
-}
-
-/// Ends the test where such a service answers otherwise.
-fn plays(rt: &impl Abort, alloc: Global, script: &[(Ask, Told<'_>)]) -> Result<(), Fail> {
-    let mut services = Services {
-        called: full_at_one(alloc)?,
-        served: full_at_one(alloc)?,
-        tried: full_at_one(alloc)?,
-    };
-    services.plays(rt, alloc, script)?;
-    Ok(())
+    plays_with(rt, alloc, full_at_one, script)
 }
 
 /// The send of a second request is told this, where the first one waits and its pending response is

@@ -1,5 +1,5 @@
 //! Nodes that join, and those that may not.
-use super::{Ask, Services, Told};
+use super::{Ask, Told, plays};
 use iox_model::reply::Refusal;
 use std::test::Fail;
 
@@ -26,9 +26,7 @@ fn a_refused_join_leaves_nothing_behind(rt: HostRuntime) -> Result<(), Fail> {
         (Ask::Join(2), Told::Node(3)),
         (Ask::Nodes, Told::Listed(&[0, 3])),
     ];
-    let mut services = Services::new(rt.alloc(), 2)?;
-    services.plays(&rt, rt.alloc(), &script)?;
-    Ok(())
+    plays(&rt, rt.alloc(), 2, &script)
 }
 
 #[test]
@@ -55,9 +53,7 @@ fn the_first_test_that_fails_is_told(rt: HostRuntime) -> Result<(), Fail> {
             Told::Refused(Refusal::MarkedForDestruction),
         ),
     ];
-    let mut services = Services::new(rt.alloc(), 1)?;
-    services.plays(&rt, rt.alloc(), &script)?;
-    Ok(())
+    plays(&rt, rt.alloc(), 1, &script)
 }
 
 #[test]
@@ -77,9 +73,7 @@ fn a_dead_node_keeps_its_place_and_its_id(rt: HostRuntime) -> Result<(), Fail> {
         (Ask::Client(1), Told::Refused(Refusal::UnknownNode)),
         (Ask::Client(2), Told::Client(0)),
     ];
-    let mut services = Services::new(rt.alloc(), 2)?;
-    services.plays(&rt, rt.alloc(), &script)?;
-    Ok(())
+    plays(&rt, rt.alloc(), 2, &script)
 }
 
 #[test]
@@ -97,7 +91,5 @@ fn the_last_node_that_leaves_closes_the_service(rt: HostRuntime) -> Result<(), F
         (Ask::Join(3), Told::Refused(Refusal::MarkedForDestruction)),
         (Ask::Nodes, Told::Listed(&[])),
     ];
-    let mut services = Services::new(rt.alloc(), 2)?;
-    services.plays(&rt, rt.alloc(), &script)?;
-    Ok(())
+    plays(&rt, rt.alloc(), 2, &script)
 }

@@ -1,8 +1,16 @@
 //! Which nodes are registered with a service.
-use super::{Ask, Services, TheService, Told};
+use super::asking::nodes;
+use super::{Ask, TheService, Told, Way, goes, service};
+use crate::expected::equal;
 use std::alloc::{AllocError, Global};
 use std::process::Abort;
 use std::test::Fail;
+
+/// How many nodes are registered, and whether the register is locked.
+fn registered(service: &TheService) -> (usize, bool) {
+    let registered = service.dynamic_config();
+    (registered.number_of_nodes(), registered.is_locked())
+}
 
 /// As many nodes are registered as are listed, and the register is locked if the service is closed.
 pub(super) fn as_many_as_listed(
@@ -10,12 +18,17 @@ pub(super) fn as_many_as_listed(
     alloc: Global,
     service: &TheService,
 ) -> Result<(), AllocError> {
-    let registered = service.dynamic_config();
-    assert_eq!(rt;
-        registered.number_of_nodes(),
-        service.list_nodes(alloc)?.len()
-    );
-    assert_eq!(rt; registered.is_locked(), service.is_closed());
+    let listed = nodes(service, alloc)?.len();
+    equal(rt, registered(service), (listed, service.is_closed()));
+    Ok(())
+}
+
+/// Asks a new service in this way one after another. Then none is registered, and the register is
+/// locked.
+fn locks(rt: &impl Abort, alloc: Global, way: Way, script: &[(Ask, Told<'_>)]) -> Result<(), Fail> {
+    let mut service = service::first(alloc, 20)?;
+    goes(rt, alloc, &mut service, way, script)?;
+    equal(rt, registered(&service), (0, true));
     Ok(())
 }
 
@@ -30,9 +43,8 @@ fn the_last_that_is_cleaned_up_locks_the_register(rt: HostRuntime) -> Result<(),
         (Ask::Cleanup(1), Told::Done),
         (Ask::Closed, Told::Answer(true)),
     ];
-    let mut services = Services::new(rt.alloc(), 20)?;
-    services.plays(&rt, rt.alloc(), &script)?;
-    assert_eq!(rt; services.called.dynamic_config().is_locked(), true);
-    assert_eq!(rt; services.called.dynamic_config().number_of_nodes(), 0);
+    for way in [Way::Called, Way::Served, Way::Tried] {
+        locks(&rt, rt.alloc(), way, &script)?;
+    }
     Ok(())
 }

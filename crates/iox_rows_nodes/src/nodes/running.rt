@@ -1,7 +1,8 @@
 //! Commands that run one after another, and all their replies.
 use super::asking::command;
-use super::service::{first, id, new, settings};
-use super::{Ask, TheReply, TheService, Told, lent};
+use super::service::{settings, with};
+use super::{Ask, TheReply, TheService, Told, tells};
+use crate::expected::equal;
 use iox_control::Settings;
 use iox_model::reply::Refusal;
 use std::alloc::{AllocError, Global};
@@ -26,14 +27,33 @@ fn run(
 }
 
 /// Ends the test where the replies are not all of the wanted ones.
-fn are(
+fn are(rt: &impl Abort, replies: &[TheReply], wanted: &[Told<'_>]) {
+    equal(rt, replies.len(), wanted.len());
+    for (place, (reply, told)) in replies.iter().zip(wanted.iter()).enumerate() {
+        tells(rt, place, reply, *told);
+    }
+}
+
+/// The replies to runs of these lists by a new service, one after another.
+fn ran(alloc: Global, settings: Settings, runs: &[&[Ask]]) -> Result<Vec<TheReply>, AllocError> {
+    let mut service = with(alloc, settings)?;
+    let mut replies = Vec::new(alloc);
+    for asks in runs {
+        run(&mut service, alloc, asks, &mut replies)?;
+    }
+    Ok(replies)
+}
+
+/// Ends the test where these are not the wanted ones.
+fn plays(
     rt: &impl Abort,
     alloc: Global,
-    replies: &[TheReply],
+    settings: Settings,
+    runs: &[&[Ask]],
     wanted: &[Told<'_>],
-) -> Result<(), AllocError> {
-    let told: Vec<Told<'_>> = replies.iter().map(|reply| lent(reply)).collect(alloc)?;
-    assert_eq!(rt; told.as_slice(), wanted);
+) -> Result<(), Fail> {
+    let replies = ran(alloc, settings, runs)?;
+    are(rt, &replies, wanted);
     Ok(())
 }
 
@@ -66,13 +86,7 @@ fn a_request_and_its_response_are_one_run(rt: HostRuntime) -> Result<(), Fail> {
         response_overflow: false,
         ..settings(20)
     };
-    let Ok(mut service) = new(rt.alloc(), queues, id(1), None) else {
-        return Err(Fail::from(AllocError));
-    };
-    let mut replies = Vec::new(rt.alloc());
-    run(&mut service, rt.alloc(), &asks, &mut replies)?;
-    are(&rt, rt.alloc(), replies.as_slice(), &wanted)?;
-    Ok(())
+    plays(&rt, rt.alloc(), queues, &[&asks], &wanted)
 }
 
 #[test]
@@ -117,11 +131,7 @@ fn a_run_goes_on_behind_what_is_refused(rt: HostRuntime) -> Result<(), Fail> {
         Told::Handle(4),
         Told::Words(&[5]),
     ];
-    let mut service = first(rt.alloc(), 2)?;
-    let mut replies = Vec::new(rt.alloc());
-    run(&mut service, rt.alloc(), &asks, &mut replies)?;
-    are(&rt, rt.alloc(), replies.as_slice(), &wanted)?;
-    Ok(())
+    plays(&rt, rt.alloc(), settings(2), &[&asks], &wanted)
 }
 
 #[test]
@@ -174,22 +184,16 @@ fn nodes_come_and_go_until_the_last_is_gone(rt: HostRuntime) -> Result<(), Fail>
         Told::Listed(&[]),
         Told::Refused(Refusal::MarkedForDestruction),
     ];
-    let mut service = first(rt.alloc(), 20)?;
-    let mut replies = Vec::new(rt.alloc());
-    run(&mut service, rt.alloc(), &asks, &mut replies)?;
-    are(&rt, rt.alloc(), replies.as_slice(), &wanted)?;
-    Ok(())
+    plays(&rt, rt.alloc(), settings(20), &[&asks], &wanted)
 }
 
 #[test]
 fn a_further_run_puts_its_replies_behind(rt: HostRuntime) -> Result<(), Fail> {
-    let mut service = first(rt.alloc(), 20)?;
-    let mut replies = Vec::new(rt.alloc());
-    run(&mut service, rt.alloc(), &[Ask::Client(0)], &mut replies)?;
-    run(&mut service, rt.alloc(), &[], &mut replies)?;
-    let asks = [Ask::Request(0, 0, 8), Ask::Read(0, 1)];
-    run(&mut service, rt.alloc(), &asks, &mut replies)?;
+    let runs: [&[Ask]; 3] = [
+        &[Ask::Client(0)],
+        &[],
+        &[Ask::Request(0, 0, 8), Ask::Read(0, 1)],
+    ];
     let wanted = [Told::Client(0), Told::Handle(1), Told::Words(&[8])];
-    are(&rt, rt.alloc(), replies.as_slice(), &wanted)?;
-    Ok(())
+    plays(&rt, rt.alloc(), settings(20), &runs, &wanted)
 }

@@ -63,10 +63,15 @@ pub(super) fn new(
     TheService::new(alloc, 7, settings, id, asked, shape, shape)
 }
 
-/// A service whose first node has the id 1 0 0 0.
-pub(super) fn first(alloc: Global, nodes: u64) -> Result<TheService, AllocError> {
-    match new(alloc, settings(nodes), id(1), None) {
+/// A service with these settings, whose first node has the id 1 0 0 0.
+pub(super) fn with(alloc: Global, settings: Settings) -> Result<TheService, AllocError> {
+    match new(alloc, settings, id(1), None) {
         Ok(service) => Ok(service),
         Err(_) => Err(AllocError),
     }
+}
+
+/// The same with so many nodes at most, and all else as at the defaults.
+pub(super) fn first(alloc: Global, nodes: u64) -> Result<TheService, AllocError> {
+    with(alloc, settings(nodes))
 }

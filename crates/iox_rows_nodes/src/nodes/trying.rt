@@ -1,7 +1,8 @@
 //! Commands for which there is no memory, tried and answered.
-use super::asking::Command;
+use super::asking::{Command, served, tried};
 use super::service::{first, id};
-use super::{TheService, Told, lent};
+use super::{TheService, Told, tells};
+use crate::expected::holds;
 use iox_model::command::{PortCommand, PortOptions};
 use iox_model::reply::Refusal;
 use iox_types::identifiers::UniqueNodeId;
@@ -37,35 +38,48 @@ fn join() -> Command {
     }
 }
 
+/// Whether it finds no memory.
+fn is_wanting(service: &mut TheService, alloc: Global, command: Command) -> bool {
+    service.try_serve(alloc, command).is_err()
+}
+
 /// Ends the test where a service finds memory for what is tried, or refuses the same for another
 /// reason.
 fn lacks(
     rt: &impl Abort,
     alloc: Global,
     service: &mut TheService,
-    tried: Command,
-    served: Command,
+    commands: (Command, Command),
     refusal: Refusal<u64>,
 ) -> Result<(), AllocError> {
-    let answer = service.try_serve(alloc, tried);
-    assert!(rt; answer.is_err());
-    let reply = service.serve(alloc, served)?;
-    assert_eq!(rt; lent(&reply), Told::Refused(refusal));
+    let (to_try, to_serve) = commands;
+    holds(rt, is_wanting(service, alloc, to_try));
+    let reply = served(service, alloc, to_serve)?;
+    tells(rt, 0, &reply, Told::Refused(refusal));
+    Ok(())
+}
+
+/// A client that is too large finds no memory, nor does a node whose join says so. Then there is
+/// the first node alone, and its first client has number 0.
+fn changes_nothing(
+    rt: &impl Abort,
+    alloc: Global,
+    service: &mut TheService,
+) -> Result<(), AllocError> {
+    let clients = (client(u64::MAX)?, client(u64::MAX)?);
+    let no_segment = Refusal::UnableToCreateDataSegment;
+    lacks(rt, alloc, service, clients, no_segment)?;
+    lacks(rt, alloc, service, (join(), join()), Refusal::WantOfMemory)?;
+    let listed = served(service, alloc, Command::ListNodes)?;
+    tells(rt, 0, &listed, Told::Listed(&[0]));
+    let made = tried(service, alloc, client(1)?)?;
+    tells(rt, 0, &made, Told::Client(0));
     Ok(())
 }
 
 #[test]
 fn what_finds_no_memory_changes_nothing(rt: HostRuntime) -> Result<(), Fail> {
-    let alloc = rt.alloc();
-    let mut service = first(alloc, 20)?;
-    let (tried, served) = (client(u64::MAX)?, client(u64::MAX)?);
-    let refusal = Refusal::UnableToCreateDataSegment;
-    lacks(&rt, alloc, &mut service, tried, served, refusal)?;
-    let refusal = Refusal::WantOfMemory;
-    lacks(&rt, alloc, &mut service, join(), join(), refusal)?;
-    let nodes = service.list_nodes(alloc)?;
-    assert_eq!(rt; nodes.as_slice(), [0].as_slice());
-    let reply = service.try_serve(alloc, client(1)?)?;
-    assert_eq!(rt; lent(&reply), Told::Client(0));
+    let mut service = first(rt.alloc(), 20)?;
+    changes_nothing(&rt, rt.alloc(), &mut service)?;
     Ok(())
 }
