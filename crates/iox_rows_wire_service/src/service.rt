@@ -13,6 +13,7 @@ mod registered;
 mod running;
 mod starts;
 
+use crate::expected::equal;
 use iceoryx2_wire::{AttributeVerificationError, Many, Opener, Refusal, Reply, Service, Settings};
 use std::alloc::{AllocError, Global};
 use std::process::Abort;
@@ -89,51 +90,115 @@ fn lent<'a>(reply: &'a TheReply<'a>) -> Told<'a> {
     }
 }
 
+/// What is asked, and what is told.
+type Row<'a> = (Ask<'a>, Told<'a>);
+
+/// How a service is asked: by its calls, or by `run`.
+#[derive(Clone, Copy)]
+enum Way {
+    Called,
+    Ran,
+}
+
 /// Ends the test where a reply is not the wanted one.
 fn tells(rt: &impl Abort, reply: &TheReply<'_>, wanted: &Told<'_>) {
     let told = lent(reply);
     assert_eq!(rt; told, *wanted);
 }
 
-/// Two services that are asked the same: one by its calls, and one by `run`.
-#[derive(Drop)]
-struct Pair {
-    called: TheService,
-    ran: TheService,
+/// Asks by the calls, and ends the test where an answer is not the wanted one.
+fn calls(
+    rt: &impl Abort,
+    alloc: Global,
+    service: &mut TheService,
+    script: &[Row<'_>],
+) -> Result<(), AllocError> {
+    for (ask, wanted) in script {
+        let reply = asking::called(service, alloc, *ask)?;
+        tells(rt, &reply, wanted);
+        registered::as_many_as_listed(rt, alloc, service)?;
+    }
+    Ok(())
 }
 
-impl Pair {
-    /// Services with these settings and the attributes (a, 1) and (b, 2). Node 0 has id 1 0 0 0.
-    fn new(alloc: Global, settings: Settings) -> Result<Pair, Fail> {
-        Ok(Pair {
-            called: starts::first(alloc, settings)?,
-            ran: starts::first(alloc, settings)?,
-        })
+/// Ends the test where replies are not the wanted ones.
+fn are(rt: &impl Abort, replies: &[TheReply<'_>], wanted: &[Told<'_>]) {
+    equal(rt, replies.len(), wanted.len());
+    for (reply, told) in replies.iter().zip(wanted.iter()) {
+        tells(rt, reply, told);
     }
+}
 
-    /// Asks one after another, and ends the test where an answer is not the wanted one.
-    fn plays(
-        &mut self,
-        rt: &impl Abort,
-        alloc: Global,
-        script: &[(Ask<'_>, Told<'_>)],
-    ) -> Result<(), AllocError> {
-        let mut commands = Vec::with_capacity(alloc, script.len())?;
-        for (ask, wanted) in script {
-            let reply = asking::called(&mut self.called, alloc, *ask)?;
-            tells(rt, &reply, wanted);
-            registered::as_many_as_listed(rt, alloc, &self.called)?;
-            let command = asking::command(alloc, *ask)?;
-            commands.push(command)?;
-        }
-        let mut replies = Vec::new(alloc);
-        self.ran.run(alloc, commands, &mut replies)?;
-        assert_eq!(rt; replies.len(), script.len());
-        for (reply, (_, wanted)) in replies.iter().zip(script.iter()) {
-            tells(rt, reply, wanted);
-        }
-        assert_eq!(rt; self.ran.is_closed(), self.called.is_closed());
-        registered::as_many_as_listed(rt, alloc, &self.ran)?;
-        Ok(())
+/// Ends the test where replies are not those of a script.
+fn are_of(rt: &impl Abort, replies: &[TheReply<'_>], script: &[Row<'_>]) {
+    equal(rt, replies.len(), script.len());
+    for (reply, (_, wanted)) in replies.iter().zip(script.iter()) {
+        tells(rt, reply, wanted);
     }
+}
+
+/// The same by one `run`.
+fn runs(
+    rt: &impl Abort,
+    alloc: Global,
+    service: &mut TheService,
+    script: &[Row<'_>],
+) -> Result<(), AllocError> {
+    let replies = asking::ran(service, alloc, asking::commands(alloc, script)?)?;
+    are_of(rt, &replies, script);
+    registered::as_many_as_listed(rt, alloc, service)
+}
+
+/// The same in this way.
+fn goes(
+    rt: &impl Abort,
+    alloc: Global,
+    service: &mut TheService,
+    way: Way,
+    script: &[Row<'_>],
+) -> Result<(), AllocError> {
+    match way {
+        Way::Called => calls(rt, alloc, service, script),
+        Way::Ran => runs(rt, alloc, service, script),
+    }
+}
+
+/// The same. Then the service is closed, or is not.
+fn goes_until(
+    rt: &impl Abort,
+    alloc: Global,
+    service: &mut TheService,
+    way: Way,
+    script: &[Row<'_>],
+    is_closed: bool,
+) -> Result<(), Fail> {
+    goes(rt, alloc, service, way, script)?;
+    equal(rt, service.is_closed(), is_closed);
+    Ok(())
+}
+
+/// The same of a new service with these settings and the attributes (a, 1) and (b, 2), whose node 0
+/// has id 1 0 0 0. It answers whether the service is closed in the end.
+fn ends(
+    rt: &impl Abort,
+    alloc: Global,
+    settings: Settings,
+    way: Way,
+    script: &[Row<'_>],
+) -> Result<bool, Fail> {
+    let mut service = starts::first(alloc, settings)?;
+    goes(rt, alloc, &mut service, way, script)?;
+    Ok(service.is_closed())
+}
+
+/// The same in each way. They end alike.
+fn plays(
+    rt: &impl Abort,
+    alloc: Global,
+    settings: Settings,
+    script: &[Row<'_>],
+) -> Result<(), Fail> {
+    let closed = ends(rt, alloc, settings, Way::Called, script)?;
+    equal(rt, ends(rt, alloc, settings, Way::Ran, script)?, closed);
+    Ok(())
 }

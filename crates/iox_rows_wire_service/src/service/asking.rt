@@ -1,11 +1,13 @@
 //! How a service is asked: by its calls, or by a command of `run`.
 use super::starts::id;
-use super::{Ask, TheRefusal, TheReply, TheService};
-use iceoryx2_wire::{Command, Elements, Opener, PortCommand, PortOptions, Reply, UniqueNodeId};
+use super::{Ask, Row, TheRefusal, TheReply, TheService};
+use iceoryx2_wire::{
+    Command, Elements, Opener, PortCommand, PortOptions, Reply, UniqueNodeId, UniqueSystemId,
+};
 use std::alloc::{AllocError, Global};
 
 /// A command; ports have no handlers.
-type TheCommand<'a> = Command<Elements<u64, u64>, (), &'a Opener>;
+pub(super) type TheCommand<'a> = Command<Elements<u64, u64>, (), &'a Opener>;
 
 type AtPort = PortCommand<Elements<u64, u64>, ()>;
 
@@ -74,7 +76,7 @@ fn at_port(ask: Ask<'_>) -> Option<AtPort> {
 }
 
 /// The command that asks this.
-pub(super) fn command(alloc: Global, ask: Ask<'_>) -> Result<TheCommand<'_>, AllocError> {
+fn command(alloc: Global, ask: Ask<'_>) -> Result<TheCommand<'_>, AllocError> {
     if let Some(command) = at_port(ask) {
         return Ok(Command::Port(command));
     }
@@ -111,6 +113,38 @@ fn done(answer: Result<(), TheRefusal<'static>>) -> TheReply<'static> {
     }
 }
 
+fn opens<'a>(service: &mut TheService, id: UniqueSystemId, opener: &'a Opener) -> TheReply<'a> {
+    opened(service.open(&opener.types, &opener.verifier, id))
+}
+
+fn leaves(service: &mut TheService, node: u64) -> TheReply<'static> {
+    done(service.leave(node))
+}
+
+fn dies(service: &mut TheService, node: u64) -> TheReply<'static> {
+    done(service.declare_dead(node))
+}
+
+fn is_cleaned_up(service: &mut TheService, node: u64) -> TheReply<'static> {
+    done(service.cleanup(node))
+}
+
+fn calls_port(service: &mut TheService, alloc: Global, command: AtPort) -> TheReply<'static> {
+    service.port(alloc, command)
+}
+
+pub(super) fn nodes(service: &TheService, alloc: Global) -> Result<Vec<u64>, AllocError> {
+    service.list_nodes(alloc)
+}
+
+fn clients(service: &TheService, alloc: Global) -> Result<Vec<u64>, AllocError> {
+    service.list_clients(alloc)
+}
+
+fn servers(service: &TheService, alloc: Global) -> Result<Vec<u64>, AllocError> {
+    service.list_servers(alloc)
+}
+
 /// Asks by the calls.
 pub(super) fn called<'a>(
     service: &mut TheService,
@@ -118,13 +152,36 @@ pub(super) fn called<'a>(
     ask: Ask<'a>,
 ) -> Result<TheReply<'a>, AllocError> {
     Ok(match command(alloc, ask)? {
-        Command::Join { id, asked } => opened(service.open(&asked.types, &asked.verifier, id)),
-        Command::Port(command) => service.port(alloc, command),
-        Command::Leave { node } => done(service.leave(node)),
-        Command::DeclareDead { node } => done(service.declare_dead(node)),
-        Command::Cleanup { node } => done(service.cleanup(node)),
-        Command::ListNodes => Reply::Listed(service.list_nodes(alloc)?),
-        Command::ListClients => Reply::Listed(service.list_clients(alloc)?),
-        Command::ListServers => Reply::Listed(service.list_servers(alloc)?),
+        Command::Join { id, asked } => opens(service, id, asked),
+        Command::Port(command) => calls_port(service, alloc, command),
+        Command::Leave { node } => leaves(service, node),
+        Command::DeclareDead { node } => dies(service, node),
+        Command::Cleanup { node } => is_cleaned_up(service, node),
+        Command::ListNodes => Reply::Listed(nodes(service, alloc)?),
+        Command::ListClients => Reply::Listed(clients(service, alloc)?),
+        Command::ListServers => Reply::Listed(servers(service, alloc)?),
     })
+}
+
+/// The commands that ask this.
+pub(super) fn commands<'a>(
+    alloc: Global,
+    script: &[Row<'a>],
+) -> Result<Vec<TheCommand<'a>>, AllocError> {
+    let mut commands = Vec::new(alloc);
+    for (ask, _) in script {
+        commands.push(command(alloc, *ask)?)?;
+    }
+    Ok(commands)
+}
+
+/// The replies to a run of these commands.
+pub(super) fn ran<'a>(
+    service: &mut TheService,
+    alloc: Global,
+    commands: Vec<TheCommand<'a>>,
+) -> Result<Vec<TheReply<'a>>, AllocError> {
+    let mut replies = Vec::new(alloc);
+    service.run(alloc, commands, &mut replies)?;
+    Ok(replies)
 }

@@ -1,7 +1,9 @@
 //! Services that are made, and those that may not be.
+use super::asking::nodes;
 use super::openers::types;
-use super::starts::{SETTINGS, description, id, identity, new, with_nodes};
+use super::starts::{SETTINGS, described, description, id, identity, new, with_nodes};
 use super::{TheRefusal, TheService};
+use crate::expected::{equal, holds};
 use iceoryx2_wire::{
     MessageTypes, Refusal, ServiceDescription, Settings, TypeDetail, TypeVariant, UniqueSystemId,
 };
@@ -17,23 +19,39 @@ fn refusal(
     id: UniqueSystemId,
 ) -> Result<Option<TheRefusal<'static>>, Fail> {
     let attributes = description()?.attributes;
-    let described = ServiceDescription { types, attributes };
-    Ok(new(alloc, settings, identity()?, described, id).err())
+    let description = ServiceDescription { types, attributes };
+    Ok(new(alloc, settings, identity()?, description, id).err())
+}
+
+/// Settings, whether requests and responses are of bytes, the process of a creator, and why no such
+/// service is made, if none is.
+type Made = (Settings, (bool, bool), u32, Option<TheRefusal<'static>>);
+
+/// Ends the test where a service is refused for another reason, or is made.
+fn are_refused(rt: &impl Abort, alloc: Global, list: &[Made]) -> Result<(), Fail> {
+    for (settings, (requests, responses), process, wanted) in list {
+        let types = types(*requests, *responses)?;
+        let refused = refusal(alloc, *settings, types, id(*process))?;
+        equal(rt, refused, *wanted);
+    }
+    Ok(())
 }
 
 #[test]
 fn the_first_test_of_a_creator_that_fails_is_told(rt: HostRuntime) -> Result<(), Fail> {
-    let (a, large) = (rt.alloc(), with_nodes(1 << 24));
-    let refused = refusal(a, large, types(true, true)?, id(0))?;
-    assert_eq!(rt; refused, Some(Refusal::InvalidNodeId));
-    let refused = refusal(a, large, types(true, true)?, id(1))?;
-    assert_eq!(rt; refused, Some(Refusal::IncompatibleRequestTypes));
-    let refused = refusal(a, large, types(false, true)?, id(1))?;
-    assert_eq!(rt; refused, Some(Refusal::IncompatibleResponseTypes));
-    let refused = refusal(a, large, types(false, false)?, id(1))?;
-    assert_eq!(rt; refused, Some(Refusal::LimitTooLarge));
-    assert_eq!(rt; refusal(a, SETTINGS, types(false, false)?, id(1))?, None);
-    Ok(())
+    let large = with_nodes(1 << 24);
+    let invalid = Some(Refusal::InvalidNodeId);
+    let request = Some(Refusal::IncompatibleRequestTypes);
+    let response = Some(Refusal::IncompatibleResponseTypes);
+    let limit = Some(Refusal::LimitTooLarge);
+    let list = [
+        (large, (true, true), 0, invalid),
+        (large, (true, true), 1, request),
+        (large, (false, true), 1, response),
+        (large, (false, false), 1, limit),
+        (SETTINGS, (false, false), 1, None),
+    ];
+    are_refused(&rt, rt.alloc(), &list)
 }
 
 /// The service's own types, but numbers of requests are aligned so.
@@ -43,43 +61,68 @@ fn aligned(alignment: usize) -> Result<MessageTypes, Fail> {
     Ok(types)
 }
 
+/// Ends the test where a service with such numbers is refused for another reason, or is made.
+fn is_aligned(
+    rt: &impl Abort,
+    alloc: Global,
+    alignment: usize,
+    wanted: Option<TheRefusal<'static>>,
+) -> Result<(), Fail> {
+    let refused = refusal(alloc, SETTINGS, aligned(alignment)?, id(1))?;
+    equal(rt, refused, wanted);
+    Ok(())
+}
+
 #[test]
 fn a_creator_reads_where_messages_are_aligned_for_it(rt: HostRuntime) -> Result<(), Fail> {
-    let a = rt.alloc();
-    assert_eq!(rt; refusal(a, SETTINGS, aligned(16)?, id(1))?, None);
-    let refused = refusal(a, SETTINGS, aligned(4)?, id(1))?;
-    assert_eq!(rt; refused, Some(Refusal::IncompatibleRequestTypes));
-    Ok(())
+    is_aligned(&rt, rt.alloc(), 16, None)?;
+    let refused = Some(Refusal::IncompatibleRequestTypes);
+    is_aligned(&rt, rt.alloc(), 4, refused)
 }
 
 /// The service a/b is shown by its name and number.
 fn shows(rt: &impl Abort, alloc: Global, service: &TheService) -> Result<(), AllocError> {
     let shown = format!(in alloc; "{service:?}")?;
-    assert_eq!(rt; shown.as_str(), "Service { name: \"a/b\", number: 7, .. }");
+    equal(
+        rt,
+        shown.as_str(),
+        "Service { name: \"a/b\", number: 7, .. }",
+    );
     Ok(())
+}
+
+/// It has that name and number, and two attributes.
+fn is_named(rt: &impl Abort, service: &TheService) {
+    equal(rt, service.name().as_str(), "a/b");
+    equal(rt, service.number(), 7);
+    let attributes = service.description().attributes.attributes();
+    equal(rt, attributes.number_of_attributes(), 2);
+}
+
+/// Its numbers are aligned so.
+fn has_types(rt: &impl Abort, service: &TheService, wanted: &MessageTypes) {
+    holds(rt, service.description().types == *wanted);
+}
+
+/// Its first node has number 0.
+fn has_first_node(rt: &impl Abort, alloc: Global, service: &TheService) -> Result<(), AllocError> {
+    let listed = nodes(service, alloc)?;
+    equal(rt, listed.first().copied(), Some(0));
+    Ok(())
+}
+
+/// A service of these types.
+fn of_types(alloc: Global, types: MessageTypes) -> Result<TheService, Fail> {
+    let attributes = description()?.attributes;
+    described(alloc, SETTINGS, ServiceDescription { types, attributes })
 }
 
 #[test]
 fn a_service_says_what_its_creator_gave(rt: HostRuntime) -> Result<(), Fail> {
-    let described = ServiceDescription {
-        types: aligned(16)?,
-        attributes: description()?.attributes,
-    };
-    let Ok(service) = new(rt.alloc(), SETTINGS, identity()?, described, id(1)) else {
-        return Err(Fail::new("refused"));
-    };
-    assert_eq!(rt; service.name().as_str(), "a/b");
-    assert_eq!(rt; service.number(), 7);
-    assert_eq!(rt; service.description().types, aligned(16)?);
-    assert_eq!(rt;
-        service
-            .description()
-            .attributes
-            .attributes()
-            .number_of_attributes(),
-        2
-    );
-    assert_eq!(rt; service.list_nodes(rt.alloc())?.first().copied(), Some(0));
+    let service = of_types(rt.alloc(), aligned(16)?)?;
+    is_named(&rt, &service);
+    has_types(&rt, &service, &aligned(16)?);
+    has_first_node(&rt, rt.alloc(), &service)?;
     shows(&rt, rt.alloc(), &service)?;
     Ok(())
 }

@@ -1,8 +1,11 @@
 //! Nodes that leave, die and are cleaned up.
 use super::openers::fit;
-use super::starts::{SETTINGS, with_nodes};
-use super::{Ask, Pair, Told};
-use iceoryx2_wire::Refusal;
+use super::starts::{SETTINGS, first, with_nodes};
+use super::{Ask, Row, Told, Way, ends, goes_until, plays};
+use crate::expected::holds;
+use iceoryx2_wire::{Refusal, Settings};
+use std::alloc::Global;
+use std::process::Abort;
 use std::test::Fail;
 
 #[test]
@@ -20,9 +23,7 @@ fn only_the_dead_are_cleaned_up(rt: HostRuntime) -> Result<(), Fail> {
         (Ask::Cleanup(1), Told::Refused(Refusal::UnknownNode)),
         (Ask::Nodes, Told::Listed(&[0])),
     ];
-    let mut pair = Pair::new(rt.alloc(), SETTINGS)?;
-    pair.plays(&rt, rt.alloc(), &script)?;
-    Ok(())
+    plays(&rt, rt.alloc(), SETTINGS, &script)
 }
 
 #[test]
@@ -45,9 +46,7 @@ fn a_dead_node_asks_nothing_more(rt: HostRuntime) -> Result<(), Fail> {
         (Ask::Release(1, 0), Told::Refused(Refusal::UnknownNode)),
         (Ask::Clients, Told::Listed(&[])),
     ];
-    let mut pair = Pair::new(rt.alloc(), SETTINGS)?;
-    pair.plays(&rt, rt.alloc(), &script)?;
-    Ok(())
+    plays(&rt, rt.alloc(), SETTINGS, &script)
 }
 
 #[test]
@@ -66,9 +65,7 @@ fn a_node_with_a_value_does_not_leave(rt: HostRuntime) -> Result<(), Fail> {
         (Ask::Leave(0), Told::Done),
         (Ask::Leave(0), Told::Refused(Refusal::UnknownNode)),
     ];
-    let mut pair = Pair::new(rt.alloc(), SETTINGS)?;
-    pair.plays(&rt, rt.alloc(), &script)?;
-    Ok(())
+    plays(&rt, rt.alloc(), SETTINGS, &script)
 }
 
 #[test]
@@ -88,23 +85,43 @@ fn a_cleanup_leaves_the_servers_of_others(rt: HostRuntime) -> Result<(), Fail> {
         (Ask::Read(0, 4), Told::Words(&[9])),
         (Ask::Open(2, &fits), Told::Node(2)),
     ];
-    let mut pair = Pair::new(rt.alloc(), SETTINGS)?;
-    pair.plays(&rt, rt.alloc(), &script)?;
+    plays(&rt, rt.alloc(), SETTINGS, &script)
+}
+
+/// Asks a new service one list after another. It is closed by the second.
+fn closes(
+    rt: &impl Abort,
+    alloc: Global,
+    way: Way,
+    first_list: &[Row<'_>],
+    second_list: &[Row<'_>],
+) -> Result<(), Fail> {
+    let mut service = first(alloc, SETTINGS)?;
+    goes_until(rt, alloc, &mut service, way, first_list, false)?;
+    goes_until(rt, alloc, &mut service, way, second_list, true)
+}
+
+/// Asks a new service in each way. It is closed in the end.
+fn ends_closed(
+    rt: &impl Abort,
+    alloc: Global,
+    settings: Settings,
+    script: &[Row<'_>],
+) -> Result<(), Fail> {
+    holds(rt, ends(rt, alloc, settings, Way::Called, script)?);
+    holds(rt, ends(rt, alloc, settings, Way::Ran, script)?);
     Ok(())
 }
 
 #[test]
 fn the_cleanup_of_the_only_node_closes_the_service(rt: HostRuntime) -> Result<(), Fail> {
     let fits = fit()?;
-    let mut pair = Pair::new(rt.alloc(), SETTINGS)?;
     let dies = [
         (Ask::Server(0), Told::Server(0)),
         (Ask::Die(0), Told::Done),
         (Ask::Nodes, Told::Listed(&[0])),
         (Ask::Servers, Told::Listed(&[0])),
     ];
-    pair.plays(&rt, rt.alloc(), &dies)?;
-    assert_eq!(rt; pair.called.is_closed(), false);
     let script = [
         (Ask::Cleanup(0), Told::Done),
         (Ask::Nodes, Told::Listed(&[])),
@@ -116,9 +133,8 @@ fn the_cleanup_of_the_only_node_closes_the_service(rt: HostRuntime) -> Result<()
         (Ask::Client(0), Told::Refused(Refusal::UnknownNode)),
         (Ask::Die(0), Told::Refused(Refusal::UnknownNode)),
     ];
-    pair.plays(&rt, rt.alloc(), &script)?;
-    assert_eq!(rt; pair.called.is_closed(), true);
-    Ok(())
+    closes(&rt, rt.alloc(), Way::Called, &dies, &script)?;
+    closes(&rt, rt.alloc(), Way::Ran, &dies, &script)
 }
 
 #[test]
@@ -137,8 +153,5 @@ fn the_last_node_that_leaves_closes_the_service(rt: HostRuntime) -> Result<(), F
             Told::Refused(Refusal::MarkedForDestruction),
         ),
     ];
-    let mut pair = Pair::new(rt.alloc(), with_nodes(2))?;
-    pair.plays(&rt, rt.alloc(), &script)?;
-    assert_eq!(rt; pair.called.is_closed(), true);
-    Ok(())
+    ends_closed(&rt, rt.alloc(), with_nodes(2), &script)
 }

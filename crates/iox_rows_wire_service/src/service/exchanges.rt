@@ -1,7 +1,7 @@
 //! Requests and responses of nodes that opened a service.
 use super::openers::fit;
 use super::starts::SETTINGS;
-use super::{Ask, Pair, Told};
+use super::{Ask, Told, plays};
 use iceoryx2_wire::Settings;
 use std::test::Fail;
 
@@ -24,9 +24,7 @@ fn a_request_is_answered(rt: HostRuntime) -> Result<(), Fail> {
         response_overflow: false,
         ..SETTINGS
     };
-    let mut pair = Pair::new(rt.alloc(), settings)?;
-    pair.plays(&rt, rt.alloc(), &script)?;
-    Ok(())
+    plays(&rt, rt.alloc(), settings, &script)
 }
 
 #[test]
@@ -47,9 +45,7 @@ fn a_response_of_the_dead_is_received_and_then_no_more(rt: HostRuntime) -> Resul
         (Ask::Receive(0, 2), Told::Nothing),
         (Ask::Servers, Told::Listed(&[])),
     ];
-    let mut pair = Pair::new(rt.alloc(), SETTINGS)?;
-    pair.plays(&rt, rt.alloc(), &script)?;
-    Ok(())
+    plays(&rt, rt.alloc(), SETTINGS, &script)
 }
 
 #[test]
@@ -72,7 +68,5 @@ fn a_loan_is_filled_and_sent(rt: HostRuntime) -> Result<(), Fail> {
         (Ask::Read(1, 3), Told::Words(&[8])),
         (Ask::Clients, Told::Listed(&[0])),
     ];
-    let mut pair = Pair::new(rt.alloc(), SETTINGS)?;
-    pair.plays(&rt, rt.alloc(), &script)?;
-    Ok(())
+    plays(&rt, rt.alloc(), SETTINGS, &script)
 }

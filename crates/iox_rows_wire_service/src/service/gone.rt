@@ -1,7 +1,7 @@
 //! What waits of ports that are gone.
 use super::openers::fit;
 use super::starts::SETTINGS;
-use super::{Ask, Pair, Told};
+use super::{Ask, Told, plays};
 use iceoryx2_wire::Settings;
 use std::alloc::Global;
 use std::process::Abort;
@@ -34,16 +34,13 @@ fn then(
         (Ask::Servers, Told::Listed(&[])),
     ];
     let mut script = Vec::new(alloc);
-    for row in answers.iter().chain(rest.iter()) {
-        script.push(*row)?;
-    }
+    script.extend_from_slice(&answers)?;
+    script.extend_from_slice(rest)?;
     let settings = Settings {
         client_expired,
         ..SETTINGS
     };
-    let mut pair = Pair::new(alloc, settings)?;
-    pair.plays(rt, alloc, &script)?;
-    Ok(())
+    plays(rt, alloc, settings, &script)
 }
 
 #[test]
@@ -107,9 +104,7 @@ fn an_answer_of_a_dead_node_is_received_after_its_cleanup(rt: HostRuntime) -> Re
         (Ask::Read(0, 4), Told::Words(&[10])),
         (Ask::Receive(0, 2), Told::Nothing),
     ];
-    let mut pair = Pair::new(rt.alloc(), SETTINGS)?;
-    pair.plays(&rt, rt.alloc(), &script)?;
-    Ok(())
+    plays(&rt, rt.alloc(), SETTINGS, &script)
 }
 
 #[test]
@@ -127,7 +122,5 @@ fn a_request_of_a_client_that_is_gone_is_received(rt: HostRuntime) -> Result<(),
         (Ask::Connected(0, 3), Told::Answer(false)),
         (Ask::Receive(0, 1), Told::Nothing),
     ];
-    let mut pair = Pair::new(rt.alloc(), SETTINGS)?;
-    pair.plays(&rt, rt.alloc(), &script)?;
-    Ok(())
+    plays(&rt, rt.alloc(), SETTINGS, &script)
 }

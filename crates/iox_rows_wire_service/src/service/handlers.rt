@@ -1,7 +1,7 @@
 //! Messages for full receivers, of ports that have a handler. Nothing overflows: a client has one
 //! active request, and one response may wait.
 use super::starts::{DEFAULTS, SETTINGS, description, id, identity};
-use super::{TheReply, Told, tells};
+use super::{TheReply, Told, are};
 use iceoryx2_wire::{
     Always, BackpressureAction, BackpressureStrategy, Command, Elements, Many, Opener, PortCommand,
     PortOptions, Refusal, Service, Settings, UniqueNodeId,
@@ -41,13 +41,17 @@ fn full_at_one(alloc: Global) -> Result<Handled, Fail> {
 
 /// The options of a port with such a handler, or with none.
 fn options(full: Option<Full>) -> PortOptions<Always> {
+    let (strategy, handler) = match full {
+        Some((action, strategy)) => (Some(strategy), Some(Always { action })),
+        None => (None, None),
+    };
     PortOptions {
         max_slice_len: 1,
         pool: None,
-        strategy: full.map(|(_, strategy)| strategy),
+        strategy,
         allocation: None,
         loaned_responses: None,
-        handler: full.map(|(action, _)| Always { action }),
+        handler,
     }
 }
 
@@ -101,15 +105,28 @@ fn responses(alloc: Global, full: Full) -> Result<Vec<AtPort>, Fail> {
     Ok(asked)
 }
 
-/// The replies to a run of these commands.
-fn ran(alloc: Global, asked: Vec<AtPort>) -> Result<Vec<TheReply<'static>>, Fail> {
-    let mut commands: Vec<Command<Elements<u64, u64>, Always, &'static Opener>> = Vec::new(alloc);
+/// These as commands.
+fn commands(
+    alloc: Global,
+    asked: Vec<AtPort>,
+) -> Result<Vec<Command<Elements<u64, u64>, Always, &'static Opener>>, AllocError> {
+    let mut commands = Vec::new(alloc);
     for command in asked {
         commands.push(Command::Port(command))?;
     }
+    Ok(commands)
+}
+
+/// The replies to a run of these commands.
+fn ran(alloc: Global, asked: Vec<AtPort>) -> Result<Vec<TheReply<'static>>, Fail> {
+    let commands = commands(alloc, asked)?;
     let mut replies = Vec::new(alloc);
     full_at_one(alloc)?.run(alloc, commands, &mut replies)?;
     Ok(replies)
+}
+
+fn calls(service: &mut Handled, alloc: Global, command: AtPort) -> TheReply<'static> {
+    service.port(alloc, command)
 }
 
 /// The replies to these commands, one call after another.
@@ -117,17 +134,49 @@ fn called(alloc: Global, asked: Vec<AtPort>) -> Result<Vec<TheReply<'static>>, F
     let mut service = full_at_one(alloc)?;
     let mut replies = Vec::new(alloc);
     for command in asked {
-        replies.push(service.port(alloc, command))?;
+        replies.push(calls(&mut service, alloc, command))?;
     }
     Ok(replies)
 }
 
-/// Ends the test where replies are not the wanted ones.
-fn are(rt: &impl Abort, replies: &[TheReply<'_>], wanted: &[Told<'_>]) {
-    assert_eq!(rt; replies.len(), wanted.len());
-    for (reply, told) in replies.iter().zip(wanted.iter()) {
-        tells(rt, reply, told);
-    }
+/// A second request is told this.
+fn second_request(
+    rt: &impl Abort,
+    alloc: Global,
+    full: Full,
+    told: Told<'static>,
+) -> Result<(), Fail> {
+    let wanted = [
+        Told::Server(0),
+        Told::Client(1),
+        Told::Handle(2),
+        Told::Done,
+        Told::Handle(3),
+        told,
+    ];
+    are(rt, &ran(alloc, requests(alloc, full)?)?, &wanted);
+    are(rt, &called(alloc, requests(alloc, full)?)?, &wanted);
+    Ok(())
+}
+
+/// A second response is told this.
+fn second_response(
+    rt: &impl Abort,
+    alloc: Global,
+    full: Full,
+    told: Told<'static>,
+) -> Result<(), Fail> {
+    let wanted = [
+        Told::Server(0),
+        Told::Client(1),
+        Told::Handle(2),
+        Told::Handle(3),
+        Told::Done,
+        told,
+    ];
+    are(rt, &ran(alloc, responses(alloc, full)?)?, &wanted);
+    are(rt, &called(alloc, responses(alloc, full)?)?, &wanted);
+    Ok(())
 }
 
 /// A second request is told the one, and a second response the other.
@@ -138,28 +187,8 @@ fn full_receivers(
     request: Told<'static>,
     response: Told<'static>,
 ) -> Result<(), Fail> {
-    let begun = (Told::Server(0), Told::Client(1), Told::Handle(2));
-    let wanted = [
-        begun.0,
-        begun.1,
-        begun.2,
-        Told::Done,
-        Told::Handle(3),
-        request,
-    ];
-    are(rt, &ran(alloc, requests(alloc, full)?)?, &wanted);
-    are(rt, &called(alloc, requests(alloc, full)?)?, &wanted);
-    let wanted = [
-        begun.0,
-        begun.1,
-        begun.2,
-        Told::Handle(3),
-        Told::Done,
-        response,
-    ];
-    are(rt, &ran(alloc, responses(alloc, full)?)?, &wanted);
-    are(rt, &called(alloc, responses(alloc, full)?)?, &wanted);
-    Ok(())
+    second_request(rt, alloc, full, request)?;
+    second_response(rt, alloc, full, response)
 }
 
 #[test]

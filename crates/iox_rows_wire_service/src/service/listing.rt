@@ -1,8 +1,10 @@
 //! Ids of nodes and ports, told to a callback.
 use super::openers::fit;
-use super::starts::SETTINGS;
-use super::{Ask, Pair, TheService, Told};
+use super::starts::{SETTINGS, first};
+use super::{Ask, Row, TheService, Told, Way, goes_until};
+use crate::expected::equal;
 use iceoryx2_wire::{CallbackProgression, Settings, UniqueSystemId};
+use std::alloc::Global;
 use std::process::Abort;
 use std::test::Fail;
 
@@ -18,37 +20,69 @@ fn then(seen: Seen, id: UniqueSystemId) -> (Seen, CallbackProgression) {
     (seen, CallbackProgression::Stop)
 }
 
-/// Ids of nodes are told so, at most three.
-fn nodes(rt: &impl Abort, service: &TheService, wanted: Seen) {
+/// The last nodes whose ids are told, at most three.
+fn nodes(service: &TheService) -> Seen {
     let mut seen = [None; 3];
     service.list_node_ids(|id| {
         let (all, goes_on) = then(seen, id.system_id());
         seen = all;
         goes_on
     });
-    assert_eq!(rt; seen, wanted);
+    seen
 }
 
-/// Ids of clients are told so, at most three.
-fn clients(rt: &impl Abort, service: &TheService, wanted: Seen) {
+/// The last clients whose ids are told, at most three.
+fn clients(service: &TheService) -> Seen {
     let mut seen = [None; 3];
     service.list_client_ids(|id| {
         let (all, goes_on) = then(seen, id.system_id());
         seen = all;
         goes_on
     });
-    assert_eq!(rt; seen, wanted);
+    seen
 }
 
-/// Ids of servers are told so, at most three.
-fn servers(rt: &impl Abort, service: &TheService, wanted: Seen) {
+/// The last servers whose ids are told, at most three.
+fn servers(service: &TheService) -> Seen {
     let mut seen = [None; 3];
     service.list_server_ids(|id| {
         let (all, goes_on) = then(seen, id.system_id());
         seen = all;
         goes_on
     });
-    assert_eq!(rt; seen, wanted);
+    seen
+}
+
+/// What is told of nodes, clients and servers.
+type AllSeen = (Seen, Seen, Seen);
+
+/// Asks a new service in this way. Then it is open, and tells these ids.
+fn lists_in(
+    rt: &impl Abort,
+    alloc: Global,
+    settings: Settings,
+    way: Way,
+    script: &[Row<'_>],
+    wanted: AllSeen,
+) -> Result<(), Fail> {
+    let mut service = first(alloc, settings)?;
+    goes_until(rt, alloc, &mut service, way, script, false)?;
+    equal(rt, nodes(&service), wanted.0);
+    equal(rt, clients(&service), wanted.1);
+    equal(rt, servers(&service), wanted.2);
+    Ok(())
+}
+
+/// The same in each way.
+fn lists(
+    rt: &impl Abort,
+    alloc: Global,
+    settings: Settings,
+    script: &[Row<'_>],
+    wanted: AllSeen,
+) -> Result<(), Fail> {
+    lists_in(rt, alloc, settings, Way::Called, script, wanted)?;
+    lists_in(rt, alloc, settings, Way::Ran, script, wanted)
 }
 
 #[test]
@@ -62,17 +96,13 @@ fn ids_of_the_dead_are_told_too(rt: HostRuntime) -> Result<(), Fail> {
         (Ask::Open(30, &fits), Told::Node(2)),
         (Ask::Die(1), Told::Done),
     ];
-    let mut pair = Pair::new(rt.alloc(), SETTINGS)?;
-    pair.plays(&rt, rt.alloc(), &script)?;
     // A port has the process number of its node.
-    nodes(
-        &rt,
-        &pair.called,
+    let wanted = (
         [Some((1, 0)), Some((20, 0)), Some((30, 0))],
+        [None, Some((20, 0)), Some((1, 2))],
+        [None, None, Some((1, 1))],
     );
-    clients(&rt, &pair.called, [None, Some((20, 0)), Some((1, 2))]);
-    servers(&rt, &pair.called, [None, None, Some((1, 1))]);
-    Ok(())
+    lists(&rt, rt.alloc(), SETTINGS, &script, wanted)
 }
 
 #[test]
@@ -91,12 +121,13 @@ fn ids_are_told_until_the_callback_stops(rt: HostRuntime) -> Result<(), Fail> {
         (Ask::Client(0), Told::Client(3)),
         (Ask::Client(0), Told::Client(4)),
     ];
-    let mut pair = Pair::new(rt.alloc(), SETTINGS)?;
-    pair.plays(&rt, rt.alloc(), &script)?;
     // There are four nodes and four clients, and the third was the last that was told.
-    nodes(&rt, &pair.ran, [Some((1, 0)), Some((30, 0)), Some((40, 0))]);
-    clients(&rt, &pair.ran, [Some((1, 1)), Some((1, 2)), Some((1, 3))]);
-    Ok(())
+    let wanted = (
+        [Some((1, 0)), Some((30, 0)), Some((40, 0))],
+        [Some((1, 1)), Some((1, 2)), Some((1, 3))],
+        [None; 3],
+    );
+    lists(&rt, rt.alloc(), SETTINGS, &script, wanted)
 }
 
 #[test]
@@ -111,8 +142,10 @@ fn servers_are_told_until_the_callback_stops(rt: HostRuntime) -> Result<(), Fail
         servers: 4,
         ..SETTINGS
     };
-    let mut pair = Pair::new(rt.alloc(), many)?;
-    pair.plays(&rt, rt.alloc(), &script)?;
-    servers(&rt, &pair.ran, [Some((1, 0)), Some((1, 1)), Some((1, 2))]);
-    Ok(())
+    let wanted = (
+        [None, None, Some((1, 0))],
+        [None; 3],
+        [Some((1, 0)), Some((1, 1)), Some((1, 2))],
+    );
+    lists(&rt, rt.alloc(), many, &script, wanted)
 }

@@ -6,20 +6,30 @@ use iceoryx2_wire::{
 };
 use std::test::Fail;
 
+/// Requires a pair.
+fn require(verifier: &mut AttributeVerifier, key: &str, value: &str) -> Result<(), Fail> {
+    let (key, value) = (AttributeKey::new(key)?, AttributeValue::new(value)?);
+    verifier.try_require(&key, &value)?;
+    Ok(())
+}
+
+/// Requires a key.
+fn require_key(verifier: &mut AttributeVerifier, key: &str) -> Result<(), Fail> {
+    verifier.try_require_key(&AttributeKey::new(key)?)?;
+    Ok(())
+}
+
 /// An opener with the service's own types that requires these pairs and these keys.
 pub(super) fn requiring(pairs: &[(&str, &str)], keys: &[&str]) -> Result<Opener, Fail> {
+    let types = TheService::own_types()?;
     let mut verifier = AttributeVerifier::new();
     for (key, value) in pairs {
-        let (key, value) = (AttributeKey::new(key)?, AttributeValue::new(value)?);
-        verifier.try_require(&key, &value)?;
+        require(&mut verifier, key, value)?;
     }
     for key in keys {
-        verifier.try_require_key(&AttributeKey::new(key)?)?;
+        require_key(&mut verifier, key)?;
     }
-    Ok(Opener {
-        types: TheService::own_types()?,
-        verifier,
-    })
+    Ok(Opener { types, verifier })
 }
 
 /// An opener that fits: it requires nothing.

@@ -1,7 +1,7 @@
 //! Nodes that open a service, and those that may not.
 use super::openers::{fit, of_bytes, requiring};
 use super::starts::{SETTINGS, with_nodes};
-use super::{Ask, Pair, Told};
+use super::{Ask, Told, plays};
 use iceoryx2_wire::{AttributeKey, AttributeValue, AttributeVerificationError, Refusal};
 use std::test::Fail;
 
@@ -30,9 +30,7 @@ fn the_least_missing_pair_is_told(rt: HostRuntime) -> Result<(), Fail> {
         (Ask::Open(2, &opener), pair_missing(&a, &two)),
         (Ask::Nodes, Told::Listed(&[0])),
     ];
-    let mut pair = Pair::new(rt.alloc(), SETTINGS)?;
-    pair.plays(&rt, rt.alloc(), &script)?;
-    Ok(())
+    plays(&rt, rt.alloc(), SETTINGS, &script)
 }
 
 #[test]
@@ -46,9 +44,7 @@ fn a_missing_key_is_told_where_no_pair_is(rt: HostRuntime) -> Result<(), Fail> {
         (Ask::Open(2, &fits), Told::Node(1)),
         (Ask::Nodes, Told::Listed(&[0, 1])),
     ];
-    let mut pair = Pair::new(rt.alloc(), SETTINGS)?;
-    pair.plays(&rt, rt.alloc(), &script)?;
-    Ok(())
+    plays(&rt, rt.alloc(), SETTINGS, &script)
 }
 
 #[test]
@@ -83,9 +79,7 @@ fn the_first_test_that_fails_is_told(rt: HostRuntime) -> Result<(), Fail> {
             Told::Refused(Refusal::MarkedForDestruction),
         ),
     ];
-    let mut pair = Pair::new(rt.alloc(), with_nodes(1))?;
-    pair.plays(&rt, rt.alloc(), &script)?;
-    Ok(())
+    plays(&rt, rt.alloc(), with_nodes(1), &script)
 }
 
 #[test]
@@ -110,7 +104,5 @@ fn a_refused_open_leaves_nothing_behind(rt: HostRuntime) -> Result<(), Fail> {
         (Ask::Open(3, &fits), Told::Node(2)),
         (Ask::Nodes, Told::Listed(&[0, 2])),
     ];
-    let mut pair = Pair::new(rt.alloc(), with_nodes(2))?;
-    pair.plays(&rt, rt.alloc(), &script)?;
-    Ok(())
+    plays(&rt, rt.alloc(), with_nodes(2), &script)
 }

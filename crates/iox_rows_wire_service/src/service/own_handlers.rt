@@ -7,6 +7,7 @@ use iceoryx2_wire::{
     PortCommand, PortOptions, Refusal, Service, Settings, UniqueNodeId, Words,
 };
 use std::alloc::{AllocError, Global};
+use std::process::Abort;
 use std::test::Fail;
 
 /// It fails at this server, and passes over each other.
@@ -135,31 +136,38 @@ fn asked(alloc: Global, server: u64) -> Result<Vec<AtPort>, Fail> {
     Ok(asked)
 }
 
+fn calls(service: &mut Handled, alloc: Global, command: AtPort) -> TheReply<'static> {
+    service.port(alloc, command)
+}
+
 /// The reply to the last of these commands.
 fn last_reply(alloc: Global, asked: Vec<AtPort>) -> Result<TheReply<'static>, Fail> {
     let mut service = full_at_one(alloc)?;
     let mut last = None;
     for command in asked {
-        last = Some(service.port(alloc, command));
+        last = Some(calls(&mut service, alloc, command));
     }
-    let Some(reply) = last else {
-        return Err(Fail::from(AllocError));
-    };
-    Ok(reply)
+    match last {
+        Some(reply) => Ok(reply),
+        None => Err(Fail::from(AllocError)),
+    }
+}
+
+/// Ends the test where another reply comes of a handler that fails at the server of that number.
+fn is_told(rt: &impl Abort, alloc: Global, server: u64, wanted: Told<'_>) -> Result<(), Fail> {
+    let reply = last_reply(alloc, asked(alloc, server)?)?;
+    tells(rt, &reply, &wanted);
+    Ok(())
 }
 
 #[test]
 fn a_handler_that_fails_at_the_second_of_two_full_servers_refuses(
     rt: HostRuntime,
 ) -> Result<(), Fail> {
-    let reply = last_reply(rt.alloc(), asked(rt.alloc(), 1)?)?;
-    tells(&rt, &reply, &Told::Refused(Refusal::UnableToDeliver));
-    Ok(())
+    is_told(&rt, rt.alloc(), 1, Told::Refused(Refusal::UnableToDeliver))
 }
 
 #[test]
 fn a_handler_that_fails_at_another_server_passes_over_both(rt: HostRuntime) -> Result<(), Fail> {
-    let reply = last_reply(rt.alloc(), asked(rt.alloc(), 2)?)?;
-    tells(&rt, &reply, &Told::Sent(0));
-    Ok(())
+    is_told(&rt, rt.alloc(), 2, Told::Sent(0))
 }

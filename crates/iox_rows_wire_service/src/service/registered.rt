@@ -1,13 +1,21 @@
 //! Which nodes are registered with a service.
+use super::asking::nodes;
 use super::openers::{fit, of_bytes};
 use super::opening::{pair, pair_missing};
-use super::starts::with_nodes;
-use super::{Ask, Pair, TheService, Told};
+use super::starts::{first, with_nodes};
+use super::{Ask, Row, TheService, Told, Way, goes};
+use crate::expected::equal;
 use iceoryx2_wire::{CallbackProgression, Refusal};
 use std::alloc::{AllocError, Global};
 use std::process::Abort;
 use std::slice::from_ref;
 use std::test::Fail;
+
+/// How many nodes are registered, and whether the register is locked.
+fn seen(service: &TheService) -> (usize, bool) {
+    let registered = service.dynamic_config();
+    (registered.number_of_nodes(), registered.is_locked())
+}
 
 /// As many nodes are registered as are listed, and the register is locked if the service is closed.
 pub(super) fn as_many_as_listed(
@@ -15,12 +23,8 @@ pub(super) fn as_many_as_listed(
     alloc: Global,
     service: &TheService,
 ) -> Result<(), AllocError> {
-    let registered = service.dynamic_config();
-    assert_eq!(rt;
-        registered.number_of_nodes(),
-        service.list_nodes(alloc)?.len()
-    );
-    assert_eq!(rt; registered.is_locked(), service.is_closed());
+    let listed = nodes(service, alloc)?.len();
+    equal(rt, seen(service), (listed, service.is_closed()));
     Ok(())
 }
 
@@ -36,30 +40,52 @@ fn times(service: &TheService, process: u32) -> u32 {
     times
 }
 
-/// The ids N 0 0 0 of these are registered, each once, and no others.
-fn registered(rt: &impl Abort, service: &TheService, wanted: &[u32]) {
-    assert_eq!(rt; service.dynamic_config().number_of_nodes(), wanted.len());
+/// The ids N 0 0 0 of these are registered, each once, and no others. The register is locked where
+/// there are none.
+fn are_registered(rt: &impl Abort, service: &TheService, wanted: &[u32]) {
+    equal(rt, seen(service), (wanted.len(), wanted.is_empty()));
     for process in wanted {
-        assert_eq!(rt; (*process, times(service, *process)), (*process, 1));
+        equal(rt, (*process, times(service, *process)), (*process, 1));
     }
 }
 
-/// Asks two services of so many nodes at most, one after another. Each answer is the wanted one, and
-/// then these are registered with both.
-fn plays(
+/// What is asked and told, and who is registered then.
+type Registers<'a> = (Row<'a>, &'a [u32]);
+
+/// Asks a service in this way one after another. Each answer is the wanted one, and then these are
+/// registered.
+fn goes_on(
+    rt: &impl Abort,
+    alloc: Global,
+    service: &mut TheService,
+    way: Way,
+    script: &[Registers<'_>],
+) -> Result<(), AllocError> {
+    are_registered(rt, service, &[1]);
+    for (row, wanted) in script {
+        goes(rt, alloc, service, way, from_ref(row))?;
+        are_registered(rt, service, wanted);
+    }
+    Ok(())
+}
+
+/// The same of a new service of so many nodes at most.
+fn plays_in(
     rt: &impl Abort,
     alloc: Global,
     nodes: u64,
-    script: &[((Ask<'_>, Told<'_>), &[u32])],
+    way: Way,
+    script: &[Registers<'_>],
 ) -> Result<(), Fail> {
-    let mut pair = Pair::new(alloc, with_nodes(nodes))?;
-    registered(rt, &pair.called, &[1]);
-    for (row, wanted) in script {
-        pair.plays(rt, alloc, from_ref(row))?;
-        registered(rt, &pair.called, wanted);
-        registered(rt, &pair.ran, wanted);
-    }
+    let mut service = first(alloc, with_nodes(nodes))?;
+    goes_on(rt, alloc, &mut service, way, script)?;
     Ok(())
+}
+
+/// The same in each way.
+fn plays(rt: &impl Abort, alloc: Global, nodes: u64, script: &[Registers<'_>]) -> Result<(), Fail> {
+    plays_in(rt, alloc, nodes, Way::Called, script)?;
+    plays_in(rt, alloc, nodes, Way::Ran, script)
 }
 
 #[test]
@@ -74,7 +100,7 @@ fn a_refused_open_registers_nobody(rt: HostRuntime) -> Result<(), Fail> {
     let closed = Told::Refused(Refusal::MarkedForDestruction);
     let invalid = Told::Refused(Refusal::InvalidNodeId);
     let used = Told::Refused(Refusal::NodeIdInUse);
-    let script: [((Ask<'_>, Told<'_>), &[u32]); 10] = [
+    let script: [Registers<'_>; 10] = [
         ((Ask::Open(0, &fits), invalid), &[1]),
         ((Ask::Open(1, &fits), used), &[1]),
         ((Ask::Open(2, &both), requests), &[1]),
@@ -92,7 +118,7 @@ fn a_refused_open_registers_nobody(rt: HostRuntime) -> Result<(), Fail> {
 #[test]
 fn who_leaves_or_is_cleaned_up_is_deregistered(rt: HostRuntime) -> Result<(), Fail> {
     let fits = fit()?;
-    let script: [((Ask<'_>, Told<'_>), &[u32]); 8] = [
+    let script: [Registers<'_>; 8] = [
         ((Ask::Open(2, &fits), Told::Node(1)), &[1, 2]),
         ((Ask::Open(3, &fits), Told::Node(2)), &[1, 2, 3]),
         ((Ask::Open(4, &fits), Told::Node(3)), &[1, 2, 3, 4]),
@@ -110,7 +136,7 @@ fn who_leaves_or_is_cleaned_up_is_deregistered(rt: HostRuntime) -> Result<(), Fa
 #[test]
 fn ids_that_differ_in_one_half_are_deregistered_alone(rt: HostRuntime) -> Result<(), Fail> {
     let fits = fit()?;
-    let script: [((Ask<'_>, Told<'_>), &[u32]); 3] = [
+    let script: [Registers<'_>; 3] = [
         ((Ask::Open(2, &fits), Told::Node(1)), &[1, 2]),
         ((Ask::Die(1), Told::Done), &[1, 2]),
         ((Ask::Cleanup(1), Told::Done), &[1]),
@@ -124,7 +150,7 @@ fn the_last_that_goes_locks_the_register(rt: HostRuntime) -> Result<(), Fail> {
     let fits = fit()?;
     let full = Told::Refused(Refusal::ExceedsMaxNumberOfNodes);
     let closed = Told::Refused(Refusal::MarkedForDestruction);
-    let script: [((Ask<'_>, Told<'_>), &[u32]); 4] = [
+    let script: [Registers<'_>; 4] = [
         ((Ask::Open(2, &fits), full), &[1]),
         ((Ask::Die(0), Told::Done), &[1]),
         ((Ask::Cleanup(0), Told::Done), &[]),

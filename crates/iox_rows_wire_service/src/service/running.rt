@@ -1,12 +1,12 @@
 //! Runs of no command, of one, and of one after another.
+use super::asking::TheCommand;
 use super::openers::fit;
 use super::starts::{SETTINGS, first, id};
-use super::{TheReply, TheService, Told, lent, tells};
-use iceoryx2_wire::{Command, Elements, Opener, Reply};
+use super::{TheReply, TheService, Told, are, tells};
+use iceoryx2_wire::{Command, Opener, Reply};
 use std::alloc::{AllocError, Global};
+use std::process::Abort;
 use std::test::Fail;
-
-type TheCommand<'a> = Command<Elements<u64, u64>, (), &'a Opener>;
 
 /// A node opens the service, and all are listed.
 fn opening(alloc: Global, opener: &Opener) -> Result<Vec<TheCommand<'_>>, AllocError> {
@@ -35,26 +35,33 @@ fn two<'a>(
 }
 
 /// The replies to three lists, of which the first is empty, behind a reply that was there.
-fn ran<'a>(
+fn three<'a>(
     alloc: Global,
     service: &mut TheService,
     opener: &'a Opener,
 ) -> Result<Vec<TheReply<'a>>, AllocError> {
-    let nothing: Vec<TheCommand<'a>> = Vec::new(alloc);
-    let opens = opening(alloc, opener)?;
-    let leaves = leaving(alloc)?;
     let mut replies: Vec<TheReply<'a>> = vec![in alloc; Reply::Nothing]?;
-    service.run(alloc, nothing, &mut replies)?;
-    service.run(alloc, opens, &mut replies)?;
-    service.run(alloc, leaves, &mut replies)?;
+    runs(service, alloc, Vec::new(alloc), &mut replies)?;
+    runs(service, alloc, opening(alloc, opener)?, &mut replies)?;
+    runs(service, alloc, leaving(alloc)?, &mut replies)?;
     Ok(replies)
+}
+
+/// Runs these commands.
+fn runs<'a>(
+    service: &mut TheService,
+    alloc: Global,
+    commands: Vec<TheCommand<'a>>,
+    replies: &mut Vec<TheReply<'a>>,
+) -> Result<(), AllocError> {
+    service.run(alloc, commands, replies)
 }
 
 #[test]
 fn replies_stand_behind_those_of_earlier_runs(rt: HostRuntime) -> Result<(), Fail> {
-    let (alloc, fits) = (rt.alloc(), fit()?);
-    let mut service = first(alloc, SETTINGS)?;
-    let replies = ran(alloc, &mut service, &fits)?;
+    let fits = fit()?;
+    let mut service = first(rt.alloc(), SETTINGS)?;
+    let replies = three(rt.alloc(), &mut service, &fits)?;
     let told = [
         Told::Nothing,
         Told::Node(1),
@@ -62,10 +69,20 @@ fn replies_stand_behind_those_of_earlier_runs(rt: HostRuntime) -> Result<(), Fai
         Told::Done,
         Told::Listed(&[1]),
     ];
-    assert_eq!(rt; replies.len(), told.len());
-    for (reply, wanted) in replies.iter().zip(told.iter()) {
-        tells(&rt, reply, wanted);
-    }
+    are(&rt, &replies, &told);
+    Ok(())
+}
+
+/// Ends the test where there is no memory for a command, or the reply is not the wanted one.
+fn tries(
+    rt: &impl Abort,
+    alloc: Global,
+    service: &mut TheService,
+    command: TheCommand<'_>,
+    wanted: Told<'_>,
+) -> Result<(), AllocError> {
+    let reply = service.try_serve(alloc, command)?;
+    tells(rt, &reply, &wanted);
     Ok(())
 }
 
@@ -77,10 +94,8 @@ fn a_command_is_answered_where_memory_is_there(rt: HostRuntime) -> Result<(), Fa
         id: id(2),
         asked: &fits,
     };
-    let reply = service.try_serve(alloc, opens)?;
-    assert_eq!(rt; lent(&reply), Told::Node(1));
-    let lists: TheCommand<'_> = Command::ListNodes;
-    let reply = service.try_serve(alloc, lists)?;
-    assert_eq!(rt; lent(&reply), Told::Listed(&[0, 1]));
+    tries(&rt, alloc, &mut service, opens, Told::Node(1))?;
+    let lists = Command::ListNodes;
+    tries(&rt, alloc, &mut service, lists, Told::Listed(&[0, 1]))?;
     Ok(())
 }

@@ -87,8 +87,19 @@ pub(super) fn new(
     )
 }
 
-/// A service whose first node has the id 1 0 0 0.
+/// A service with this description, whose first node has the id 1 0 0 0.
+pub(super) fn described(
+    alloc: Global,
+    settings: Settings,
+    description: ServiceDescription,
+) -> Result<TheService, Fail> {
+    match new(alloc, settings, identity()?, description, id(1)) {
+        Ok(service) => Ok(service),
+        Err(_) => Err(Fail::new("refused")),
+    }
+}
+
+/// The same with the service's own types, and the attributes (a, 1) and (b, 2).
 pub(super) fn first(alloc: Global, settings: Settings) -> Result<TheService, Fail> {
-    let service = new(alloc, settings, identity()?, description()?, id(1))?;
-    Ok(service)
+    described(alloc, settings, description()?)
 }
