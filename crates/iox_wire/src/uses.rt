@@ -221,7 +221,7 @@ pub fn words_of_a_finished_read(wire: &Wire, place: usize) -> Option<&[u64]>
     }
 }
 
-/// The handle that a finished loan, receive or copy told, and no other call.
+/// The handle that a finished call told. The machine replies it there, and nothing else is told.
 pub fn finished_handle(wire: &Wire, place: usize) -> Option<u64>
     ensures told { (f : Finished) → (number : ℕ) → slice_get wire.now.replies place ≡ Some f
         → f.reply ≡ replies.Handle number → result ≡ Some number }
