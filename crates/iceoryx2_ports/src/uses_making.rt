@@ -10,7 +10,8 @@ use crate::{
 };
 use std::alloc::Global;
 
-/// A client is made whose requests have room for 128 elements, and grow past that.
+/// A client is made whose requests have room for 128 elements, and are to grow past that. It tells
+/// the 128.
 pub fn makes_a_client_for_128(
     hub: &mut Hub<Many<u64>, (), One<u64>, ()>,
     alloc: Global,

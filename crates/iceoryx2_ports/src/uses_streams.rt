@@ -158,7 +158,7 @@ pub fn puts_456_and_answers(
 }
 
 /// A server answers what waits with 871238, one request after the other, at most so many, and stops
-/// where none is left. It still has what it had.
+/// where none is left. Nothing is concluded but that the hub's state can be reached.
 pub fn serves_what_waits(
     server: &Server<One<u64>, (), One<u64>, ()>,
     hub: &mut Hub<One<u64>, (), One<u64>, ()>,
