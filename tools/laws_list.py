@@ -5,7 +5,7 @@
     tools/laws_list.py --check    says whether it is as it would be written; exit 1 if not
 
 A law is a public function whose body is empty, in a crate's src/lib.rt or in a module of a crate of laws: it is there for
-its contract. The sentence of a clause is the comment above its definition in specs/. Where the clause says something of one
+its contract. A law of any hub is lent one, and its body asks only whether that is in order, which a hub always is. The sentence of a clause is the comment above its definition in specs/. Where the clause says something of one
 worked run, as `IsWorked expires_one`, it is the comment above that run. Else it is the function's own.
 """
 import pathlib
@@ -19,9 +19,9 @@ HEAD = """# The laws, clause by clause
 Written by `tools/laws_list.py` from the crates. Each row is a clause of a public function that does nothing and is there
 for its contract; the gate proves it. The definition that a clause names stands in the crate's `specs/`.
 """
-LAW = re.compile(r"((?:^///.*\n)+)(?:^#\[.*\n)*^pub fn (\w+)\([^)]*\)\n((?:^    .*\n|^\n)*?)^\{\}", re.M)
+LAW = re.compile(r"((?:^///.*\n)+)(?:^#\[.*\n)*^pub fn (\w+)(?:<[^(]*>)?\([^)]*\)\n((?:^    .*\n|^\n)*?)^\{(?:\}|\n    hub\.is_in_order\(\);\n\})", re.M)
 CLAUSE = re.compile(r"ensures (?:(\w+) )?\{ (.*?) \}\s*(?=ensures|$)", re.S)
-DEFINED = re.compile(r"((?:^-- .*\n)*)^abbrev pub (\S+)", re.M)
+DEFINED = re.compile(r"((?:^-- .*\n)*)^(?:abbrev pub|pub record|pub data) (\S+)", re.M)
 
 
 def joined(comment, mark):
@@ -45,13 +45,16 @@ def as_sentence(text):
 
 def rows_of(source, specs):
     """The laws of a file as rows: function, clause, what it says."""
-    said, rows = definitions(specs), []
-    for comment, name, clauses in LAW.findall(source.read_text()):
+    said, rows, code = definitions(specs), [], source.read_text()
+    for crate, names in re.findall(r"(?m)^ghost use Rattle\.(\w+)\.specs\.[\w.]+\.\{([^}]*)\};", code):
+        there = {} if TOP / "crates" / crate in specs.parents else definitions(TOP / "crates" / crate / "specs")
+        said.update({it: there[it] for it in names.split(", ") if it in there and it not in said})
+    for comment, name, clauses in LAW.findall(code):
         own = joined(comment, "///")
         for clause, text in CLAUSE.findall(clauses):
             text = " ".join(text.split())
             of_run = re.fullmatch(r"IsWorked (\w+)", text)
-            told = said.get(of_run[1] if of_run else text)
+            told = said.get(of_run[1] if of_run else text.removesuffix(" hub.now"))
             says = as_sentence(told) if told else own
             shown = f"`{clause}`: " if clause else ""
             rows.append(f"| `{name}` | {shown}`{text}` | {says} |")
@@ -64,6 +67,9 @@ def sources(crate):
     text = root.read_text() if root.exists() else ""
     if "each is there for its contract" in text:
         yield root, crate.name, crate / "specs"
+    for file in sorted((crate / "src").glob("*.rt")) if root.exists() else ():
+        if file != root and "each is there for its contract" in file.read_text() and "Each module is there for" not in text:
+            yield file, f"{crate.name}::{file.stem}", crate / "specs"
     if "Each module is there for" in text:
         order = re.findall(r"^pub mod (\w+)", (crate / "specs" / "Lib.antt").read_text(), re.M)
         for module in sorted(re.findall(r"(?m)^pub mod (\w+);", text), key=lambda it: order.index(camel(it))):

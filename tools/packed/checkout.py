@@ -38,6 +38,14 @@ def times(folder, parts):
     return [os.lstat(it).st_mtime for it in files]
 
 
+def named_in(page):
+    """Returns the files of the edits that the page names, between two * each. The first round has an edit of each function, so they come early."""
+    if not os.path.isfile(page):
+        return set()
+    with open(page, encoding="utf-8") as it:
+        return {f"{name.replace(' ', '_')}.edit" for name in re.findall(r"\*([^*\n]+)\*", it.read())}
+
+
 class Checkout:
     """A copy of the checkout in which all is tried, so that nothing is written in the checkout itself."""
 
@@ -51,13 +59,14 @@ class Checkout:
         shutil.copytree(f"{root}/crates", f"{top}/crates", ignore=leaves_out)
         shutil.copy(f"{root}/crates.txt", top)
         self.crates = {it.name: it for it in kit.rt.rtlib.crates_below(top)}
+        self.named = named_in(f"{root}/docs/WRONG_BODIES.md")
         # The crates that rt ci has just proved, where all libraries that are wanted are of it.
         self.of_ci = self.made_by_ci()
 
     def edits_of(self, name):
-        """Returns the crate's edits, and the files that are none."""
+        """Returns the crate's edits, those first that the page of wrong bodies names, and the files that are none."""
         at = f"{self.crates[name].folder}/{self.folder}"
-        files = sorted(os.listdir(at)) if os.path.isdir(at) else []
+        files = sorted(os.listdir(at), key=lambda it: (it not in self.named, it)) if os.path.isdir(at) else []
         good = [it for it in files if NAME.fullmatch(it)]
         return [Edit(f"{at}/{it}") for it in good], [it for it in files if it not in good and not it.endswith(".md")]
 

@@ -1,4 +1,4 @@
--- Writes and receives send nothing, so nothing comes where nothing waited.
+-- Writes, receives and hints send nothing, so nothing comes where nothing waited.
 use Rattle.std.specs.Prelude.{ℕ, refl}
 use Rattle.iox_model.specs.declared.call.Call.TheVariants.{Receive, Release, Write}
 use Rattle.iox_model.specs.Commands.{Payload, Reply}

@@ -39,7 +39,7 @@ use Rattle.iox_hub_laws.proofs.Named.{found_is_handle}
 use Rattle.iox_hub_laws.specs.Shown.{handle_of, shown}
 use Rattle.iox_hub_laws.specs.Waiting.{NothingWaits}
 use Rattle.iceoryx2_ports.specs.Idling.{IsIdle, IsIdleBut}
-use Rattle.iceoryx2_ports.specs.Reaching.{HasRoom}
+use Rattle.iceoryx2_ports.specs.Reaching.{HasRoomForEach}
 use Rattle.iceoryx2_ports.specs.Rooms.{HasRoomBut}
 use Rattle.iceoryx2_ports.proofs.Coming.{release_brings_nothing}
 use Rattle.iceoryx2_ports.proofs.Idle.{empty_room, may_have_one}
@@ -184,7 +184,7 @@ release_idles old new hub after node n whole x idle =
 
 -- Who had room but for that handle has room.
 pub release_gives_room : (old new : HubState) → IsHub old → IsHub new → (node n : ℕ)
-    → ((x : Given) → IsWholeCall (state_of_hub x old) node (Release n) replies.Done (state_of_hub x new)) → (x : Receiver) → HasRoomBut old x node n → HasRoom new x
+    → ((x : Given) → IsWholeCall (state_of_hub x old) node (Release n) replies.Done (state_of_hub x new)) → (x : Receiver) → HasRoomBut old x node n → HasRoomForEach new x
 release_gives_room old new hub after node n whole x room = record {
   buffers = λ sender there. buffers old new after node n replies.Done whole (way_to x sender) there (room.buffers sender);
   borrows = may_have old new hub after node n whole x room.handle room.there room.borrows;

@@ -47,7 +47,7 @@ use Rattle.iox_hub_laws.specs.Shown.{shown}
 use Rattle.iox_hub_laws.proofs.OfHubs.{hub_keeps_few_gone}
 use Rattle.iceoryx2_ports.specs.Idling.{IsIdle}
 use Rattle.iceoryx2_ports.specs.LoanLimits.{LendsNone}
-use Rattle.iceoryx2_ports.specs.Reaching.{HasRoom, KeepsRoom}
+use Rattle.iceoryx2_ports.specs.Reaching.{HasRoomForEach, KeepsRoom}
 
 -- ---- limits
 
@@ -217,7 +217,7 @@ module _ (old new : HubState) (hub : IsHub old) (node : ℕ) (role : Role) (id :
   made_or (Some r) c = inl (ap is_refused c.0, c.1)
   made_or None c = inr c
 
-  made : ((is_refused reply ≡ true) × (shown new ≡ s)) ⊎ IsMade
+  pub made : ((is_refused reply ≡ true) × (shown new ≡ s)) ⊎ IsMade
   made =
       let c = whole (nothing_given old) in
       made_or (making_refusal s.fixed role o c.0) c.1
@@ -234,7 +234,7 @@ module _ (old new : HubState) (hub : IsHub old) (node : ℕ) (role : Role) (id :
 
   -- ---- the new number
 
-  away : is_there t.ports t.next_number ≡ false
+  pub away : is_there t.ports t.next_number ≡ false
   away =
       by_cases (is_there t.ports t.next_number)
       (λ there.
@@ -311,7 +311,7 @@ module _ (old new : HubState) (hub : IsHub old) (node : ℕ) (role : Role) (id :
   same_role_at k e = ap (λ (q : Option m.Port). option_map_or (λ (r : m.Port). r.role) q Client) (found_still s.fixed.ports p k e)
 
   -- who had room has it in the new state
-  room_in : (x : Receiver) → HasRoom old x → (sender : ℕ)
+  room_in : (x : Receiver) → HasRoomForEach old x → (sender : ℕ)
       → (is_connected_port u.fixed sender ≡ true → is_full u (way_to x sender) ≡ false) × (is_at_limit u.fixed (way_to x sender) ≡ false)
   room_in x room sender = (buffers (t.next_number == sender) refl, borrows (t.next_number == x.port) refl)
     where
@@ -326,7 +326,7 @@ module _ (old new : HubState) (hub : IsHub old) (node : ℕ) (role : Role) (id :
           ap (λ (r : Role). nat_le (borrow_limit_of s.fixed.limits (other_role r)) (s.fixed.borrowed (way_to x sender))) (same_role_at x.port e) ∙ room.borrows sender
 
   pub making_keeps_room : KeepsRoom old new
-  making_keeps_room x room = elim made as (λ q. HasRoom new x) [
+  making_keeps_room x room = elim made as (λ q. HasRoomForEach new x) [
     | inl c ↦ record {
       buffers = λ sender there.
           ap (λ (v : m.State). is_full v (way_to x sender)) c.1 ∙ room.buffers sender (sym (ap (λ (v : m.State). is_connected_port v.fixed sender) c.1) ∙ there);

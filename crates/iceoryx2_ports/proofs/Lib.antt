@@ -34,7 +34,11 @@ pub mod Sparing
 pub mod Unreleased
 pub mod SentOpen
 pub mod Unclosed
+pub mod Hinting
+pub mod Making
 pub mod CopyAsked
 pub mod ChosenPools
 pub mod Senders
 pub mod MadeAs
+pub mod InTurn
+pub mod FilledLoans

@@ -211,7 +211,7 @@ module _ (node n : ℕ) where
         either (λ (ks : List Handle). of_number m ks ≡ of_number m (f.handles a)) (a == h.node) hs (f.handles a)
         (λ e. same e ∙ ap (λ (b : ℕ). of_number m (f.handles b)) (sym (eqb-true a h.node e))) (λ e. refl)
 
-    changed_there : (f : Fixed) (h : Handle) → IsAt node n h → SameThere f (changed f h)
+    pub changed_there : (f : Fixed) (h : Handle) → IsAt node n h → SameThere f (changed f h)
     changed_there f h at = put_there f h (with_handle h (f.handles h.node)) (λ e. replaced h m (other_than h at e) (f.handles h.node))
 
     dropped_there : (f : Fixed) (h : Handle) → IsAt node n h → SameThere f (dropped f h)

@@ -56,16 +56,18 @@ use Rattle.iceoryx2_ports.proofs.Sent.{sent_has}
 
 -- ---- room
 
+pub room_stays : (old new : HubState) → RestsSo (shown old) (shown new) → KeepsRoom old new
+room_stays old new r x room = record {
+  buffers = λ sender there.
+      room_rests (shown old) (shown new) r (way_to x sender)
+      ∙ room.buffers sender (sym (ap (λ (ps : List m.Port). list_any (λ (p : m.Port). p.number == sender) ps) r.fixed.ports) ∙ there);
+  borrows = λ sender. limit_rests (shown old).fixed (shown new).fixed r.fixed (way_to x sender) ∙ room.borrows sender;
+}
+
 pub keeps_room : (old new : HubState) (node : ℕ) (call : Call) (reply : Reply) → rests call ≡ true
     → ((x : Given) → IsWholeCall (state_of_hub x old) node call reply (state_of_hub x new)) → KeepsRoom old new
-keeps_room old new node call reply e whole x room =
-    let r : RestsSo (shown old) (shown new) = whole_rests (shown old) (shown new) node call reply e (whole (nothing_given old)) in
-    record {
-      buffers = λ sender there.
-          room_rests (shown old) (shown new) r (way_to x sender)
-          ∙ room.buffers sender (sym (ap (λ (ps : List m.Port). list_any (λ (p : m.Port). p.number == sender) ps) r.fixed.ports) ∙ there);
-      borrows = λ sender. limit_rests (shown old).fixed (shown new).fixed r.fixed (way_to x sender) ∙ room.borrows sender;
-    }
+keeps_room old new node call reply e whole =
+    room_stays old new (whole_rests (shown old) (shown new) node call reply e (whole (nothing_given old)))
 
 pub loan_keeps_room : (old new : HubState) (node : ℕ) (uninit : Bool) (n k : ℕ) (reply : Reply)
     → ((x : Given) → IsWholeCall (state_of_hub x old) node (loan_call uninit n k) reply (state_of_hub x new)) → KeepsRoom old new

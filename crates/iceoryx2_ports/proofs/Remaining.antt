@@ -42,7 +42,7 @@ module _ (old new : HubState) (stay : KeepsOpen old new) where
   t = old.control.tables
 
   -- the handles of active requests are there still
-  by_handles : ((a i : ℕ) (g : Handle) → HasValue old a i ActiveRequest → handle_at (shown old).fixed a i ≡ Some g → handle_at (shown new).fixed a i ≡ Some g)
+  pub by_handles : ((a i : ℕ) (g : Handle) → HasValue old a i ActiveRequest → handle_at (shown old).fixed a i ≡ Some g → handle_at (shown new).fixed a i ≡ Some g)
       → KeepsRequests old new
   by_handles still = record {
     opened = stay;

@@ -42,7 +42,7 @@ use Rattle.iox_hub_laws.specs.Shown.{handle_of, shown}
 use Rattle.iox_hub_laws.specs.Waiting.{WaitedFor, WaitedForPending, client_in, client_of, server_of}
 use Rattle.iox_hub_laws.proofs.Values.{IsHandleOf, value_is_handle}
 use Rattle.iox_hub_laws.specs.Received.{Received}
-use Rattle.iceoryx2_ports.specs.Reaching.{HasRoom, SomeCanCome}
+use Rattle.iceoryx2_ports.specs.Reaching.{HasRoomForEach, SomeCanCome}
 use Rattle.iceoryx2_ports.specs.Responses.{ReachesAsker, asker_in, asker_of, is_open}
 use Rattle.iceoryx2_ports.proofs.Gathering.{Gathers, at_gathers, by_gathers, ended_gathers}
 use Rattle.iceoryx2_ports.proofs.Reaching.{comes_to_wait}
@@ -127,7 +127,7 @@ module _ (old new : HubState) (node n : ℕ) (a : HandleState) (there : handle_i
   on : is_awaited (shown old) g ≡ true → IsSentOn (w ∷ []) (shown old) message (shown new)
   on awaited = subst (λ (b : Bool). IsSentOn (if b then w ∷ [] else []) (shown old) message (shown new)) awaited sent
 
-  reached : is_awaited (shown old) g ≡ true → HasRoom old x → SomeCanCome new x
+  reached : is_awaited (shown old) g ≡ true → HasRoomForEach old x → SomeCanCome new x
   reached awaited room = (
     a.port,
     message,
@@ -143,7 +143,7 @@ module _ (old new : HubState) (node n : ℕ) (a : HandleState) (there : handle_i
   pub reaches_asker : ReachesAsker old node n new
   reaches_asker connected room =
       subst (SomeCanCome new) (sym asks)
-      (reached (awaited_are_named (given_by (nothing_given old) old) t a ∙ sym open_is ∙ connected) (subst (HasRoom old) asks room))
+      (reached (awaited_are_named (given_by (nothing_given old) old) t a ∙ sym open_is ∙ connected) (subst (HasRoomForEach old) asks room))
 
 -- of a copy
 pub copy_reaches_asker : (old new : HubState) → IsHub old → (node n k : ℕ) (words : List ℕ) → HasValue old node n ActiveRequest

@@ -11,7 +11,7 @@ use Rattle.iox_tables.specs.HubStates.Wirings.{handle_in}
 use Rattle.iox_hub_laws.specs.Hubs.{HasValue, HubState}
 use Rattle.iox_hub_laws.specs.Shown.{handle_of, shown}
 use Rattle.iox_hub_laws.specs.Waiting.{NothingWaits, has_its_most}
-use Rattle.iceoryx2_ports.specs.Reaching.{HasRoom}
+use Rattle.iceoryx2_ports.specs.Reaching.{HasRoomForEach}
 
 -- the client of that number, for its request of that id on that lane
 abbrev pub client_on : ℕ → ℕ → ℕ → Receiver
@@ -21,7 +21,7 @@ client_on n lane request =
 -- Nothing waits for the receiver, and it has room.
 pub record IsIdle (h : HubState) (x : Receiver) : Type 0 where
   pub none : NothingWaits h x
-  pub room : HasRoom h x
+  pub room : HasRoomForEach h x
 
 -- At most one message waits for the receiver, and it may have one more of each sender.
 pub record AwaitsOne (h : HubState) (x : Receiver) : Type 0 where

@@ -14,7 +14,7 @@ use Rattle.iox_hub_laws.specs.Waiting.{CanCome, has_its_most, server_of}
 
 -- The receiver has room for one more message of each connected sender: fewer wait than its buffer
 -- holds, and it may have one more.
-pub record HasRoom (h : HubState) (x : Receiver) : Type 0 where
+pub record HasRoomForEach (h : HubState) (x : Receiver) : Type 0 where
   pub buffers :
       (sender : ℕ) → is_connected_port (shown h).fixed sender ≡ true
       → is_full (shown h) (way_to x sender) ≡ false
@@ -22,7 +22,7 @@ pub record HasRoom (h : HubState) (x : Receiver) : Type 0 where
 
 -- Each receiver that had room still has it.
 abbrev pub KeepsRoom : HubState → HubState → Type 0
-KeepsRoom old new = (x : Receiver) → HasRoom old x → HasRoom new x
+KeepsRoom old new = (x : Receiver) → HasRoomForEach old x → HasRoomForEach new x
 
 -- some message can be received
 abbrev pub SomeCanCome : HubState → Receiver → Type 0
@@ -31,7 +31,7 @@ SomeCanCome h x = (sender : ℕ) × (m : Message) × CanCome h x sender m
 -- For each server that had room there is a message that it can receive.
 abbrev pub ReachesServers : HubState → HubState → Type 0
 ReachesServers old new =
-    (node server : ℕ) → HasValue old node server Server → HasRoom old (server_of server)
+    (node server : ℕ) → HasValue old node server Server → HasRoomForEach old (server_of server)
     → SomeCanCome new (server_of server)
 
 -- A request of the client with these words is sent.

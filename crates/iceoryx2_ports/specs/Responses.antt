@@ -10,7 +10,7 @@ use Rattle.iox_tables.specs.HubStates.Tables.{HandleState, HubTables}
 use Rattle.iox_tables.specs.HubStates.Wirings.{handle_in}
 use Rattle.iox_hub_laws.specs.Hubs.{HasValue, HubState}
 use Rattle.iox_hub_laws.specs.Waiting.{server_of}
-use Rattle.iceoryx2_ports.specs.Reaching.{HasRoom, SomeCanCome}
+use Rattle.iceoryx2_ports.specs.Reaching.{HasRoomForEach, SomeCanCome}
 
 -- who asked: the client of that active request, for the request
 abbrev pub asker_of : HubTables → HandleState → Receiver
@@ -38,7 +38,7 @@ is_open h node n =
 -- that it can receive.
 abbrev pub ReachesAsker : HubState → ℕ → ℕ → HubState → Type 0
 ReachesAsker old node n new =
-    is_open old node n ≡ true → HasRoom old (asker_in old node n)
+    is_open old node n ≡ true → HasRoomForEach old (asker_in old node n)
     → SomeCanCome new (asker_in old node n)
 
 -- the server of the node's loaned response of that number

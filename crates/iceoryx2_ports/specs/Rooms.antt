@@ -11,7 +11,7 @@ use Rattle.iox_tables.specs.HubStates.Tables.{HandleState}
 use Rattle.iox_tables.specs.HubStates.Wirings.{handle_in}
 use Rattle.iox_hub_laws.specs.Hubs.{HasValue, HubState}
 use Rattle.iox_hub_laws.specs.Shown.{handle_of, shown}
-use Rattle.iceoryx2_ports.specs.Reaching.{HasRoom}
+use Rattle.iceoryx2_ports.specs.Reaching.{HasRoomForEach}
 
 -- The receiver has room for one more message of each connected sender, and once the node's handle
 -- of that number gave up its message, it may have one more of each.
@@ -27,9 +27,9 @@ pub record HasRoomBut (h : HubState) (x : Receiver) (node n : ℕ) : Type 0 wher
 
 -- If the receiver had room, it has room but for the node's handle of that number.
 abbrev pub TakesOfRoom : HubState → Receiver → HubState → ℕ → ℕ → Type 0
-TakesOfRoom old x new node n = HasRoom old x → HasRoomBut new x node n
+TakesOfRoom old x new node n = HasRoomForEach old x → HasRoomBut new x node n
 
 -- Each receiver that had room but for the node's value of that number has room.
 abbrev pub GivesRoomBack : HubState → ℕ → ℕ → Kind → HubState → Type 0
 GivesRoomBack old node n kind new =
-    HasValue old node n kind → (x : Receiver) → HasRoomBut old x node n → HasRoom new x
+    HasValue old node n kind → (x : Receiver) → HasRoomBut old x node n → HasRoomForEach new x

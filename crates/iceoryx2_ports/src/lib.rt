@@ -25,6 +25,7 @@ pub mod uses_commands;
 pub mod uses_copied_trip;
 pub mod uses_copying;
 pub mod uses_exchange;
+pub mod uses_filled_trip;
 pub mod uses_filling;
 pub mod uses_handlers;
 pub mod uses_headers;
@@ -35,6 +36,8 @@ pub mod uses_making;
 pub mod uses_reaching;
 pub mod uses_reading;
 pub mod uses_round_trip;
+pub mod uses_serving;
+pub mod uses_slice_trip;
 pub mod uses_slices;
 pub mod uses_streams;
 

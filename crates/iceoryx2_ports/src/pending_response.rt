@@ -19,6 +19,7 @@ ghost use Rattle.iceoryx2_ports.specs.Holding.{KeepsValues};
 ghost use Rattle.iceoryx2_ports.specs.Idling.{TakesTheOne};
 ghost use Rattle.iceoryx2_ports.specs.Keeping.{KeepsAsking};
 ghost use Rattle.iceoryx2_ports.specs.Opens.{KeepsRequests};
+ghost use Rattle.iceoryx2_ports.specs.Reaching.{KeepsRoom};
 ghost use Rattle.iceoryx2_ports.specs.Releases.{IsReleased};
 ghost use Rattle.iceoryx2_ports.specs.Rooms.{TakesOfRoom};
 ghost use Rattle.iceoryx2_ports.specs.Senders.{TakesFrom};
@@ -131,9 +132,11 @@ impl<Q: Payload, QH: Words, P: Payload, PH: Words> PendingResponse<Q, QH, P, PH>
         ensures left { hub.new ≡ with_control hub.old hub.new.control }
         ensures whole { (x : Given) → IsWholeCall (state_of_hub x hub.old) self.now.node
             (calls.SetHint self.now.number) Done (state_of_hub x hub.new) }
+        ensures comes { NothingComes hub.old hub.new }
         ensures keeps { KeepsAll hub.old hub.new }
         ensures shapes { HaveSameShapes hub.old hub.new }
         ensures asks { KeepsAsking hub.old hub.new }
+        ensures room { KeepsRoom hub.old hub.new }
         ensures requests { KeepsRequests hub.old hub.new }
     {
         hub.set_hint(self.node, self.number, self.hint);

@@ -13,6 +13,8 @@ ghost use Rattle.iox_hub_laws.specs.Making.{LeavesMessages, StaysAs, options_wit
 ghost use Rattle.iox_hub_laws.specs.Sends.{NothingComes};
 ghost use Rattle.iceoryx2_ports.specs.LoanLimits.{LendsNone};
 ghost use Rattle.iceoryx2_ports.specs.Makings.{IsMadeAs, first_options, reply_of_client};
+ghost use Rattle.iceoryx2_ports.specs.Keeping.{KeepsAsking};
+ghost use Rattle.iceoryx2_ports.specs.Opens.{KeepsRequests};
 ghost use Rattle.iceoryx2_ports.specs.Idling.{IsIdle, client_on};
 ghost use Rattle.iceoryx2_ports.specs.Reaching.{KeepsRoom};
 ghost use Rattle.iceoryx2_ports.specs.declared.errors.ClientCreateError.TheVariants.{FailedToDeployThreadsafetyPolicy};
@@ -153,7 +155,9 @@ impl<Q: Payload, QH: Words, P: Payload, PH: Words, H: Backpressure> PortFactoryC
             → IsIdle hub.new (client_on client.number lane request)) }
         ensures lent { IfOk result (λ client. LendsNone hub.old client.number hub.new) }
         ensures comes { NothingComes hub.old hub.new }
+        ensures asks { KeepsAsking hub.old hub.new }
         ensures room { KeepsRoom hub.old hub.new }
+        ensures requests { KeepsRequests hub.old hub.new }
         ensures unchanged { OnErr result (StaysAs hub.old hub.new) }
         ensures refused { IfErr result (λ error. error ≢ FailedToDeployThreadsafetyPolicy) }
     {

@@ -13,6 +13,8 @@ ghost use Rattle.iox_hub_laws.specs.Making.{LeavesMessages, StaysAs, options_wit
 ghost use Rattle.iox_hub_laws.specs.Sends.{NothingComes};
 ghost use Rattle.iox_hub_laws.specs.Waiting.{server_of};
 ghost use Rattle.iceoryx2_ports.specs.Makings.{IsMadeAs, first_options, reply_of_server};
+ghost use Rattle.iceoryx2_ports.specs.Keeping.{KeepsAsking};
+ghost use Rattle.iceoryx2_ports.specs.Opens.{KeepsRequests};
 ghost use Rattle.iceoryx2_ports.specs.Idling.{IsIdle};
 ghost use Rattle.iceoryx2_ports.specs.Reaching.{KeepsRoom};
 ghost use Rattle.iceoryx2_ports.specs.declared.errors.ServerCreateError.TheVariants.{FailedToDeployThreadsafetyPolicy};
@@ -162,7 +164,9 @@ impl<Q: Payload, QH: Words, P: Payload, PH: Words, H: Backpressure> PortFactoryS
         ensures messages { LeavesMessages hub.old hub.new }
         ensures idle { IfOk result (λ server. IsIdle hub.new (server_of server.number)) }
         ensures comes { NothingComes hub.old hub.new }
+        ensures asks { KeepsAsking hub.old hub.new }
         ensures room { KeepsRoom hub.old hub.new }
+        ensures requests { KeepsRequests hub.old hub.new }
         ensures unchanged { OnErr result (StaysAs hub.old hub.new) }
         ensures refused { IfErr result (λ error. error ≢ FailedToDeployThreadsafetyPolicy) }
     {

@@ -3,7 +3,7 @@ ghost use Rattle.std.specs.Prelude.{◌≡◌, ◌∷◌, IfOk, IfSome, OnOk, []
 ghost use Rattle.iceoryx2_ports.specs.Calls.{HasCallsLeft};
 ghost use Rattle.iceoryx2_ports.specs.Kind.TheVariants as kinds;
 ghost use Rattle.iceoryx2_ports.specs.Hubs.{HasValue};
-ghost use Rattle.iceoryx2_ports.specs.Reaching.{HasRoom, SomeCanCome};
+ghost use Rattle.iceoryx2_ports.specs.Reaching.{HasRoomForEach, SomeCanCome};
 ghost use Rattle.iceoryx2_ports.specs.Reads.{message_in};
 ghost use Rattle.iceoryx2_ports.specs.Responses.{answerer_in, asker_in, is_open};
 ghost use Rattle.iceoryx2_ports.specs.Waiting.{AllCarry, NothingWaits, client_in};
@@ -24,7 +24,7 @@ pub fn answers_456(
     requires connected { is_open hub.old request.now.node request.now.number ≡ true }
     requires none { NothingWaits hub.old
         (client_in hub.old pending.now.node pending.now.number) }
-    requires room { HasRoom hub.old (client_in hub.old pending.now.node pending.now.number) }
+    requires room { HasRoomForEach hub.old (client_in hub.old pending.now.node pending.now.number) }
     ensures { IfOk result (λ value. value ≡ 456) }
 {
     request.send_copy(hub, 456)?;
@@ -53,7 +53,7 @@ pub fn answers_if_connected(
         ≡ asker_in hub.old request.now.node request.now.number }
     requires none { NothingWaits hub.old
         (client_in hub.old pending.now.node pending.now.number) }
-    requires room { HasRoom hub.old (client_in hub.old pending.now.node pending.now.number) }
+    requires room { HasRoomForEach hub.old (client_in hub.old pending.now.node pending.now.number) }
     ensures { IfSome result (λ value. value ≡ 456) }
 {
     if !request.is_connected(hub) {
@@ -80,7 +80,7 @@ pub fn sends_456(
     requires connected { is_open hub.old response.node response.number ≡ true }
     requires none { NothingWaits hub.old
         (client_in hub.old pending.now.node pending.now.number) }
-    requires room { HasRoom hub.old (client_in hub.old pending.now.node pending.now.number) }
+    requires room { HasRoomForEach hub.old (client_in hub.old pending.now.node pending.now.number) }
     ensures carries { OnOk result (AllCarry hub.new
         (client_in hub.old pending.now.node pending.now.number) (456 ∷ [])) }
     ensures comes { OnOk result (SomeCanCome hub.new

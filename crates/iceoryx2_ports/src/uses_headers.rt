@@ -7,7 +7,7 @@ ghost use Rattle.iceoryx2_ports.specs.Hubs.{HasValue};
 ghost use Rattle.iceoryx2_ports.specs.Reads.{message_in};
 ghost use Rattle.iceoryx2_ports.specs.Responses.{answerer_in};
 ghost use Rattle.iceoryx2_ports.specs.Senders.{AllFrom};
-ghost use Rattle.iceoryx2_ports.specs.Waiting.{NothingWaits, client_in};
+ghost use Rattle.iceoryx2_ports.specs.Waiting.{NothingWaits, client_in, server_of};
 ghost use Rattle.iceoryx2_ports.specs.HubHeaders.{sender_in};
 
 use crate::{
@@ -217,6 +217,70 @@ pub fn hears_from<Q: Payload, QH: Words, P: Payload, PH: Words>(
     let same = header_names(&response, server, hub);
     response.release(hub);
     same
+}
+
+/// The origin of what a server receives is the client that sent all that waited.
+pub fn hears_its_client<Q: Payload, QH: Words, P: Payload, PH: Words>(
+    server: &Server<Q, QH, P, PH>,
+    client: &Client<Q, QH, P, PH>,
+    hub: &mut Hub<Q, QH, P, PH>,
+) -> Option<bool>
+    requires server { HasValue hub.old server.now.node server.now.number kinds.Server }
+    requires client { HasValue hub.old client.now.node client.now.number kinds.Client }
+    requires calls { HasCallsLeft hub.old }
+    requires from { AllFrom hub.old (server_of server.now.number) client.now.number }
+    ensures { IfSome result (λ same. same ≡ true) }
+{
+    let Ok(Some(request)) = server.receive(hub) else {
+        return None;
+    };
+    let same = came_from(&request, client, hub);
+    request.release(hub);
+    Some(same)
+}
+
+/// A client sends a copy of 123. A server for which nothing waited hears that client, if it
+/// receives something then.
+pub fn hears_who_copies<QH: Words, P: Payload, PH: Words>(
+    client: &Client<One<u64>, QH, P, PH>,
+    server: &Server<One<u64>, QH, P, PH>,
+    hub: &mut Hub<One<u64>, QH, P, PH>,
+) -> Option<bool>
+    requires client { HasValue hub.old client.now.node client.now.number kinds.Client }
+    requires server { HasValue hub.old server.now.node server.now.number kinds.Server }
+    requires none { NothingWaits hub.old (server_of server.now.number) }
+    ensures { IfSome result (λ same. same ≡ true) }
+{
+    let pending = client.send_copy(hub, 123).ok()?;
+    let mut same = None;
+    if hub.calls() < 1 << 56 {
+        same = hears_its_client(server, client, hub);
+    }
+    pending.release(hub);
+    same
+}
+
+/// A server answers with a copy of 456. A client for which nothing waited hears that server, if it
+/// receives something then.
+pub fn hears_who_answers<Q: Payload, QH: Words, PH: Words>(
+    request: &ActiveRequest<Q, QH, One<u64>, PH>,
+    server: &Server<Q, QH, One<u64>, PH>,
+    pending: &PendingResponse<Q, QH, One<u64>, PH>,
+    hub: &mut Hub<Q, QH, One<u64>, PH>,
+) -> Option<bool>
+    requires request { HasValue hub.old request.now.node request.now.number kinds.ActiveRequest }
+    requires server { HasValue hub.old server.now.node server.now.number kinds.Server }
+    requires pending { HasValue hub.old pending.now.node pending.now.number kinds.PendingResponse }
+    requires answerer { answerer_in hub.old request.now.node request.now.number
+        ≡ server.now.number }
+    requires none { NothingWaits hub.old (client_in hub.old pending.now.node pending.now.number) }
+    ensures { IfSome result (λ same. same ≡ true) }
+{
+    request.send_copy(hub, 456).ok()?;
+    if hub.calls() >= 1 << 56 {
+        return None;
+    }
+    hears_from(pending, server, hub)
 }
 
 /// A loaned response has the default user header and the default payload.

@@ -48,3 +48,22 @@ pub fn makes_a_server_that_discards(
     let strategy = server.backpressure_strategy(hub);
     Ok((server, strategy))
 }
+
+/// A server is made that discards, and for whose pool a closure says one message.
+pub fn makes_a_small_server_that_discards(
+    hub: &mut Hub<One<u64>, (), One<u64>, ()>,
+    alloc: Global,
+    node: u64,
+    id: UniqueSystemId,
+) -> Result<(Server<One<u64>, (), One<u64>, ()>, BackpressureStrategy), ServerCreateError>
+    ensures has { IfOk result (λ both.
+        HasValue hub.new both.0.node both.0.number kinds.Server) }
+    ensures strategy { IfOk result (λ both. both.1 ≡ DiscardData) }
+{
+    let server = PortFactoryServer::new(node, id)
+        .backpressure_strategy(BackpressureStrategy::DiscardData)
+        .override_response_preallocation(|_| 1)
+        .create(alloc, hub)?;
+    let strategy = server.backpressure_strategy(hub);
+    Ok((server, strategy))
+}

@@ -5,7 +5,7 @@ ghost use Rattle.iceoryx2_ports.specs.Kind.TheVariants as kinds;
 ghost use Rattle.iceoryx2_ports.specs.Hubs.{HasValue};
 ghost use Rattle.iceoryx2_ports.specs.Idling.{AwaitsOne, IsIdle};
 ghost use Rattle.iceoryx2_ports.specs.Reads.{message_in};
-ghost use Rattle.iceoryx2_ports.specs.Reaching.{HasRoom, SomeCanCome};
+ghost use Rattle.iceoryx2_ports.specs.Reaching.{HasRoomForEach, SomeCanCome};
 ghost use Rattle.iceoryx2_ports.specs.Waiting.{AllCarry, NothingWaits, server_of};
 
 use crate::{
@@ -24,7 +24,7 @@ pub fn copies_456(
     requires client { HasValue hub.old client.now.node client.now.number kinds.Client }
     requires server { HasValue hub.old server.now.node server.now.number kinds.Server }
     requires none { NothingWaits hub.old (server_of server.now.number) }
-    requires room { HasRoom hub.old (server_of server.now.number) }
+    requires room { HasRoomForEach hub.old (server_of server.now.number) }
     ensures { IfOk result (λ value. value ≡ 456) }
 {
     let pending = client.send_copy(hub, 456)?;
@@ -55,7 +55,7 @@ pub fn sends_456(
     requires calls { HasCallsLeft hub.old }
     requires server { HasValue hub.old server.now.node server.now.number kinds.Server }
     requires none { NothingWaits hub.old (server_of server.now.number) }
-    requires room { HasRoom hub.old (server_of server.now.number) }
+    requires room { HasRoomForEach hub.old (server_of server.now.number) }
     ensures carries { OnOk result (AllCarry hub.new (server_of server.now.number) (456 ∷ [])) }
     ensures comes { OnOk result (SomeCanCome hub.new (server_of server.now.number)) }
 {

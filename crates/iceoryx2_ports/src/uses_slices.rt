@@ -1,7 +1,7 @@
 //! Messages of many elements, proved from the clauses of typed ports alone.
 ghost use Rattle.std.specs.Prelude.{◌≡◌, ◌∷◌, IfOk, IsSome, List, OnOk, Some, [], flat_map};
 ghost use Rattle.std.specs.Prelude.{length};
-ghost use Rattle.iceoryx2_ports.specs.Answering.{Answers};
+ghost use Rattle.iceoryx2_ports.specs.Answering.{GivesInTurn};
 ghost use Rattle.iceoryx2_ports.specs.Kind.TheVariants as kinds;
 ghost use Rattle.iceoryx2_ports.specs.Hubs.{HasValue};
 ghost use Rattle.iceoryx2_ports.specs.Reads.{message_in};
@@ -29,6 +29,41 @@ pub fn writes_odd_numbers(
 {
     let loan = client.loan_slice_uninit(hub, elements)?;
     Ok(loan.write_from_fn(hub, |index| (index as u64).wrapping_mul(2).wrapping_add(1)))
+}
+
+/// A client loans two elements, and a closure fills them with 1 and 3. The request carries these.
+pub fn writes_1_and_3(
+    client: &Client<Many<u64>, (), One<u64>, ()>,
+    hub: &mut Hub<Many<u64>, (), One<u64>, ()>,
+) -> Result<RequestMut<Many<u64>, (), One<u64>, ()>, LoanError>
+    requires { HasValue hub.old client.now.node client.now.number kinds.Client }
+    ensures has { IfOk result (λ request.
+        HasValue hub.new request.node request.number kinds.RequestMut) }
+    ensures carries { IfOk result (λ request.
+        (message_in hub.new request.node request.number).payload ≡ 1 ∷ 3 ∷ []) }
+{
+    let loan = client.loan_slice_uninit(hub, 2)?;
+    Ok(loan.write_from_fn(hub, |index| (index as u64).wrapping_mul(2).wrapping_add(1)))
+}
+
+/// A client asks with 1 and 3, which a closure answers. For a server for which nothing waited,
+/// nothing else waits then.
+pub fn asks_with_1_and_3(
+    client: &Client<Many<u64>, (), One<u64>, ()>,
+    server: &Server<Many<u64>, (), One<u64>, ()>,
+    hub: &mut Hub<Many<u64>, (), One<u64>, ()>,
+) -> Result<PendingResponse<Many<u64>, (), One<u64>, ()>, RequestSendError>
+    requires has { HasValue hub.old client.now.node client.now.number kinds.Client }
+    requires none { NothingWaits hub.old (server_of server.now.number) }
+    ensures { OnOk result (AllCarry hub.new (server_of server.now.number) (1 ∷ 3 ∷ [])) }
+{
+    let loan = client.loan_slice_uninit(hub, 2)?;
+    let request = loan.write_from_fn(hub, |index| (index as u64).wrapping_mul(2).wrapping_add(1));
+    if hub.calls() < 1 << 56 {
+        return request.send(hub);
+    }
+    request.release(hub);
+    Err(RequestSendError::from(LoanError::CallsSpent))
 }
 
 /// A client asks with so many elements.
@@ -179,7 +214,7 @@ pub fn writes_what_is_answered<E: Words, F: FnMut(usize) -> E>(
     requires has { HasValue hub.old client.now.node client.now.number kinds.Client }
     requires callable { F.IsAlwaysCallable f }
     ensures { IfOk result (λ request. (values : List E) × (last : F)
-        × Answers F.step f 0 values last × (length values ≡ elements)
+        × GivesInTurn F.step f 0 values last × (length values ≡ elements)
         × ((message_in hub.new request.node request.number).payload
         ≡ flat_map E.words values)) }
 {

@@ -2,14 +2,14 @@
 //! proved from the clauses of typed ports alone.
 ghost use Rattle.std.specs.Prelude.{◌≡◌, ◌∷◌, IfOk, IsSome, OnOk, [], true};
 ghost use Rattle.std.specs.Bool.{OnTrue};
-ghost use Rattle.iceoryx2_ports.specs.Call.TheVariants.{Send};
+ghost use Rattle.iceoryx2_ports.specs.Call.TheVariants.{HasHint, Send};
 ghost use Rattle.iceoryx2_ports.specs.Calls.{HasCallsLeft};
 ghost use Rattle.iceoryx2_ports.specs.Kind.TheVariants as kinds;
 ghost use Rattle.iceoryx2_ports.specs.Hubs.{HasValue, IsReached, state_of_hub};
 ghost use Rattle.iceoryx2_ports.specs.Idling.{IsIdle};
 ghost use Rattle.iceoryx2_ports.specs.Reaching.{SomeCanCome};
 ghost use Rattle.iceoryx2_ports.specs.Reads.{message_in};
-ghost use Rattle.iceoryx2_ports.specs.Reply.TheVariants.{Sent};
+ghost use Rattle.iceoryx2_ports.specs.Reply.TheVariants.{Answer, Sent};
 ghost use Rattle.iceoryx2_ports.specs.Responses.{answerer_in, asker_in, is_open};
 ghost use Rattle.iceoryx2_ports.specs.States.{Given};
 ghost use Rattle.iceoryx2_ports.specs.Waiting.{AllCarry, NothingWaits, client_in, server_of};
@@ -33,25 +33,27 @@ pub fn answers_thrice(
     request.send_copy(hub, 6)
 }
 
-/// A server answers as long as its client wants more, at most five times.
+/// A server answers as long as its client wants more, at most five times. It says whether the client
+/// wants no more: only where the machine tells a hint.
 pub fn answers_until_told(
     request: &ActiveRequest<One<u64>, (), One<u64>, ()>,
     hub: &mut Hub<One<u64>, (), One<u64>, ()>,
 ) -> bool
-    ensures { IsReached hub.new }
+    ensures told { OnTrue result ((x : Given) → IsWholeCall (state_of_hub x hub.new)
+        request.now.node (HasHint request.now.number) (Answer true) (state_of_hub x hub.new)) }
 {
-    let mut told = false;
     for _ in 0..5 {
         if !request.exists(hub) || !request.is_connected(hub) {
-            break;
+            return false;
         }
-        if request.has_disconnect_hint(hub) || request.send_copy(hub, 456).is_err() {
-            told = true;
-            break;
+        if request.has_disconnect_hint(hub) {
+            return true;
+        }
+        if request.send_copy(hub, 456).is_err() {
+            return false;
         }
     }
-    hub.calls();
-    told
+    false
 }
 
 /// A client takes responses as long as its request is open, at most five, and keeps the last value.
@@ -155,28 +157,6 @@ pub fn puts_456_and_answers(
     }
     response.release(hub);
     false
-}
-
-/// A server answers what waits with 871238, one request after the other, at most so many, and stops
-/// where none is left. Nothing is concluded but that the hub's state can be reached.
-pub fn serves_what_waits(
-    server: &Server<One<u64>, (), One<u64>, ()>,
-    hub: &mut Hub<One<u64>, (), One<u64>, ()>,
-    most: usize,
-)
-    ensures { IsReached hub.new }
-{
-    for _ in 0..most {
-        if hub.calls() >= 1 << 56 || !server.exists(hub) {
-            break;
-        }
-        let Ok(Some(request)) = server.receive(hub) else {
-            break;
-        };
-        let _answered = request.send_copy(hub, 871238).is_ok();
-        request.release(hub);
-    }
-    hub.calls();
 }
 
 /// A client asks with what it loaned, and says to how many servers that went: as many as the machine

@@ -18,7 +18,7 @@ pub record ServiceDescription : Type 0 where
   pub attributes : List Attribute
 
 -- the service has that name, those attributes and that identifier, and the hash of its pattern and name
-pub record IsTold (config : ServiceDescription) (name : List ℕ) (attributes : List Attribute)
+pub record IsDescribed (config : ServiceDescription) (name : List ℕ) (attributes : List Attribute)
     (id : UniqueSystemId) : Type 0 where
   pub named : config.name ≡ name
   pub says : config.attributes ≡ attributes

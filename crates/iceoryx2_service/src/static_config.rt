@@ -48,7 +48,7 @@ impl Model for StaticConfig {
 }
 
 impl StaticConfig {
-    ghost use Rattle.iceoryx2_service.specs.Services.{IsTold, requests_of};
+    ghost use Rattle.iceoryx2_service.specs.Services.{IsDescribed, requests_of};
     ghost use Rattle.iceoryx2_service.specs.declared.static_config.messaging_pattern.MessagingPattern.TheVariants as patterns;
 
     /// The configuration of a request-response service.
@@ -59,7 +59,7 @@ impl StaticConfig {
         specifier: AttributeSpecifier,
         unique_service_id: UniqueServiceId,
     ) -> StaticConfig
-        ensures told { IsTold result settings.now.name specifier unique_service_id }
+        ensures told { IsDescribed result settings.now.name specifier unique_service_id }
         ensures pattern { result.messaging_pattern ≡ requests_of settings.now request response }
     {
         let config = request_response::StaticConfig::new(request, response, settings.limits);
@@ -78,7 +78,7 @@ impl StaticConfig {
         specifier: AttributeSpecifier,
         unique_service_id: UniqueServiceId,
     ) -> StaticConfig
-        ensures told { IsTold result name specifier unique_service_id }
+        ensures told { IsDescribed result name specifier unique_service_id }
         ensures pattern { result.messaging_pattern ≡ patterns.PublishSubscribe config }
     {
         let pattern = MessagingPattern::PublishSubscribe(config);
@@ -92,7 +92,7 @@ impl StaticConfig {
         specifier: AttributeSpecifier,
         unique_service_id: UniqueServiceId,
     ) -> StaticConfig
-        ensures told { IsTold result name specifier unique_service_id }
+        ensures told { IsDescribed result name specifier unique_service_id }
         ensures pattern { result.messaging_pattern ≡ patterns.Event config }
     {
         let pattern = MessagingPattern::Event(config);
@@ -106,7 +106,7 @@ impl StaticConfig {
         specifier: AttributeSpecifier,
         unique_service_id: UniqueServiceId,
     ) -> StaticConfig
-        ensures told { IsTold result name specifier unique_service_id }
+        ensures told { IsDescribed result name specifier unique_service_id }
         ensures pattern { result.messaging_pattern ≡ patterns.Blackboard config }
     {
         let pattern = MessagingPattern::Blackboard(config);
@@ -119,7 +119,7 @@ impl StaticConfig {
         specifier: AttributeSpecifier,
         unique_service_id: UniqueServiceId,
     ) -> StaticConfig
-        ensures told { IsTold result name specifier unique_service_id }
+        ensures told { IsDescribed result name specifier unique_service_id }
         ensures pattern { result.messaging_pattern ≡ messaging_pattern }
     {
         StaticConfig {

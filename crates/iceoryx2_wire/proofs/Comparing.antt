@@ -13,7 +13,7 @@ use Rattle.iox_model.specs.Settings.{Limits}
 use Rattle.iox_model.specs.States.{State}
 use Rattle.iox_service_laws.specs.MessageShape.{MessageShape}
 use Rattle.iox_openers.specs.Causes.{as_refusal, cause_of}
-use Rattle.iox_openers.specs.Openers.{IsAsked, IsAskedOfCreator, opener}
+use Rattle.iox_openers.specs.Openers.{FailsFirst, IsAskedOfCreator, opener}
 use Rattle.iox_openers.specs.declared.message_types.MessageTypes.{MessageTypes}
 use Rattle.iox_openers.specs.declared.service_description.ServiceDescription.{ServiceDescription}
 use Rattle.iox_service_laws.specs.Asking.{command_for}
@@ -54,7 +54,7 @@ not_made_so l own i d id r asked tests done =
 
 pub opened_so : (i : ServiceIdentity) (d : ServiceDescription) (v w : ServiceTables) (types : MessageTypes) (required : Requirements) (id : UniqueSystemId)
     (asked : Option (the_refusal.Refusal AttributeVerificationError)) (result : Result ℕ (the_refusal.Refusal AttributeVerificationError))
-    → IsAsked d (opener types required) (as_refusal asked) → IsJoin (nodes.service_of v) id asked result (nodes.service_of w)
+    → FailsFirst d (opener types required) (as_refusal asked) → IsJoin (nodes.service_of v) id asked result (nodes.service_of w)
     → IsOpened (with_nodes i d v) types required id result (with_nodes i d w)
 opened_so i d v w types required id asked result tests joined =
     record { asked = as_refusal asked; tests = tests; join = joined cause_of; says = refl; named = refl }

@@ -14,7 +14,7 @@ use Rattle.iox_model.specs.Settings.{Limits}
 use Rattle.iox_model.specs.States.{State}
 use Rattle.iox_members.specs.Steps.{answer_in}
 use Rattle.iox_openers.specs.Causes.{cause_of}
-use Rattle.iox_openers.specs.Openers.{IsAsked, IsAskedOfCreator, opener}
+use Rattle.iox_openers.specs.Openers.{FailsFirst, IsAskedOfCreator, opener}
 use Rattle.iox_openers.specs.declared.message_types.MessageTypes.{MessageTypes}
 use Rattle.iox_openers.specs.declared.service_description.ServiceDescription.{ServiceDescription}
 use Rattle.iox_service_laws.specs.Shown.{ServiceTables}
@@ -60,7 +60,7 @@ pub record IsOpened (old : DescribedService) (types : MessageTypes) (required : 
     (new : DescribedService) : Type 0
   where
     pub asked : Option Refusal
-    pub tests : IsAsked old.description (opener types required) asked
+    pub tests : FailsFirst old.description (opener types required) asked
     pub join :
         IsCommand (service_of old) (Join id asked) (answer_in cause_of replies.Node result)
         (service_of new)

@@ -12,7 +12,7 @@ use Rattle.iox_model.specs.Runs.{IsRun}
 use Rattle.iox_model.specs.Services.{IsCommand}
 use Rattle.iox_model.specs.States.{State}
 use Rattle.iox_openers.specs.Causes.{cause_of}
-use Rattle.iox_openers.specs.Openers.{IsAsked, Opener}
+use Rattle.iox_openers.specs.Openers.{FailsFirst, Opener}
 use Rattle.iox_openers.specs.declared.service_description.ServiceDescription.{ServiceDescription}
 use Rattle.iox_service_laws.specs.Asking.{command_for}
 use Rattle.iox_service_laws.specs.Elements.{Elements}
@@ -35,7 +35,7 @@ abbrev pub IsGivenAs :
     → OpenCommand Q P H → Command → Type 0
 -- a join asks what the description asks of its opener
 IsGivenAs q p words d (commands.Join id opener) c =
-    (asked : Option Refusal) × IsAsked d opener.now asked × (c ≡ commands.Join id asked)
+    (asked : Option Refusal) × FailsFirst d opener.now asked × (c ≡ commands.Join id asked)
 -- all others are as they stand
 IsGivenAs q p words d (commands.Port command) c = c ≡ commands.Port (command_for q p words command)
 IsGivenAs q p words d (commands.Leave node) c = c ≡ commands.Leave node

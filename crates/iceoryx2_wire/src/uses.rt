@@ -3,7 +3,7 @@ ghost use Rattle.std.specs.Prelude.{◌≡◌, IfOk, OnErr, vec_len};
 ghost use Rattle.iox_words.specs.Numbers.{no_word, one_word};
 ghost use Rattle.iox_model.specs.declared.command.Command.TheVariants.{Cleanup, ListNodes};
 ghost use Rattle.iox_model.specs.Runs.{IsServed};
-ghost use Rattle.iox_service_laws.specs.Served.{IsDone};
+ghost use Rattle.iox_service_laws.specs.Served.{IsDoneOrRefused};
 ghost use Rattle.iceoryx2_wire.specs.Services.{IsOpened, service_of};
 ghost use Rattle.iceoryx2_wire.specs.Serving.{IsAnsweredWithMemory};
 
@@ -41,7 +41,7 @@ pub fn cleans_up(
     service: &mut Bytes,
     node: u64,
 ) -> Result<(), Refusal<AttributeVerificationError<'static>>>
-    ensures done { IsDone (service_of service.old) (Cleanup node) result (service_of service.new) }
+    ensures done { IsDoneOrRefused (service_of service.old) (Cleanup node) result (service_of service.new) }
     ensures says { service.new.description ≡ service.old.description }
 {
     service.cleanup(node)

@@ -4,7 +4,7 @@ use Rattle.iox_words.specs.declared.callback_progression.CallbackProgression.{Ca
 use Rattle.iox_words.specs.declared.callback_progression.CallbackProgression.TheVariants.{Continue, Stop}
 
 -- the callback was called with the first item; then, unless it said stop, with the next, and so on to the last
-abbrev pub Visits : {F A : Type 0} → (F → A → CallbackProgression → F → Type 0) → F → List A → Type 0
-Visits step f [] = ⊤
-Visits {F} step f (item ∷ items) =
-    (after : F) × (step f item Stop after ⊎ (step f item Continue after × Visits step after items))
+abbrev pub VisitsInOrder : {F A : Type 0} → (F → A → CallbackProgression → F → Type 0) → F → List A → Type 0
+VisitsInOrder step f [] = ⊤
+VisitsInOrder {F} step f (item ∷ items) =
+    (after : F) × (step f item Stop after ⊎ (step f item Continue after × VisitsInOrder step after items))

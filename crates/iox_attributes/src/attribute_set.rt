@@ -5,7 +5,7 @@ ghost use Rattle.iox_names.specs.Texts.{text_eq};
 ghost use Rattle.std.specs.Fn.{CalledAt};
 ghost use Rattle.iox_attributes.specs.Sets.{is_sorted, max_pairs, values_of, with_pair};
 ghost use Rattle.iox_attributes.specs.Storage.{place_of};
-ghost use Rattle.iox_attributes.specs.Visits.{Visits};
+ghost use Rattle.iox_attributes.specs.Visits.{VisitsInOrder};
 
 use iox_names::attribute::{Attribute, AttributeKey, AttributeValue};
 use iox_words::CallbackProgression;
@@ -124,7 +124,7 @@ impl AttributeSet {
         mut callback: F,
     )
         requires { F.IsAlwaysCallable callback }
-        ensures { Visits (CalledAt F.FnMut) callback (values_of key.now self.now) }
+        ensures { VisitsInOrder (CalledAt F.FnMut) callback (values_of key.now self.now) }
     {
         let mut rest = self.as_slice();
         while let Some((first, later)) = rest.split_first() {

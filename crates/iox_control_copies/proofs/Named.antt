@@ -23,7 +23,7 @@ use Rattle.iox_control_lending.specs.declared.asked.Asked.{Asked}
 use Rattle.iox_control_lending.specs.Lends.{lender_of}
 use Rattle.iox_control_lending.proofs.PortLemmas.{info_is, lender_is, port_at, response_of_entry, there_by}
 use Rattle.iox_control_copies.specs.declared.answered.Answered.{Answered}
-use Rattle.iox_control_copies.specs.Answers.{Answers, way_of}
+use Rattle.iox_control_copies.specs.Answers.{CopyComesTo, way_of}
 
 module _ (t : HubTables) (order : AreInOrder t) (e : Entry) (info : PortInfo) (port : PortState) (there : port_in t.ports e.port ≡ Some port) (found : Some info ≡ info_in t.ports e.port) where
   pub awaited_for : (label : Label) (awaited : Bool) → label ≡ labels_of t.pools e.pool e.slot → awaited ≡ is_named_by_client t (handle_state e) false
@@ -38,11 +38,11 @@ module _ (t : HubTables) (order : AreInOrder t) (e : Entry) (info : PortInfo) (p
 
 pub response_answered : (c new : ControlState) (node n : ℕ) (e : Entry) (info : PortInfo) (label : Label) (a : Asked) (fails : Bool) (result : Answered) → AreInOrder c.tables
     → Some (handle_state e) ≡ handle_in c.tables.handles node n → Some info ≡ info_in c.tables.ports e.port → label ≡ labels_of c.tables.pools e.pool e.slot
-    → ((p : PortState) → port_in c.tables.ports info.number ≡ Some p → Answers c (lender_of p (response_of_entry e info label)) a fails result new)
+    → ((p : PortState) → port_in c.tables.ports info.number ≡ Some p → CopyComesTo c (lender_of p (response_of_entry e info label)) a fails result new)
     → (h : HandleState) (p : PortState) → handle_in c.tables.handles node n ≡ Some h → port_in c.tables.ports h.port ≡ Some p
-    → Answers c (lender_of_response c.tables h p) a fails result new
+    → CopyComesTo c (lender_of_response c.tables h p) a fails result new
 response_answered c new node n e info label a fails result order entry found at answers h p there port =
-    subst (λ y. Answers c y a fails result new) (lender_is c.tables node n e entry h there p info label at)
+    subst (λ y. CopyComesTo c y a fails result new) (lender_is c.tables node n e entry h there p info label at)
     (answers p (there_by c.tables e.port info p order (port_at c.tables node n e entry h there p port) found))
 
 pub response_sound : (t : HubTables) (node n : ℕ) (e : Entry) (info : PortInfo) (label : Label) → AreInOrder t

@@ -25,13 +25,13 @@ use Rattle.iox_control.specs.Controls.{ControlState, IsControl, with_tables}
 use Rattle.iox_control_lending.specs.declared.asked.Asked.{Asked}
 use Rattle.iox_control_lending.specs.declared.asked.Lending.{Lending}
 use Rattle.iox_control_lending.specs.declared.asked.Place.{Place}
-use Rattle.iox_control_lending.specs.Lends.{FindsDry, IsGotBack, IsPortOf, IsTold, lender_of}
+use Rattle.iox_control_lending.specs.Lends.{FindsDry, IsGotBack, IsPortOf, IsLoanRefusal, lender_of}
 use Rattle.iox_control_lending.proofs.MadeLemmas.{slot_within}
 use Rattle.iox_control_lending.proofs.SlotLemmas.{all_have_holders}
 use Rattle.iox_control_responses.proofs.Lanes.{IsReady}
 use Rattle.iox_control_copies.specs.declared.answered.Answered.{Answered}
 use Rattle.iox_control_copies.specs.declared.answered.Answered.TheVariants.{Done, Refused, OutOfMemory, Undelivered}
-use Rattle.iox_control_copies.specs.Answers.{Answers, AnswersThen, IsInLine, IsLost, IsPushed, fails_for, goes_in_line, is_shut_for, way_of, with_copy_lost, with_copy_sent}
+use Rattle.iox_control_copies.specs.Answers.{CopyComesTo, AnswersThen, IsInLine, IsLost, IsPushed, fails_for, goes_in_line, is_shut_for, way_of, with_copy_lost, with_copy_sent}
 use Rattle.iox_control_copies.proofs.Free.{may_lend, some_slot}
 use Rattle.iox_control_copies.proofs.InLine.{handed, pools, pushed_is, sent_keeps}
 use Rattle.iox_control_copies.proofs.Kept.{lost_keeps}
@@ -66,7 +66,7 @@ module _ (c : ControlState) (l : Lending) (of : IsPortOf c.tables l) where
 module _ (c d : ControlState) (l : Lending) (of : IsPortOf c.tables l) (order : IsControl c) (server : l.port.role ≡ Server) (a : Asked)
     (left : (p : PortState) → port_in c.tables.ports l.port.number ≡ Some p → d ≡ with_tables c (with_back c.tables p d.tables.pools))
     (back : (p : PortState) → port_in c.tables.ports l.port.number ≡ Some p → AreGotBack c.tables p d.tables.pools)
-    (told : (p : PortState) → l.port ≡ info_of p → IsTold c.tables (lender_of p l) a None)
+    (told : (p : PortState) → l.port ≡ info_of p → IsLoanRefusal c.tables (lender_of p l) a None)
   where
     abbrev y : Lender
     y = lender_of of.port l
@@ -191,7 +191,7 @@ module _ (c d : ControlState) (l : Lending) (of : IsPortOf c.tables l) (order : 
 
         -- ---- what it comes to
 
-        answers : (r : Answered) (new : ControlState) → AnswersThen d y a awaited shut fails r new → Answers c y a fails r new
+        answers : (r : Answered) (new : ControlState) → AnswersThen d y a awaited shut fails r new → CopyComesTo c y a fails r new
         answers (Done (Some place)) new is = (sym goes_is ∙ is.0, line_left is.0 place is.1 new is.2)
         answers (Done None) new is = (sym goes_is ∙ is.0, sym fails_is ∙ is.1, lost false new is.2)
         answers Undelivered new is = (sym fails_is ∙ is.0, lost true new is.1)
@@ -206,9 +206,9 @@ module _ (c d : ControlState) (l : Lending) (of : IsPortOf c.tables l) (order : 
         in_order OutOfMemory new is = absurd is
 
         module _ (r : Answered) (new : ControlState) (is : (p : PortState) → l.port ≡ info_of p → AnswersThen d (lender_of p l) a awaited shut fails r new) where
-          pub answers_left : (p : PortState) → port_in t.ports l.port.number ≡ Some p → Answers c (lender_of p l) a fails r new
+          pub answers_left : (p : PortState) → port_in t.ports l.port.number ≡ Some p → CopyComesTo c (lender_of p l) a fails r new
           answers_left p at =
-              subst (λ q. Answers c (lender_of q l) a fails r new) (same_Some of.port p (sym of.there ∙ at)) (answers r new (is of.port of.info))
+              subst (λ q. CopyComesTo c (lender_of q l) a fails r new) (same_Some of.port p (sym of.there ∙ at)) (answers r new (is of.port of.info))
 
           pub answers_in_order : IsControl new
           answers_in_order = in_order r new (is of.port of.info)

@@ -37,7 +37,7 @@ use Rattle.iox_control_lending.specs.declared.asked.Place.{Place}
 use Rattle.iox_control_lending.specs.Lends.{IsAskedOf, refusal_of}
 use Rattle.iox_control_copies.specs.declared.answered.Answered.{Answered}
 use Rattle.iox_control_copies.specs.declared.answered.Answered.TheVariants.{Done, Refused, OutOfMemory, Undelivered}
-use Rattle.iox_control_copies.specs.Answers.{Answers, IsInLine, IsLost, MayBeCopied, fails_for, given_after_copy, goes_in_line, is_shut_for, reply_of_copy, way_of, with_copy_lost, with_copy_sent}
+use Rattle.iox_control_copies.specs.Answers.{CopyComesTo, IsInLine, IsLost, MayBeCopied, fails_for, given_after_copy, goes_in_line, is_shut_for, reply_of_copy, way_of, with_copy_lost, with_copy_sent}
 use Rattle.iox_control_copies.proofs.Machine as machine
 use Rattle.iox_control_copies.proofs.Sent as sent
 use Rattle.iox_tables.proofs.HubLending.Bared.{put_same}
@@ -152,7 +152,7 @@ module _ (x : Given) (c : ControlState) (node n : ℕ) (q : Payload) (a : Asked)
             (no_failure (is_lender_awaited t y) (is_shut_for t y) fails kept awaits shut_is)
             ∙ ap (λ (v : m.State). (replies.Done, v)) (machine.lost_shows x c node n q a order active of_role elements asked sound false new is))
 
-    answers_whole : (r : Answered) (new : ControlState) → Answers c y a fails r new → Whole (reply_of_copy r) (state_shown (given_after_copy x q r) new.tables)
+    answers_whole : (r : Answered) (new : ControlState) → CopyComesTo c y a fails r new → Whole (reply_of_copy r) (state_shown (given_after_copy x q r) new.tables)
     answers_whole (Done (Some place)) new is = in_line_whole place new is.0 is.1
     answers_whole (Done None) new is = nobody_whole new is.0 is.1 is.2
     answers_whole Undelivered new is = undelivered_whole new is.0 is.1
@@ -164,7 +164,7 @@ pub copy_whole : (c : ControlState) (node n : ℕ) (a : Asked) (fails : Bool) (r
     → ((h : HandleState) (p : PortState) → handle_in c.tables.handles node n ≡ Some h → port_in c.tables.ports h.port ≡ Some p
     → (l : LaneState) → lane_on c.tables.ports (way_of (lender_of_response c.tables h p)) ≡ Some l → IsSound l)
     → ((h : HandleState) (p : PortState) → handle_in c.tables.handles node n ≡ Some h → port_in c.tables.ports h.port ≡ Some p
-    → Answers c (lender_of_response c.tables h p) a fails result new)
+    → CopyComesTo c (lender_of_response c.tables h p) a fails result new)
     → (h : HandleState) → handle_in c.tables.handles node n ≡ Some h
     → (x : Given) (q : Payload) → IsAskedOf x.response a → IsFailure x c.tables h fails
     → q.role ≡ Server → q.elements ≡ Some a.elements

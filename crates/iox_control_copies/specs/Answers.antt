@@ -24,7 +24,7 @@ use Rattle.iox_slots.specs.Slots.{written}
 use Rattle.iox_control.specs.Controls.{ControlState, with_tables}
 use Rattle.iox_control_lending.specs.declared.asked.Asked.{Asked}
 use Rattle.iox_control_lending.specs.declared.asked.Place.{Place}
-use Rattle.iox_control_lending.specs.Lends.{FindsDry, IsGotBack, IsRefused, IsTold, refusal_of}
+use Rattle.iox_control_lending.specs.Lends.{FindsDry, IsGotBack, IsRefused, IsLoanRefusal, refusal_of}
 use Rattle.iox_control_responses.specs.Responses.{pools_after_push}
 use Rattle.iox_control_copies.specs.declared.answered.Answered.{Answered}
 use Rattle.iox_control_copies.specs.declared.answered.Answered.TheVariants.{Done, Refused, OutOfMemory, Undelivered}
@@ -86,7 +86,7 @@ with_copy_sent t y k slot =
 -- A loan of the port is refused by no test. All is got back, and then the slot may be lent.
 pub record MayBeCopied (c : ControlState) (y : Lender) (a : Asked) (slot : ℕ) (between : ControlState)
     : Type 0 where
-  pub passes : IsTold c.tables y a None
+  pub passes : IsLoanRefusal c.tables y a None
   pub back : IsGotBack c y.port between
   pub may : MayLend between.tables y slot
 
@@ -114,17 +114,17 @@ pub record IsInLine (c : ControlState) (y : Lender) (a : Asked) (place : Place) 
       (with_loaned_slot between.tables y a.elements place.slot).pools new.tables.pools
 
 -- what the copy of a lender's response comes to, and leaves
-abbrev pub Answers :
+abbrev pub CopyComesTo :
     ControlState → Lender → Asked → Bool → Answered → ControlState → Type 0
-Answers c y a fails (Done (Some place)) new =
+CopyComesTo c y a fails (Done (Some place)) new =
     (goes_in_line c.tables y ≡ true) × IsInLine c y a place new
-Answers c y a fails (Done None) new =
+CopyComesTo c y a fails (Done None) new =
     (goes_in_line c.tables y ≡ false) × (fails_for c.tables y fails ≡ false)
     × IsLost c y a false new
-Answers c y a fails Undelivered new =
+CopyComesTo c y a fails Undelivered new =
     (fails_for c.tables y fails ≡ true) × IsLost c y a true new
-Answers c y a fails (Refused r) new = IsRefused c y a (refusal_of r) new
-Answers c y a fails OutOfMemory new = FindsDry c y a new
+CopyComesTo c y a fails (Refused r) new = IsRefused c y a (refusal_of r) new
+CopyComesTo c y a fails OutOfMemory new = FindsDry c y a new
 
 -- ---- for proofs of this crate alone
 

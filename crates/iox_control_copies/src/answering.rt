@@ -9,7 +9,7 @@ ghost use Rattle.iox_lanes.specs.Lanes.{IsSound, LaneState};
 ghost use Rattle.iox_slots.specs.Pools.{free_count};
 ghost use Rattle.iox_control.specs.Controls.{IsControl};
 ghost use Rattle.iox_control_lending.specs.Lends.{IsPortOf, lender_of};
-ghost use Rattle.iox_control_copies.specs.Answers.{Answers, AnswersThen, way_of};
+ghost use Rattle.iox_control_copies.specs.Answers.{CopyComesTo, AnswersThen, way_of};
 
 use crate::answered::Answered;
 use crate::lining::put_in_line;
@@ -63,7 +63,7 @@ pub fn answer(
     requires awaited { (p : PortState) → lender.port ≡ info_of p
         → awaited ≡ is_lender_awaited control.old.tables (lender_of p lender) }
     ensures left { (p : PortState) → port_in control.old.tables.ports lender.port.number ≡ Some p
-        → Answers control.old (lender_of p lender) asked fails result control.new }
+        → CopyComesTo control.old (lender_of p lender) asked fails result control.new }
     ensures sound { (p : PortState) → port_in control.old.tables.ports lender.port.number ≡ Some p
         → (l : LaneState)
         → lane_on control.old.tables.ports (way_of (lender_of p lender)) ≡ Some l → IsSound l }

@@ -11,7 +11,7 @@ ghost use Rattle.iox_tables.specs.HubLoans.Lenders.{IsActive, lender_of_response
 ghost use Rattle.iox_control.specs.Controls.{IsControl};
 ghost use Rattle.iox_control_lending.specs.Lends.{IsAskedOf};
 ghost use Rattle.iox_control_responses.specs.Responses.{IsFailure};
-ghost use Rattle.iox_control_copies.specs.Answers.{Answers, given_after_copy, reply_of_copy};
+ghost use Rattle.iox_control_copies.specs.Answers.{CopyComesTo, given_after_copy, reply_of_copy};
 
 use crate::answered::Answered;
 use crate::answering::answer;
@@ -36,7 +36,7 @@ pub fn copy_response(
     ensures left { (h : HandleState) (p : PortState)
         → handle_in control.old.tables.handles node number ≡ Some h
         → port_in control.old.tables.ports h.port ≡ Some p
-        → Answers control.old (lender_of_response control.old.tables h p) asked fails result
+        → CopyComesTo control.old (lender_of_response control.old.tables h p) asked fails result
         control.new }
     ensures order { IsControl control.new }
     ensures whole { (h : HandleState) → handle_in control.old.tables.handles node number ≡ Some h

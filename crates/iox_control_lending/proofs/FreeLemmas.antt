@@ -14,7 +14,7 @@ use Rattle.iox_control.specs.Controls.{ControlState, with_pools}
 use Rattle.iox_control_lending.specs.declared.asked.Asked.{Asked}
 use Rattle.iox_control_lending.specs.declared.asked.Lending.{Lending}
 use Rattle.iox_control_lending.specs.declared.asked.Loaned.{Loaned}
-use Rattle.iox_control_lending.specs.Lends.{IsMade, IsPortOf, lane_by, lender_of, on_lane, with_written_out}
+use Rattle.iox_control_lending.specs.Lends.{LoanIsMade, IsPortOf, lane_by, lender_of, on_lane, with_written_out}
 use Rattle.iox_control_lending.proofs.MadeLemmas.{slot_within}
 use Rattle.iox_control_lending.proofs.SlotLemmas.{written_once}
 
@@ -57,7 +57,7 @@ module _ (c d new : ControlState) (l : Lending) (of : IsPortOf c.tables l) (orde
   abbrev loan : Loaned
   loan = record { number = number; pool = l.port.pool; slot = slot }
 
-  its : lane_by of.port.role c.tables y ≡ Some lane → number ≡ d.tables.next_number → new ≡ with_written_out d (on_lane y lane) a slot → IsMade c y a loan new
+  its : lane_by of.port.role c.tables y ≡ Some lane → number ≡ d.tables.next_number → new ≡ with_written_out d (on_lane y lane) a slot → LoanIsMade c y a loan new
   its chosen numbered out =
       let free : IsFreeSlot c.tables l.port.number of.port c.tables.pools slot = is_free_slot c.tables l of slot d.tables.pools acquired order in
       record {
@@ -72,7 +72,7 @@ module _ (c d new : ControlState) (l : Lending) (of : IsPortOf c.tables l) (orde
 
   pub is_made : (o : Option ℕ) → ((p : PortState) → l.port ≡ info_of p → o ≡ lane_by p.role c.tables (lender_of p l)) → o ≡ Some lane → number ≡ d.tables.next_number
       → ((p : PortState) → l.port ≡ info_of p → new ≡ with_written_out d (on_lane (lender_of p l) lane) a slot)
-      → (p : PortState) → port_in c.tables.ports l.port.number ≡ Some p → IsMade c (lender_of p l) a loan new
+      → (p : PortState) → port_in c.tables.ports l.port.number ≡ Some p → LoanIsMade c (lender_of p l) a loan new
   is_made o told some numbered out p at =
-      subst (λ q. IsMade c (lender_of q l) a loan new) (same_Some of.port p (sym of.there ∙ at))
+      subst (λ q. LoanIsMade c (lender_of q l) a loan new) (same_Some of.port p (sym of.there ∙ at))
       (its (sym (told of.port of.info) ∙ some) numbered (out of.port of.info))

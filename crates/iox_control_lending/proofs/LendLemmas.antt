@@ -14,7 +14,7 @@ use Rattle.iox_control_lending.specs.declared.asked.Asked.{Asked}
 use Rattle.iox_control_lending.specs.declared.asked.Lending.{Lending}
 use Rattle.iox_control_lending.specs.declared.asked.Loaned.{Loaned}
 use Rattle.iox_control_lending.specs.declared.asked.Lent.TheVariants as lents
-use Rattle.iox_control_lending.specs.Lends.{IsGotBack, IsMade, IsPortOf, IsTold, Lends, lender_of}
+use Rattle.iox_control_lending.specs.Lends.{IsGotBack, LoanIsMade, IsPortOf, IsLoanRefusal, Lends, lender_of}
 use Rattle.iox_control_lending.proofs.MadeLemmas.{made_keeps}
 
 module _ (c d : ControlState) (l : Lending) (of : IsPortOf c.tables l) (order : IsControl c)
@@ -35,14 +35,14 @@ module _ (c d : ControlState) (l : Lending) (of : IsPortOf c.tables l) (order : 
   pub few_back : c.tables.calls < 2 ^ 56 → d.tables.calls < 2 ^ 56
   few_back few = subst (λ m. m < 2 ^ 56) (sym (ap (λ (e : ControlState). e.tables.calls) (left of.port of.there))) few
 
-  module _ (a : Asked) (new : ControlState) (told : (p : PortState) → l.port ≡ info_of p → IsTold c.tables (lender_of p l) a None) where
-    pub loan_left : (loan : Loaned) → ((p : PortState) → port_in d.tables.ports l.port.number ≡ Some p → IsMade d (lender_of p l) a loan new)
+  module _ (a : Asked) (new : ControlState) (told : (p : PortState) → l.port ≡ info_of p → IsLoanRefusal c.tables (lender_of p l) a None) where
+    pub loan_left : (loan : Loaned) → ((p : PortState) → port_in d.tables.ports l.port.number ≡ Some p → LoanIsMade d (lender_of p l) a loan new)
         → (p : PortState) → port_in c.tables.ports l.port.number ≡ Some p → Lends c (lender_of p l) a (lents.Handle loan) new
     loan_left loan made p at =
         subst (λ q. Lends c (lender_of q l) a (lents.Handle loan) new) (same_Some of.port p (sym of.there ∙ at))
         (record { passes = told of.port of.info; between = d; back = got_back; made = made of.port there_now })
 
-    pub loan_keeps : (loan : Loaned) → ((p : PortState) → port_in d.tables.ports l.port.number ≡ Some p → IsMade d (lender_of p l) a loan new)
+    pub loan_keeps : (loan : Loaned) → ((p : PortState) → port_in d.tables.ports l.port.number ≡ Some p → LoanIsMade d (lender_of p l) a loan new)
         → IsControl d → c.tables.calls < 2 ^ 56 → IsControl new
     loan_keeps loan made ordered few =
         made_keeps d ordered (lender_of of.port l) a loan new

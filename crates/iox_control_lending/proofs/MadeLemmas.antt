@@ -31,7 +31,7 @@ use Rattle.iox_control.specs.Controls.{AreCounted, ControlState, IsControl}
 use Rattle.iox_control.proofs.RoomLemmas.{loan_seats, room_as}
 use Rattle.iox_control_lending.specs.declared.asked.Asked.{Asked}
 use Rattle.iox_control_lending.specs.declared.asked.Loaned.{Loaned}
-use Rattle.iox_control_lending.specs.Lends.{IsMade, on_lane}
+use Rattle.iox_control_lending.specs.Lends.{LoanIsMade, on_lane}
 use Rattle.iox_control_lending.proofs.LaneLemmas.{lane_within}
 use Rattle.iox_control_lending.proofs.Owns.{own_are_fewer}
 
@@ -167,7 +167,7 @@ module _ (c : ControlState) (order : IsControl c) (p : PortState) (n slot : ℕ)
   calls_below = let calls = order.counted.calls in omega (arith, calls)
 
 module _ (c : ControlState) (order : IsControl c) (y : Lender) (a : Asked) (l : Loaned) (new : ControlState)
-    (there : port_in c.tables.ports y.port.number ≡ Some y.port) (few : c.tables.calls < 2 ^ 56) (made : IsMade c y a l new) where
+    (there : port_in c.tables.ports y.port.number ≡ Some y.port) (few : c.tables.calls < 2 ^ 56) (made : LoanIsMade c y a l new) where
   -- the tables before the loan
   abbrev was : HubTables
   was = c.tables

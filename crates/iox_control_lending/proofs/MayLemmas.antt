@@ -12,17 +12,17 @@ use Rattle.iox_tables.specs.HubLoans.Lenders.{Lender, shape_in}
 use Rattle.iox_control_lending.specs.declared.asked.Asked.{Asked}
 use Rattle.iox_control_lending.specs.declared.asked.LoanRefusal.{LoanRefusal}
 use Rattle.iox_control_lending.specs.declared.asked.Lending.{Lending}
-use Rattle.iox_control_lending.specs.Lends.{IsAskedOf, IsPortOf, IsTold, refusal_of}
+use Rattle.iox_control_lending.specs.Lends.{IsAskedOf, IsPortOf, IsLoanRefusal, refusal_of}
 use Rattle.iox_control_lending.proofs.PortLemmas.{there_by}
 
 -- no test refuses
-pub told_none : (t : HubTables) (y : Lender) (a : Asked) (r : Option LoanRefusal) (some : Bool) → some ≡ is_some r → some ≡ false → IsTold t y a (option_map refusal_of r) → IsTold t y a None
+pub told_none : (t : HubTables) (y : Lender) (a : Asked) (r : Option LoanRefusal) (some : Bool) → some ≡ is_some r → some ≡ false → IsLoanRefusal t y a (option_map refusal_of r) → IsLoanRefusal t y a None
 told_none t y a None some is not_some told = told
 told_none t y a (Some r) some is not_some told = absurd (true≢false (sym is ∙ not_some))
 
 -- a test refuses, where messages are those of the shape
 pub told_some : (t : HubTables) (y : Lender) (a : Asked) (r : Option LoanRefusal) (some : Bool) → some ≡ is_some r → some ≡ true
-    → IsTold t y a (option_map refusal_of r) → ((x : Given) × IsAskedOf (shape_in x t y.port) a) → IsTold t y a None → ⊥
+    → IsLoanRefusal t y a (option_map refusal_of r) → ((x : Given) × IsAskedOf (shape_in x t y.port) a) → IsLoanRefusal t y a None → ⊥
 told_some t y a None some is has told x none = true≢false (sym has ∙ is)
 told_some t y a (Some r) some is has told x none = none-some (refusal_of r) (sym (none x.0 x.1) ∙ told x.0 x.1)
 

@@ -25,8 +25,8 @@ pub record IsLoan (t : HubTables) (node n : ℕ) : Type 0 where
   pub loan : is_loan handle.kind ≡ true
 
 -- where the words of the handle's message lie
-abbrev pub place_of : HandleState → Place
-place_of h = record { pool = h.pool; slot = h.slot }
+abbrev pub words_place : HandleState → Place
+words_place h = record { pool = h.pool; slot = h.slot }
 
 -- the kind of a loan, once its holder filled all of it or some
 abbrev pub kind_after : Bool → Kind → Kind
@@ -51,7 +51,7 @@ given_written x t h words WrongLength = x
 pub record IsFilled (c : ControlState) (h : HandleState) (elements : Option ℕ) (place : Place)
     (new : ControlState) : Type 0 where
   pub fits : fits_loan c.tables h elements ≡ true
-  pub at : place ≡ place_of h
+  pub at : place ≡ words_place h
   pub left : new ≡ with_tables c (with_kind c.tables h (filled_kind h.kind))
 
 -- The payload does not fit, and nothing changes.

@@ -16,7 +16,7 @@ use Rattle.iox_slots.specs.Slots.{written}
 use Rattle.iox_tables.specs.HubLoans.Counts.{is_lane_taken}
 use Rattle.iox_tables.specs.HubLoans.Lenders.{Lender, loan_refusal, shape_in}
 use Rattle.iox_tables.specs.HubLoans.Loans.{loaned_handle, with_handed_out, with_loaned}
-use Rattle.iox_tables.specs.HubLoans.Slots.{Contents, with_contents}
+use Rattle.iox_tables.specs.HubLoans.Slots.{SlotContents, with_contents}
 use Rattle.iox_tables.specs.HubLending.Choosing.{IsFreeSlot}
 use Rattle.iox_tables.specs.HubLending.Emptying.{AreGotBack, with_back}
 use Rattle.iox_tables.specs.HubLending.Keeping.{has_holder}
@@ -55,7 +55,7 @@ abbrev pub first_payload : Shape → Asked → List ℕ
 first_payload shape a = if a.uninit then [] else default_payload shape a.elements
 
 -- the words of a new loan
-abbrev pub first_contents : Shape → Asked → Contents
+abbrev pub first_contents : Shape → Asked → SlotContents
 first_contents shape a =
     record { user = shape.user; payload = first_payload shape a; filled = 0 }
 
@@ -76,8 +76,8 @@ abbrev pub on_lane : Lender → ℕ → Lender
 on_lane y lane = record y { lane = lane }
 
 -- whatever the words are, that is why no such loan is made, but for the pool
-abbrev pub IsTold : HubTables → Lender → Asked → Option Refusal → Type 0
-IsTold t y a r =
+abbrev pub IsLoanRefusal : HubTables → Lender → Asked → Option Refusal → Type 0
+IsLoanRefusal t y a r =
     (x : Given) → IsAskedOf (shape_in x t y.port) a → loan_refusal x t y a.elements ≡ r
 
 -- the lowest lane of the client that is not taken
@@ -110,7 +110,7 @@ with_written_out c y a slot =
     }
 
 -- The loan is made in a slot that nobody had.
-pub record IsMade (c : ControlState) (y : Lender) (a : Asked) (l : Loaned) (new : ControlState)
+pub record LoanIsMade (c : ControlState) (y : Lender) (a : Asked) (l : Loaned) (new : ControlState)
     : Type 0 where
   pub number : l.number ≡ c.tables.next_number
   pub pool : l.pool ≡ y.port.pool
@@ -139,28 +139,28 @@ pub record HasFreeThen (t : HubTables) (p : PortState) : Type 0 where
 
 -- No test refuses the loan, and there will be a slot for it.
 pub record MayBeMade (c : ControlState) (y : Lender) (a : Asked) : Type 0 where
-  pub passes : IsTold c.tables y a None
+  pub passes : IsLoanRefusal c.tables y a None
   pub free : HasFreeThen c.tables y.port
 
 -- No test refuses the loan. All is got back, and it is made.
 pub record IsLoaned (c : ControlState) (y : Lender) (a : Asked) (l : Loaned) (new : ControlState)
     : Type 0 where
-  pub passes : IsTold c.tables y a None
+  pub passes : IsLoanRefusal c.tables y a None
   pub between : ControlState
   pub back : IsGotBack c y.port between
-  pub made : IsMade between y a l new
+  pub made : LoanIsMade between y a l new
 
 -- No test refuses the loan. All is got back, and then somebody has each slot.
 pub record FindsDry (c : ControlState) (y : Lender) (a : Asked) (new : ControlState) : Type 0
   where
-    pub passes : IsTold c.tables y a None
+    pub passes : IsLoanRefusal c.tables y a None
     pub back : IsGotBack c y.port new
     pub full : list_all has_holder (slots_of new.tables.pools y.port.pool) ≡ true
 
 -- A test refuses the loan, and nothing changes.
 pub record IsRefused (c : ControlState) (y : Lender) (a : Asked) (r : Refusal) (new : ControlState)
     : Type 0 where
-  pub told : IsTold c.tables y a (Some r)
+  pub told : IsLoanRefusal c.tables y a (Some r)
   pub left : new ≡ c
 
 -- what the lender's loan comes to, and leaves

@@ -9,7 +9,7 @@ ghost use Rattle.iox_tables.specs.HubLoans.Loans.{loaned_handle};
 ghost use Rattle.iox_tables.specs.HubLending.Keeping.{has_holder};
 ghost use Rattle.iox_control.specs.Controls.{IsControl};
 ghost use Rattle.iox_control.specs.Entries.{handle_state};
-ghost use Rattle.iox_control_lending.specs.Lends.{IsMade, IsPortOf, lane_by, lender_of, on_lane, with_written_out};
+ghost use Rattle.iox_control_lending.specs.Lends.{LoanIsMade, IsPortOf, lane_by, lender_of, on_lane, with_written_out};
 
 use crate::asked::{Asked, Lending, Loaned};
 use crate::lowest::lowest_lane;
@@ -111,7 +111,7 @@ pub(crate) fn lend_free(control: &mut Control, lender: &Lending, asked: Asked) -
         → list_all has_holder (slots_of control.old.tables.pools lender.now.port.pool) ≡ true }
     ensures made { IfSome result (λ l. (p : PortState)
         → port_in control.old.tables.ports lender.now.port.number ≡ Some p
-        → IsMade control.old (lender_of p lender.now) asked l control.new) }
+        → LoanIsMade control.old (lender_of p lender.now) asked l control.new) }
 {
     let lane = lane_for(control, lender);
     let Some(slot) = control.acquire(lender.port.pool) else {

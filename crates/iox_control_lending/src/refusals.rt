@@ -8,7 +8,7 @@ ghost use Rattle.iox_tables.specs.HubStates.Tables.{PortState};
 ghost use Rattle.iox_hub_ports.specs.Ports.{info_of};
 ghost use Rattle.iox_tables.specs.HubLoans.Counts.{requests_on_loan, responses_on_loan, responses_to};
 ghost use Rattle.iox_tables.specs.HubLoans.Lenders.{count_refusal_by, size_refusal};
-ghost use Rattle.iox_control_lending.specs.Lends.{IsAskedOf, IsTold, lender_of, refusal_of};
+ghost use Rattle.iox_control_lending.specs.Lends.{IsAskedOf, IsLoanRefusal, lender_of, refusal_of};
 
 use crate::asked::{Asked, Lending, LoanRefusal};
 use crate::counts::{requests_on_loan, responses_on_loan, responses_to};
@@ -107,7 +107,7 @@ fn has_all_loans(control: &Control, lender: &Lending) -> bool
 pub fn loan_refusal(control: &Control, lender: Lending, asked: Asked) -> Option<LoanRefusal>
     ensures few { result ≡ None → control.now.tables.calls < 2 ^ 56 }
     ensures told { (p : PortState) → lender.port ≡ info_of p
-        → IsTold control.now.tables (lender_of p lender) asked (option_map refusal_of result) }
+        → IsLoanRefusal control.now.tables (lender_of p lender) asked (option_map refusal_of result) }
 {
     if control.calls() >= 1 << 56 {
         return Some(LoanRefusal::CallsSpent);

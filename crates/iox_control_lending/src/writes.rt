@@ -15,7 +15,7 @@ ghost use Rattle.iox_tables.specs.HubLoans.Slots.{with_contents};
 ghost use Rattle.iox_tables.specs.HubLending.Filling.{with_kind};
 ghost use Rattle.iox_control.specs.Controls.{IsControl, with_tables};
 ghost use Rattle.iox_control.specs.Entries.{handle_state};
-ghost use Rattle.iox_control_lending.specs.Fills.{IsLoan, Writes, fits_loan, given_written, kind_after, place_of, reply_of_write};
+ghost use Rattle.iox_control_lending.specs.Fills.{IsLoan, Writes, fits_loan, given_written, kind_after, words_place, reply_of_write};
 
 use crate::asked::{Place, Written};
 use crate::counts::is_request_loan;
@@ -114,7 +114,7 @@ pub fn fill(control: &mut Control, node: u64, number: u64, hint: usize, all: boo
     requires loan { IsLoan control.old.tables node number }
     requires order { IsControl control.old }
     ensures place { (h : HandleState) → handle_in control.old.tables.handles node number ≡ Some h
-        → result ≡ place_of h }
+        → result ≡ words_place h }
     ensures left { (h : HandleState) → handle_in control.old.tables.handles node number ≡ Some h
         → control.new ≡ with_tables control.old
         (with_kind control.old.tables h (kind_after all h.kind)) }

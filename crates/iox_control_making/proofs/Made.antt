@@ -34,7 +34,7 @@ use Rattle.iox_control_making.specs.declared.pipes.Link.{Link}
 use Rattle.iox_control_making.specs.declared.sizes.Sizes.{Sizes}
 use Rattle.iox_control_making.specs.Bounds.{count_of, kept_of, sizes_of}
 use Rattle.iox_control_making.specs.Links.{all_linked}
-use Rattle.iox_control_making.specs.Making.{HasRoomFor, info_asked, not_made, port_asked, with_asked}
+use Rattle.iox_control_making.specs.Making.{HasRoomForPorts, info_asked, not_made, port_asked, with_asked}
 use Rattle.iox_control_making.specs.Parts.{IsOfParts}
 use Rattle.iox_control_making.specs.Sizes.{all_handles, all_lanes, sizes_among, with_kept, with_size}
 use Rattle.iox_control_making.proofs.Counting.{lanes_are_counted, no_more_may_come}
@@ -223,7 +223,7 @@ module _ (t : HubTables) (node : ℕ) (role : Role) (id : UniqueSystemId) (asked
             ∙ ap (λ ps. record t { next_number = t.next_number + 1; ports_made = t.ports_made + 1; ports = ps ++ connected_from t.settings t.ports new ∷ []; pools = pools })
             (all_are_linked t new (names_apart t order) have_room)
 
-        pub control_is : HaveBuffers t.settings → HasRoomFor c1 after → IsControl c2
+        pub control_is : HaveBuffers t.settings → HasRoomForPorts c1 after → IsControl c2
         control_is buffers has =
             subst (λ u. IsControl (record { tables = u; room = c2.room; port_room = c2.port_room })) (sym tables_are)
             (is_control buffers c2.room c2.port_room
@@ -236,7 +236,7 @@ module _ (t : HubTables) (node : ℕ) (role : Role) (id : UniqueSystemId) (asked
 
 -- more room harms nothing
 pub more_room : (c c' : ControlState) (role : Role) (size : ℕ) → IsControl c → c'.tables ≡ c.tables → c.room ≤ c'.room
-    → (c'.room ≡ c.room) ⊎ HasRoomFor c' (with_size (sizes_among c.tables.ports) role size) → IsControl c'
+    → (c'.room ≡ c.room) ⊎ HasRoomForPorts c' (with_size (sizes_among c.tables.ports) role size) → IsControl c'
 more_room c c' role size order same more either =
     subst (λ u. IsControl (record { tables = u; room = c'.room; port_room = c'.port_room })) (sym same)
     (record {
@@ -251,7 +251,7 @@ more_room c c' role size order same more either =
     fits : {a b d : ℕ} → a ≤ b → b ≤ d → a ≤ d
     fits h g = omega (arith, h, g)
 
-    below : (c'.room ≡ c.room) ⊎ HasRoomFor c' (with_size (sizes_among c.tables.ports) role size) → CanCountHolders c'.room c.tables
+    below : (c'.room ≡ c.room) ⊎ HasRoomForPorts c' (with_size (sizes_among c.tables.ports) role size) → CanCountHolders c'.room c.tables
     below (inl e) = subst (λ r. CanCountHolders r c.tables) (sym e) order.holders
     below (inr has) =
         fewer (length c.tables.handles) c'.room (lanes_are_counted c.tables order.order) (more_lanes (sizes_among c.tables.ports) role size)

@@ -27,7 +27,7 @@ use Rattle.iox_control_making.specs.declared.asked.NotMade.{NotMade}
 use Rattle.iox_control_making.specs.declared.asked.NotMade.TheVariants.{DataSegment, PortTag, TooManyPorts}
 use Rattle.iox_control_making.specs.declared.sizes.Sizes.{Sizes}
 use Rattle.iox_control_making.specs.Bounds.{count_of}
-use Rattle.iox_control_making.specs.Making.{IsAsked, count_in, not_made, port_asked, refusal_of, with_asked}
+use Rattle.iox_control_making.specs.Making.{AsksFor, count_in, not_made, port_asked, refusal_of, with_asked}
 use Rattle.iox_control_making.specs.Sizes.{sizes_among}
 use Rattle.iox_control_making.proofs.Made.{not_large}
 use Rattle.iox_control_making.proofs.Vacant.{vacant}
@@ -77,7 +77,7 @@ most_shown : (x : Given) (t : HubTables) (role : Role) → most_ports (limits_of
 most_shown x t Client = refl
 most_shown x t Server = refl
 
-module _ (x : Given) (t : HubTables) (role : Role) (o : Options) (asked : Asked) (is : IsAsked x t role o asked) where
+module _ (x : Given) (t : HubTables) (role : Role) (o : Options) (asked : Asked) (is : AsksFor x t role o asked) where
   refusal_is : (memory : Bool) → making_refused x t role o memory ≡ option_map (refusal_of role) (not_made t role asked memory)
   refusal_is memory =
       shown_by role (nat_le (2 ^ 32) t.ports_made) (is_large (limits_of x t) role o || not memory) (nat_le (most_ports (limits_of x t) role) (count_of role t.ports))

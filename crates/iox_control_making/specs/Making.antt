@@ -29,7 +29,7 @@ use Rattle.iox_control_making.specs.Sizes.{all_handles, all_lanes}
 -- ---- what is asked
 
 -- The options ask for that: whether the port is too large, and if not, what it is.
-pub record IsAsked (x : Given) (t : HubTables) (role : Role) (o : Options) (asked : Asked)
+pub record AsksFor (x : Given) (t : HubTables) (role : Role) (o : Options) (asked : Asked)
     : Type 0
   where
     pub large : asked.large ≡ is_large (limits_of x t) role o
@@ -90,7 +90,7 @@ with_asked t new = with_port_made t new (with_one_more t.pools (pool_made new))
 -- ---- room
 
 -- There is room for all handles of so many ports, and their holders can be counted.
-pub record HasRoomFor (c : ControlState) (s : Sizes) : Type 0 where
+pub record HasRoomForPorts (c : ControlState) (s : Sizes) : Type 0 where
   pub enough :
       all_handles s c.tables.settings.borrowed_responses c.tables.settings.active_requests ≤ c.room
   pub counted : all_lanes s + length c.tables.handles + c.room < 2 ^ 64
@@ -105,7 +105,7 @@ count_in s Server = s.servers
 -- The making is the machine's, whatever there is besides: the words of all other messages stay.
 abbrev pub MakesWhole : HubTables → ℕ → Role → UniqueSystemId → Asked → HubTables → Type 0
 MakesWhole t node role id asked t' =
-    (x words : Given) (o : Options) → IsAsked x t role o asked
+    (x words : Given) (o : Options) → AsksFor x t role o asked
     → OthersStay (place_for_one t.pools) x t.pools words t'.pools
     → IsHubCommand (state_shown x t) node (Create role id o) (port_reply role t.next_number)
     (state_shown (given_made x words t.next_number o.handler) t')
@@ -114,6 +114,6 @@ MakesWhole t node role id asked t' =
 abbrev pub RefusesWhole :
     HubTables → ℕ → Role → UniqueSystemId → Asked → NotMade → HubTables → Type 0
 RefusesWhole t node role id asked r t' =
-    (x : Given) (o : Options) → IsAsked x t role o asked
+    (x : Given) (o : Options) → AsksFor x t role o asked
     → IsHubCommand (state_shown x t) node (Create role id o) (Refused (refusal_of role r))
     (state_shown x t')

@@ -4,7 +4,7 @@ ghost use Rattle.std.specs.Prelude.{Bool, IfErr, IfOk, None, OnErr, OnOk, Some, 
 ghost use Rattle.iox_tables.specs.HubMaking.NewPorts.{pool_made};
 ghost use Rattle.iox_slots.specs.Pools.{place_for_one, with_one_more};
 ghost use Rattle.iox_control.specs.Controls.{IsControl};
-ghost use Rattle.iox_control_making.specs.Making.{HasRoomFor, MakesWhole, RefusesWhole};
+ghost use Rattle.iox_control_making.specs.Making.{HasRoomForPorts, MakesWhole, RefusesWhole};
 ghost use Rattle.iox_control_making.specs.Making.{info_asked, not_made, port_asked, with_asked};
 ghost use Rattle.iox_control_making.specs.Parts.{IsOfParts};
 ghost use Rattle.iox_control_making.specs.Sizes.{sizes_among, with_size};
@@ -98,11 +98,11 @@ fn prepare(
           (pool_made (port_asked control.old.tables node role id asked));
     }) }
     ensures port { OnOk result (0 < control.new.port_room) }
-    ensures handles { OnOk result (HasRoomFor control.new after) }
+    ensures handles { OnOk result (HasRoomForPorts control.new after) }
     ensures more { control.old.room ≤ control.new.room }
     ensures unchanged { OnErr result (control.new.tables ≡ control.old.tables) }
     ensures counted { OnErr result ((control.new.room ≡ control.old.room)
-        ⊎ HasRoomFor control.new after) }
+        ⊎ HasRoomForPorts control.new after) }
 {
     let Some(place) = vacant_place(control.pools()) else {
         return Err(AllocError);

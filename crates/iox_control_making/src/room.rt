@@ -4,7 +4,7 @@ ghost use Rattle.std.specs.Prelude.{IfOk, IfSome, OnErr, OnOk, nat_le, true};
 ghost use Rattle.iox_handles.specs.declared.entry.Entry.{Entry};
 ghost use Rattle.iox_tables.specs.HubMaking.OneByOne.{most_of};
 ghost use Rattle.iox_control.specs.Settings.{settings_of};
-ghost use Rattle.iox_control_making.specs.Making.{HasRoomFor, count_in};
+ghost use Rattle.iox_control_making.specs.Making.{HasRoomForPorts, count_in};
 
 use crate::sizes::{Sizes, handles_of, lanes_of};
 use iox_control::{Control, Settings};
@@ -37,7 +37,7 @@ pub fn is_full(settings: Settings, sizes: Sizes, role: Role) -> bool
 /// counted.
 fn missing_room(control: &Control, sizes: Sizes) -> Option<usize>
     ensures { IfSome result (λ more.
-        HasRoomFor (record (control.now) { room = control.now.room + more }) sizes) }
+        HasRoomForPorts (record (control.now) { room = control.now.room + more }) sizes) }
 {
     let settings = control.settings();
     let handles = handles_of(sizes, settings.borrowed_responses, settings.active_requests)?;
@@ -54,7 +54,7 @@ fn missing_room(control: &Control, sizes: Sizes) -> Option<usize>
 pub fn reserve(control: &mut Control, sizes: Sizes) -> Result<(), AllocError>
     ensures tables { control.new.tables ≡ control.old.tables }
     ensures port { OnOk result (0 < control.new.port_room) }
-    ensures handles { OnOk result (HasRoomFor control.new sizes) }
+    ensures handles { OnOk result (HasRoomForPorts control.new sizes) }
     ensures more { control.old.room ≤ control.new.room }
     ensures unchanged { OnErr result (control.new.room ≡ control.old.room) }
 {

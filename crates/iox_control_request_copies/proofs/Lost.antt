@@ -14,7 +14,7 @@ use Rattle.iox_hub_ports.specs.Ports.{info_in, info_of}
 use Rattle.iox_slots.specs.Pools.{free_count}
 use Rattle.iox_control.specs.Controls.{ControlState, IsControl, with_tables}
 use Rattle.iox_control_copies.specs.Asked.{Asked}
-use Rattle.iox_control_copies.specs.Lends.{FindsDry, IsGotBack, IsPortOf, IsTold, lender_of}
+use Rattle.iox_control_copies.specs.Lends.{FindsDry, IsGotBack, IsPortOf, IsLoanRefusal, lender_of}
 use Rattle.iox_control_copies.proofs.LendLemmas.{few_back}
 use Rattle.iox_control_copies.proofs.PortLemmas.{info_is, request_of_port, there_by}
 use Rattle.iox_control_copies.proofs.SlotLemmas.{all_have_holders}
@@ -30,7 +30,7 @@ port_there c n info order its found = (its.0, there_by c.tables n info its.0 ord
 module _ (c d : ControlState) (n : ℕ) (info : PortInfo) (a : Asked) (order : IsControl c) (its : (p : PortState) × (port_in c.tables.ports n ≡ Some p)) (found : Some info ≡ info_in c.tables.ports n)
     (left : (p : PortState) → port_in c.tables.ports info.number ≡ Some p → d ≡ with_tables c (with_back c.tables p d.tables.pools))
     (back : (p : PortState) → port_in c.tables.ports info.number ≡ Some p → AreGotBack c.tables p d.tables.pools)
-    (told : (p : PortState) → info ≡ info_of p → IsTold c.tables (lender_of p (request_of_port info)) a None)
+    (told : (p : PortState) → info ≡ info_of p → IsLoanRefusal c.tables (lender_of p (request_of_port info)) a None)
   where
     abbrev p : PortState
     p = its.0
@@ -41,8 +41,8 @@ module _ (c d : ControlState) (n : ℕ) (info : PortInfo) (a : Asked) (order : I
     abbrev of : IsPortOf c.tables (request_of_port info)
     of = record { port = p; there = there_by c.tables n info p order.order its.1 found; info = is }
 
-    passes : IsTold c.tables (lender_of_request p 0) a None
-    passes = subst (λ y. IsTold c.tables y a None) (ap (λ (i : PortInfo). lender_of p (request_of_port i)) is) (told p is)
+    passes : IsLoanRefusal c.tables (lender_of_request p 0) a None
+    passes = subst (λ y. IsLoanRefusal c.tables y a None) (ap (λ (i : PortInfo). lender_of p (request_of_port i)) is) (told p is)
 
     got_back : IsGotBack c p d
     got_back = record { left = left p of.there; back = back p of.there }

@@ -20,7 +20,7 @@ use Rattle.iox_control.specs.Controls.{ControlState, with_tables}
 use Rattle.iox_control_copies.specs.Asked.{Asked}
 use Rattle.iox_control_copies.specs.Loaned.{Loaned}
 use Rattle.iox_control_copies.specs.Place.{Place}
-use Rattle.iox_control_copies.specs.Lends.{FindsDry, IsGotBack, IsLoaned, IsRefused, IsTold, refusal_of}
+use Rattle.iox_control_copies.specs.Lends.{FindsDry, IsGotBack, IsLoaned, IsRefused, IsLoanRefusal, refusal_of}
 use Rattle.iox_control_requests.specs.Requests.{is_failing, ways_of, with_request_sent}
 use Rattle.iox_control_requests.specs.Servers.{request_ways}
 use Rattle.iox_control_request_copies.specs.declared.copied.Copied.{Copied}
@@ -95,7 +95,7 @@ pub record IsLentAndSent (c : ControlState) (p : PortState) (a : Asked) (overflo
 -- The request is lost: no test refuses its loan, all is got back, and a slot is free then. Its loan
 -- and the call are counted, and nothing else is left of it.
 pub record IsLost (c : ControlState) (p : PortState) (a : Asked) (new : ControlState) : Type 0 where
-  pub passes : IsTold c.tables (lender_of_request p 0) a None
+  pub passes : IsLoanRefusal c.tables (lender_of_request p 0) a None
   pub between : ControlState
   pub back : IsGotBack c p between
   pub slot : ℕ

@@ -33,7 +33,7 @@ use Rattle.iox_control_request_copies.specs.declared.copied.Copied.TheVariants.{
 use Rattle.iox_control_request_copies.specs.Copies.{AreFailuresOf, Copies, IsLentAndSent, IsLost, given_after_copy, handle_of_loan, loan_of, reply_of_copy, to_fill}
 use Rattle.iox_hub.specs.Copying.{HasCopied, IsAwaited, LeavesCopied, asked_of_copy, copied_stored, hub_with_copies}
 use Rattle.iox_hub.specs.Fits.{SuitsHandle, WordsFit, are_requests_in, count_in, longest_in}
-use Rattle.iox_hub.specs.Growing.{HasRoomFor}
+use Rattle.iox_hub.specs.Growing.{LoanHasRoom}
 use Rattle.iox_backpressure.specs.Failing.{fails_with}
 use Rattle.iox_backpressure.specs.Handlers.{handler_in}
 use Rattle.iox_hub.specs.Hubs.{HubState, IsHub, fails_of, given_by, many_in, state_of_hub, with_control}
@@ -130,7 +130,7 @@ module _ {h : HubState} (hub : IsHub h) (k : ℕ) (ws : List ℕ) (node n : ℕ)
     copy_within = lent_within hub h.request a y n c.client.there of asked l loaned sent.lent
 
     pub copy_room : (spare : Option ℕ)
-        → ((p : PortState) → port_in h.control.tables.ports n ≡ Some p → HasRoomFor h (lender_of_request p 0) h.request k spare)
+        → ((p : PortState) → port_in h.control.tables.ports n ≡ Some p → LoanHasRoom h (lender_of_request p 0) h.request k spare)
         → k ≤ room_with (longest_in h.words place.pool) spare
     copy_room spare room =
         loan_has_room h h.request y n k spare c.client.there (room c.client.port c.client.there) a refl asked l loaned sent.lent

@@ -18,16 +18,16 @@ use Rattle.iox_tables.specs.HubStates.Wirings.{handle_in}
 use Rattle.iox_control.specs.Controls.{ControlState, IsControl}
 use Rattle.iox_control_request_copies.specs.Answered.{Answered}
 use Rattle.iox_control_request_copies.specs.Answered.TheVariants.{Done, Refused, OutOfMemory, Undelivered}
-use Rattle.iox_control_request_copies.specs.Answers.{Answers, IsInLine, IsLost, given_after_copy, reply_of_copy, with_copy_sent}
+use Rattle.iox_control_request_copies.specs.Answers.{CopyComesTo, IsInLine, IsLost, given_after_copy, reply_of_copy, with_copy_sent}
 use Rattle.iox_control_request_copies.specs.Asked.{Asked}
 use Rattle.iox_control_request_copies.specs.Loaned.{Loaned}
 use Rattle.iox_control_request_copies.specs.Place.{Place}
 use Rattle.iox_control_request_copies.specs.LoanRefusal.TheVariants.{WantOfMemory}
 use Rattle.iox_control_request_copies.specs.Lends.{IsAskedOf, IsLoaned, lane_by, on_lane}
 use Rattle.iox_control_request_copies.specs.Responses.{IsFailure}
-use Rattle.iox_hub.specs.Copying.{LeavesAnswered, asked_of_copy, copied_stored, hub_with_copies, place_of}
+use Rattle.iox_hub.specs.Copying.{LeavesAnswered, asked_of_copy, copied_stored, hub_with_copies, copy_place}
 use Rattle.iox_hub.specs.Fits.{WordsFit, are_requests_in, count_in, longest_in}
-use Rattle.iox_hub.specs.Growing.{HasRoomFor}
+use Rattle.iox_hub.specs.Growing.{LoanHasRoom}
 use Rattle.iox_backpressure.specs.Failing.{fails_with}
 use Rattle.iox_backpressure.specs.Handlers.{handler_in}
 use Rattle.iox_hub.specs.Hubs.{HubState, IsHub, fails_of, given_by, many_in, state_of_hub, with_control}
@@ -46,7 +46,7 @@ pub record IsAnswerCall (h : HubState) (k : ℕ) (ws : List ℕ) (node n : ℕ) 
   pub active : IsActive h.control.tables node n
   pub reply :
       (j : HandleState) → handle_in h.control.tables.handles node n ≡ Some j → (p : PortState) → port_in h.control.tables.ports j.port ≡ Some p
-      → Answers h.control (lender_of_response h.control.tables j p) (asked_of_copy h.response k) (fails_of h p (way_to_client h.control.tables j)) result new
+      → CopyComesTo h.control (lender_of_response h.control.tables j p) (asked_of_copy h.response k) (fails_of h p (way_to_client h.control.tables j)) result new
   pub order : IsControl new
   pub whole :
       (x : Given) → IsWholeCall (state_of_hub x h) node (SendCopy n (payload_of Server k ws)) (reply_of_copy result)
@@ -56,7 +56,7 @@ module _ {h : HubState} (hub : IsHub h) (j : HandleState) (node n : ℕ) (found 
     (told : (p : PortState) → port_in h.control.tables.ports j.port ≡ Some p → fails ≡ fails_with (handler_in h.handlers j.port) p.strategy j.port j.client) where
   pub answer_call : (a : Asked) (k : ℕ) (ws : List ℕ) (new : ControlState) (result : Answered) → a ≡ asked_of_copy h.response k → IsActive h.control.tables node n
       → ((j : HandleState) (p : PortState) → handle_in h.control.tables.handles node n ≡ Some j → port_in h.control.tables.ports j.port ≡ Some p
-      → Answers h.control (lender_of_response h.control.tables j p) a fails result new) → IsControl new
+      → CopyComesTo h.control (lender_of_response h.control.tables j p) a fails result new) → IsControl new
       → ((j : HandleState) → handle_in h.control.tables.handles node n ≡ Some j → (x : Given) (q : Payload) → IsAskedOf x.response a → IsFailure x h.control.tables j fails
       → q.role ≡ Server → q.elements ≡ Some a.elements
       → IsWholeCall (state_shown x h.control.tables) node (SendCopy n q) (reply_of_copy result) (state_shown (given_after_copy x q result) new.tables))
@@ -64,9 +64,9 @@ module _ {h : HubState} (hub : IsHub h) (j : HandleState) (node n : ℕ) (found 
   answer_call a k ws new result same is left order whole = record {
     active = is;
     reply = λ i at p there.
-        subst (λ f. Answers h.control (lender_of_response h.control.tables i p) (asked_of_copy h.response k) f result new)
+        subst (λ f. CopyComesTo h.control (lender_of_response h.control.tables i p) (asked_of_copy h.response k) f result new)
         (response_said hub j fails told i (same_Some j i (found ∙ at)) p there)
-        (subst (λ b. Answers h.control (lender_of_response h.control.tables i p) b fails result new) same (left i p at there));
+        (subst (λ b. CopyComesTo h.control (lender_of_response h.control.tables i p) b fails result new) same (left i p at there));
     order = order;
     whole = λ x.
         whole j (sym found) (given_by x h) (payload_of Server k ws)
@@ -76,7 +76,7 @@ module _ {h : HubState} (hub : IsHub h) (j : HandleState) (node n : ℕ) (found 
 
 -- what it comes to at the active request's own port
 pub left_of : {h : HubState} {k : ℕ} {ws : List ℕ} {node n : ℕ} {new : ControlState} {result : Answered} (c : IsAnswerCall h k ws node n new result)
-    → Answers h.control (lender_of_response h.control.tables c.active.handle c.active.port) (asked_of_copy h.response k) (fails_of h c.active.port (way_to_client h.control.tables c.active.handle)) result new
+    → CopyComesTo h.control (lender_of_response h.control.tables c.active.handle c.active.port) (asked_of_copy h.response k) (fails_of h c.active.port (way_to_client h.control.tables c.active.handle)) result new
 left_of c = c.reply c.active.handle c.active.named.there c.active.port c.active.there
 
 module _ {h : HubState} (hub : IsHub h) (k : ℕ) (ws : List ℕ) (node n : ℕ) (new : ControlState) where
@@ -128,7 +128,7 @@ module _ {h : HubState} (hub : IsHub h) (k : ℕ) (ws : List ℕ) (node n : ℕ)
     answer_within =
         subst (λ p. place.slot < count_in h.words p) (sym line.pool) (lent_within hub h.response a y c.active.handle.port c.active.there of asked l loaned as_loan)
 
-    pub answer_room : (spare : Option ℕ) → HasRoomFor h y h.response k spare → k ≤ room_with (longest_in h.words place.pool) spare
+    pub answer_room : (spare : Option ℕ) → LoanHasRoom h y h.response k spare → k ≤ room_with (longest_in h.words place.pool) spare
     answer_room spare room =
         subst (λ p. k ≤ room_with (longest_in h.words p) spare) (sym line.pool)
         (loan_has_room h h.response y c.active.handle.port k spare c.active.there room a refl asked l loaned as_loan)
@@ -184,11 +184,11 @@ module _ {h : HubState} (hub : IsHub h) (k : ℕ) (ws : List ℕ) (node n : ℕ)
       answer_left = ap (λ (us : List (Option Carried)). record h { control = new; words = us }) put
 
   -- the same, where the result is said otherwise
-  module _ (r : Answered) (place : Place) (at : place_of r ≡ Some place) (c : IsAnswerCall h k ws node n new r) where
+  module _ (r : Answered) (place : Place) (at : copy_place r ≡ Some place) (c : IsAnswerCall h k ws node n new r) where
     pub done_is : r ≡ Done (Some place)
     done_is = step r at
       where
-        step : (q : Answered) → place_of q ≡ Some place → q ≡ Done (Some place)
+        step : (q : Answered) → copy_place q ≡ Some place → q ≡ Done (Some place)
         step (Done o) e = ap (λ p. Done p) e
         step (Refused s) e = absurd (none-some place e)
         step OutOfMemory e = absurd (none-some place e)
@@ -202,7 +202,7 @@ module _ {h : HubState} (hub : IsHub h) (k : ℕ) (ws : List ℕ) (node n : ℕ)
 
     pub put_room : (spare : Option ℕ)
         → ((j : HandleState) (p : PortState) → handle_in h.control.tables.handles node n ≡ Some j → port_in h.control.tables.ports j.port ≡ Some p
-        → HasRoomFor h (lender_of_response h.control.tables j p) h.response k spare)
+        → LoanHasRoom h (lender_of_response h.control.tables j p) h.response k spare)
         → k ≤ room_with (longest_in h.words place.pool) spare
     put_room spare room =
         answer_room place as_done spare (room as_done.active.handle as_done.active.port as_done.active.named.there as_done.active.there)
@@ -231,8 +231,8 @@ module _ {h : HubState} (hub : IsHub h) (k : ℕ) (ws : List ℕ) (node n : ℕ)
   abbrev pub IsNone : Answered → Type 0
   IsNone result = (place : Place) → result ≡ Done (Some place) → ⊥
 
-  pub none_is : (r : Answered) → place_of r ≡ None → IsNone r
-  none_is r none place e = none-some place (sym none ∙ ap place_of e)
+  pub none_is : (r : Answered) → copy_place r ≡ None → IsNone r
+  none_is r none place e = none-some place (sym none ∙ ap copy_place e)
 
   pub other_whole : (result : Answered) → IsNone result → IsAnswerCall h k ws node n new result
       → (x : Given) → IsWholeCall (state_of_hub x h) node (SendCopy n (payload_of Server k ws)) (reply_of_copy result) (state_of_hub x (with_control h new))

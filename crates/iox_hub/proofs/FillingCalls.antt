@@ -26,7 +26,7 @@ use Rattle.iox_tables.specs.HubLending.Filling.{with_kind}
 use Rattle.iox_tables.proofs.HubLending.Filled.{loans_are_of_one_handle}
 use Rattle.iox_control.specs.Controls.{ControlState, IsControl, with_tables}
 use Rattle.iox_control_request_copies.specs.Place.{Place}
-use Rattle.iox_control_request_copies.specs.Fills.{IsLoan, kind_after, place_of}
+use Rattle.iox_control_request_copies.specs.Fills.{IsLoan, kind_after, words_place}
 use Rattle.iox_hub.specs.Fillings.{FillsLoan, IsFill, SuitsShape, filling_of, with_filling}
 use Rattle.iox_hub.specs.Fits.{SuitsHandle, WordsFit, are_requests_in, carried_in, count_in, is_full_loan}
 use Rattle.iox_hub.specs.Hubs.{HubState, IsHub, given_by, many_in, state_of_hub}
@@ -111,7 +111,7 @@ module _ {h : HubState} {role : Role} {node n : ℕ} {all : Bool} {new : Control
   abbrev has : HandleState → Bool
   has j = is_place k.pool k.slot j.pool j.slot
 
-  at_place : place ≡ place_of k
+  at_place : place ≡ words_place k
   at_place = c.fill.at k c.loan.there
 
   left : new ≡ with_tables h.control (with_kind t k kind)

@@ -11,7 +11,7 @@ use Rattle.iox_model.specs.Handles.{is_request_loan}
 use Rattle.iox_model.specs.WholeCalls.{is_uninit}
 use Rattle.iox_tables.specs.HubBooks.Handles.{is_loan}
 use Rattle.iox_control_request_copies.specs.Fills.{kind_after}
-use Rattle.iox_hub.specs.Fits.{is_full_loan, is_of_request}
+use Rattle.iox_hub.specs.Fits.{is_full_loan, comes_with_request}
 use Rattle.iox_hub.proofs.LendingWrites.{is_loan_of}
 
 -- a loan that is filled, all or some of it, is still that loan
@@ -31,7 +31,7 @@ still_after all kinds.ActiveRequest e = absurd (true≢false (sym e))
 still_after all kinds.Response e = absurd (true≢false (sym e))
 
 -- it is of a request if it was
-pub after_of_request : (all : Bool) (kind : Kind) → is_loan kind ≡ true → is_of_request (kind_after all kind) ≡ is_of_request kind
+pub after_of_request : (all : Bool) (kind : Kind) → is_loan kind ≡ true → comes_with_request (kind_after all kind) ≡ comes_with_request kind
 after_of_request true kinds.RequestMutUninit e = refl
 after_of_request true kinds.RequestMut e = refl
 after_of_request true kinds.ResponseMutUninit e = refl

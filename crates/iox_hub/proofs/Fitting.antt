@@ -39,7 +39,7 @@ use Rattle.iox_tables.proofs.HubBooks.Structures.{pool_before, same_slot}
 use Rattle.iox_tables.proofs.HubBooks.Used.{lane_below}
 use Rattle.iox_tables.proofs.HubBooks.Visited.{GotFrom, got_is}
 use Rattle.iox_control.specs.Controls.{ControlState, IsButHolders, with_hint, with_tables}
-use Rattle.iox_hub.specs.Fits.{IsOneOfOne, SuitsHandle, WordsFit, are_requests_in, count_in, is_full_loan, is_of_request, longest_in, many_by}
+use Rattle.iox_hub.specs.Fits.{IsOneOfOne, SuitsHandle, WordsFit, are_requests_in, count_in, is_full_loan, comes_with_request, longest_in, many_by}
 use Rattle.iox_hub.specs.Words.{Carried}
 use Rattle.iox_hub.proofs.GoneFits.{gone_fit_alike}
 
@@ -103,7 +103,7 @@ module _ {many : Bool × Bool} (words : List (Option Carried)) (t : HubTables) (
   IsSuited node role n AtLimit = ⊤
   IsSuited node role n Nothing = ⊤
 
-  suits : (r : Role) → is_client (other_role r) ≡ is_of_request (if is_client r then kinds.Response else kinds.ActiveRequest)
+  suits : (r : Role) → is_client (other_role r) ≡ comes_with_request (if is_client r then kinds.Response else kinds.ActiveRequest)
   suits Client = refl
   suits Server = refl
 

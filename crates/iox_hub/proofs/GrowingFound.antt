@@ -14,7 +14,7 @@ use Rattle.iox_hub_ports.specs.Ports.{info_in, info_of}
 use Rattle.iox_control_request_copies.specs.Asked.{Asked}
 use Rattle.iox_control_request_copies.specs.Lends.{IsAskedOf, MayBeMade}
 use Rattle.iox_hub.specs.Fits.{are_requests_in, count_in}
-use Rattle.iox_hub.specs.Growing.{HasRoomFor, WantsRoom}
+use Rattle.iox_hub.specs.Growing.{LoanHasRoom, WantsRoom}
 use Rattle.iox_hub.specs.Hubs.{HasValue, HubState, IsHub, given_by}
 use Rattle.iox_hub.proofs.GrowingRoom.{short_has_room, still_has_room, unmade_has_room}
 use Rattle.iox_hub.proofs.LendingNamed.{active_of_hub, client_of_hub}
@@ -35,13 +35,13 @@ found_in ports ts same n o told q is = sym (ap (λ ps. info_in ps n) same) ∙ s
 
 module _ {h : HubState} (hub : IsHub h) (shape : Shape) (y : Lender) (n k : ℕ) (there : port_in h.control.tables.ports n ≡ Some y.port)
     (of : (x : Given) → shape_in (given_by x h) h.control.tables y.port ≡ shape) (q : PortInfo) (is : info_of y.port ≡ q) where
-  still_room : not q.grows ≡ true → HasRoomFor h y shape k None
+  still_room : not q.grows ≡ true → LoanHasRoom h y shape k None
   still_room e = still_has_room hub shape y n k there of (ap (λ (i : PortInfo). i.grows) is ∙ not_true q.grows e)
 
-  short_room : k ≤ q.longest → HasRoomFor h y shape k None
+  short_room : k ≤ q.longest → LoanHasRoom h y shape k None
   short_room low = short_has_room hub shape y n k there of (subst (λ (i : PortInfo). k ≤ i.longest) (sym is) low)
 
-  unmade_room : (a : Asked) → a.elements ≡ k → IsAskedOf shape a → (MayBeMade h.control y a → ⊥) → HasRoomFor h y shape k None
+  unmade_room : (a : Asked) → a.elements ≡ k → IsAskedOf shape a → (MayBeMade h.control y a → ⊥) → LoanHasRoom h y shape k None
   unmade_room a count asked never = unmade_has_room hub shape y n k there of a count asked never
 
   wants_so : (a : Asked) → a.elements ≡ k → IsAskedOf shape a → not q.grows ≡ false → q.longest < k → MayBeMade h.control y a → WantsRoom h y shape k
@@ -91,17 +91,17 @@ module _ {h : HubState} (now : HubState) (same : h ≡ now) (hub : IsHub h) (nod
       subst (λ (z : PortState). (x : Given) × IsAskedOf (shape_in x h.control.tables z) a) (same_Some client.port p (sym client.there ∙ there))
       (given_by hub.reached.0 h, subst (λ (s : Shape). IsAskedOf s a) (sym (client_of_it hub.reached.0)) asked)
 
-  pub still_client : not q.grows ≡ true → (p : PortState) → port_in now.control.tables.ports n ≡ Some p → HasRoomFor now (lender_of_request p 0) now.request k None
-  still_client e = client_lift (λ d z. HasRoomFor d z d.request k None) (still_room hub h.request client_lender n k client.there client_of_it q client_is e)
+  pub still_client : not q.grows ≡ true → (p : PortState) → port_in now.control.tables.ports n ≡ Some p → LoanHasRoom now (lender_of_request p 0) now.request k None
+  still_client e = client_lift (λ d z. LoanHasRoom d z d.request k None) (still_room hub h.request client_lender n k client.there client_of_it q client_is e)
 
-  pub short_client : k ≤ q.longest → (p : PortState) → port_in now.control.tables.ports n ≡ Some p → HasRoomFor now (lender_of_request p 0) now.request k None
-  short_client low = client_lift (λ d z. HasRoomFor d z d.request k None) (short_room hub h.request client_lender n k client.there client_of_it q client_is low)
+  pub short_client : k ≤ q.longest → (p : PortState) → port_in now.control.tables.ports n ≡ Some p → LoanHasRoom now (lender_of_request p 0) now.request k None
+  short_client low = client_lift (λ d z. LoanHasRoom d z d.request k None) (short_room hub h.request client_lender n k client.there client_of_it q client_is low)
 
   pub unmade_client : (a : Asked) → a.elements ≡ k → IsAskedOf h.request a
       → ((p : PortState) → port_in h.control.tables.ports n ≡ Some p → MayBeMade h.control (lender_of_request p 0) a → ⊥)
-      → (p : PortState) → port_in now.control.tables.ports n ≡ Some p → HasRoomFor now (lender_of_request p 0) now.request k None
+      → (p : PortState) → port_in now.control.tables.ports n ≡ Some p → LoanHasRoom now (lender_of_request p 0) now.request k None
   unmade_client a count asked never =
-      client_lift (λ d z. HasRoomFor d z d.request k None) (unmade_room hub h.request client_lender n k client.there client_of_it q client_is a count asked (never client.port client.there))
+      client_lift (λ d z. LoanHasRoom d z d.request k None) (unmade_room hub h.request client_lender n k client.there client_of_it q client_is a count asked (never client.port client.there))
 
   module _ (a : Asked) (count : a.elements ≡ k) (asked : IsAskedOf h.request a)
       (may : (p : PortState) → port_in h.control.tables.ports n ≡ Some p → MayBeMade h.control (lender_of_request p 0) a) where
@@ -161,19 +161,19 @@ module _ {h : HubState} (now : HubState) (same : h ≡ now) (hub : IsHub h) (nod
   abbrev AllHaveRoom : Type 0
   AllHaveRoom =
       (j : HandleState) (p : PortState) → handle_in now.control.tables.handles node n ≡ Some j → port_in now.control.tables.ports j.port ≡ Some p
-      → HasRoomFor now (lender_of_response now.control.tables j p) now.response k None
+      → LoanHasRoom now (lender_of_response now.control.tables j p) now.response k None
 
   pub still_active : not q.grows ≡ true → AllHaveRoom
-  still_active g = active_lift (λ d z. HasRoomFor d z d.response k None) (still_room hub h.response active_lender active.handle.port k active.there active_of_it q active_is g)
+  still_active g = active_lift (λ d z. LoanHasRoom d z d.response k None) (still_room hub h.response active_lender active.handle.port k active.there active_of_it q active_is g)
 
   pub short_active : k ≤ q.longest → AllHaveRoom
-  short_active low = active_lift (λ d z. HasRoomFor d z d.response k None) (short_room hub h.response active_lender active.handle.port k active.there active_of_it q active_is low)
+  short_active low = active_lift (λ d z. LoanHasRoom d z d.response k None) (short_room hub h.response active_lender active.handle.port k active.there active_of_it q active_is low)
 
   module _ (a : Asked) (count : a.elements ≡ k) (asked : IsAskedOf h.response a) where
     pub unmade_active : ((j : HandleState) (p : PortState) → handle_in h.control.tables.handles node n ≡ Some j → port_in h.control.tables.ports j.port ≡ Some p
         → MayBeMade h.control (lender_of_response h.control.tables j p) a → ⊥) → AllHaveRoom
     unmade_active never =
-        active_lift (λ d z. HasRoomFor d z d.response k None)
+        active_lift (λ d z. LoanHasRoom d z d.response k None)
         (unmade_room hub h.response active_lender active.handle.port k active.there active_of_it q active_is a count asked (never active.handle active.port active.named.there active.there))
 
     module _ (may : (j : HandleState) (p : PortState) → handle_in h.control.tables.handles node n ≡ Some j → port_in h.control.tables.ports j.port ≡ Some p

@@ -24,7 +24,7 @@ use Rattle.iox_control_request_copies.specs.Lends.{IsAskedOf, IsLoaned, MayBeMad
 use Rattle.iox_control_request_copies.proofs.Foretold.{made_may_be}
 use Rattle.iox_hub.specs.declared.words.PoolWords.{PoolWords}
 use Rattle.iox_hub.specs.Fits.{carried_in, longest_in}
-use Rattle.iox_hub.specs.Growing.{HasRoomFor, WouldLend}
+use Rattle.iox_hub.specs.Growing.{LoanHasRoom, WouldLend}
 use Rattle.iox_hub.specs.Hubs.{HasValue, HubState, IsHub, given_by}
 use Rattle.iox_hub.specs.Words.{Carried, all_carried, carried}
 use Rattle.iox_hub.proofs.LendingNamed.{active_of_hub, client_of_hub}
@@ -85,7 +85,7 @@ test_never_wants x t y k e =
 
 -- ---- a loan that was made has room
 
-pub loan_has_room : (h : HubState) (shape : Shape) (y : Lender) (n k : ℕ) (spare : Option ℕ) → port_in h.control.tables.ports n ≡ Some y.port → HasRoomFor h y shape k spare
+pub loan_has_room : (h : HubState) (shape : Shape) (y : Lender) (n k : ℕ) (spare : Option ℕ) → port_in h.control.tables.ports n ≡ Some y.port → LoanHasRoom h y shape k spare
     → (a : Asked) → a.elements ≡ k → IsAskedOf shape a → (l : Loaned) (new : ControlState) → IsLoaned h.control y a l new
     → k ≤ room_with (longest_in h.words l.pool) spare
 loan_has_room h shape y n k spare there room a count of l new is =
@@ -95,27 +95,27 @@ loan_has_room h shape y n k spare there room a count of l new is =
 -- ---- as it was met
 
 module _ {h : HubState} (now : HubState) (same : h ≡ now) (node n k : ℕ) (spare : Option ℕ) where
-  pub client_rooms : ((p : PortState) → port_in now.control.tables.ports n ≡ Some p → HasRoomFor now (lender_of_request p 0) now.request k spare)
-      → (p : PortState) → port_in h.control.tables.ports n ≡ Some p → HasRoomFor h (lender_of_request p 0) h.request k spare
+  pub client_rooms : ((p : PortState) → port_in now.control.tables.ports n ≡ Some p → LoanHasRoom now (lender_of_request p 0) now.request k spare)
+      → (p : PortState) → port_in h.control.tables.ports n ≡ Some p → LoanHasRoom h (lender_of_request p 0) h.request k spare
   client_rooms room =
-      subst (λ (d : HubState). (p : PortState) → port_in d.control.tables.ports n ≡ Some p → HasRoomFor d (lender_of_request p 0) d.request k spare) (sym same) room
+      subst (λ (d : HubState). (p : PortState) → port_in d.control.tables.ports n ≡ Some p → LoanHasRoom d (lender_of_request p 0) d.request k spare) (sym same) room
 
   -- the client's message has room, if a loan of it was made
   module _ (hub : IsHub h) (client : HasValue now node n kinds.Client) (a : Asked) (count : a.elements ≡ k) (of : IsAskedOf h.request a) (l : Loaned) (new : ControlState)
       (made : (p : PortState) → port_in h.control.tables.ports n ≡ Some p → IsLoaned h.control (lender_of_request p 0) a l new) where
-    pub request_has_room : ((p : PortState) → port_in now.control.tables.ports n ≡ Some p → HasRoomFor now (lender_of_request p 0) now.request k spare)
+    pub request_has_room : ((p : PortState) → port_in now.control.tables.ports n ≡ Some p → LoanHasRoom now (lender_of_request p 0) now.request k spare)
         → k ≤ room_with (longest_in h.words l.pool) spare
     request_has_room room =
         let c : IsClient h.control.tables node n = client_of_hub hub now same node n client in
         loan_has_room h h.request (lender_of_request c.port 0) n k spare c.there (client_rooms room c.port c.there) a count of l new (made c.port c.there)
 
   pub active_rooms : ((j : HandleState) (p : PortState) → handle_in now.control.tables.handles node n ≡ Some j → port_in now.control.tables.ports j.port ≡ Some p
-      → HasRoomFor now (lender_of_response now.control.tables j p) now.response k spare)
+      → LoanHasRoom now (lender_of_response now.control.tables j p) now.response k spare)
       → (j : HandleState) (p : PortState) → handle_in h.control.tables.handles node n ≡ Some j → port_in h.control.tables.ports j.port ≡ Some p
-      → HasRoomFor h (lender_of_response h.control.tables j p) h.response k spare
+      → LoanHasRoom h (lender_of_response h.control.tables j p) h.response k spare
   active_rooms room =
       subst (λ (d : HubState). (j : HandleState) (p : PortState) → handle_in d.control.tables.handles node n ≡ Some j → port_in d.control.tables.ports j.port ≡ Some p
-      → HasRoomFor d (lender_of_response d.control.tables j p) d.response k spare) (sym same) room
+      → LoanHasRoom d (lender_of_response d.control.tables j p) d.response k spare) (sym same) room
 
   -- and so has that of a response
   module _ (hub : IsHub h) (active : HasValue now node n kinds.ActiveRequest) (a : Asked) (count : a.elements ≡ k) (of : IsAskedOf h.response a) (l : Loaned)
@@ -123,7 +123,7 @@ module _ {h : HubState} (now : HubState) (same : h ≡ now) (node n k : ℕ) (sp
       (made : (j : HandleState) (p : PortState) → handle_in h.control.tables.handles node n ≡ Some j → port_in h.control.tables.ports j.port ≡ Some p
       → IsLoaned h.control (lender_of_response h.control.tables j p) a l new) where
     pub response_has_room : ((j : HandleState) (p : PortState) → handle_in now.control.tables.handles node n ≡ Some j → port_in now.control.tables.ports j.port ≡ Some p
-        → HasRoomFor now (lender_of_response now.control.tables j p) now.response k spare)
+        → LoanHasRoom now (lender_of_response now.control.tables j p) now.response k spare)
         → k ≤ room_with (longest_in h.words l.pool) spare
     response_has_room room =
         let c : IsActive h.control.tables node n = active_of_hub hub now same node n active in
@@ -135,11 +135,11 @@ module _ {h : HubState} (now : HubState) (same : h ≡ now) (node n k : ℕ) (sp
 module _ {h : HubState} (hub : IsHub h) (shape : Shape) (y : Lender) (n k : ℕ) (there : port_in h.control.tables.ports n ≡ Some y.port)
     (of : (x : Given) → shape_in (given_by x h) h.control.tables y.port ≡ shape) where
   -- messages that are no longer than the greatest length have their own
-  pub short_has_room : k ≤ y.port.longest → HasRoomFor h y shape k None
+  pub short_has_room : k ≤ y.port.longest → LoanHasRoom h y shape k None
   short_has_room low loan = let below = hub.words.longest n y.port there in omega (arith, low, below)
 
   -- so have all of a port whose messages do not grow
-  pub still_has_room : y.port.grows ≡ false → HasRoomFor h y shape k None
+  pub still_has_room : y.port.grows ≡ false → LoanHasRoom h y shape k None
   still_has_room still loan =
       let x : Given = given_by hub.reached.0 h in
       let of_it : IsAskedOf (shape_in x h.control.tables y.port) loan.asked = subst (λ (z : Shape). IsAskedOf z loan.asked) (sym (of hub.reached.0)) loan.of in
@@ -168,11 +168,11 @@ module _ {h : HubState} (hub : IsHub h) (shape : Shape) (y : Lender) (n k : ℕ)
   }
 
   -- there is nothing to have room for where no such loan would be made
-  pub unmade_has_room : (a : Asked) → a.elements ≡ k → IsAskedOf shape a → (MayBeMade h.control y a → ⊥) → HasRoomFor h y shape k None
+  pub unmade_has_room : (a : Asked) → a.elements ≡ k → IsAskedOf shape a → (MayBeMade h.control y a → ⊥) → LoanHasRoom h y shape k None
   unmade_has_room a count of_a never loan = absurd (never (would_be_made a count of_a loan))
 
   -- and what is given suffices
-  pub spare_has_room : (spare : ℕ) → k ≤ spare → HasRoomFor h y shape k (Some spare)
+  pub spare_has_room : (spare : ℕ) → k ≤ spare → LoanHasRoom h y shape k (Some spare)
   spare_has_room spare low loan = omega (arith, low)
 
 -- ---- the words that there are

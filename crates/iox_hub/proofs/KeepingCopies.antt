@@ -26,7 +26,7 @@ use Rattle.iox_control_request_copies.specs.declared.copied.Copied.TheVariants a
 use Rattle.iox_control_request_copies.specs.Lends.{IsGotBack, on_lane}
 use Rattle.iox_control_request_copies.specs.Place.{Place}
 use Rattle.iox_control_request_copies.specs.Requests.{ways_of, with_request_sent}
-use Rattle.iox_hub.specs.Copying.{asked_of_copy, place_of}
+use Rattle.iox_hub.specs.Copying.{asked_of_copy, copy_place}
 use Rattle.iox_hub.specs.Hubs.{HubState, IsHub, with_control}
 use Rattle.iox_hub.specs.Keeping.{KeepsAll}
 use Rattle.iox_hub.specs.Lending.{with_message}
@@ -211,7 +211,7 @@ module _ {h : HubState} (hub : IsHub h) (k : ℕ) (ws : List ℕ) (node n : ℕ)
       tables = ap (λ (d : ControlState). d.tables) line.left
 
   -- the same, where the result is said otherwise
-  pub response_keeps_all : (r : Answered) (place : Place) → place_of r ≡ Some place → IsAnswerCall h k ws node n new r → (words : List (Option Carried)) (z : Stored)
+  pub response_keeps_all : (r : Answered) (place : Place) → copy_place r ≡ Some place → IsAnswerCall h k ws node n new r → (words : List (Option Carried)) (z : Stored)
       → words ≡ with_message h.words place.pool place.slot z → KeepsAll h (record h { control = new; words = words })
   response_keeps_all r place at c =
       in_line_keeps place (subst (λ q. IsAnswerCall h k ws node n new q) (done_is hub k ws node n new r place at c) c)

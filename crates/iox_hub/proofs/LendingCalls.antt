@@ -26,7 +26,7 @@ use Rattle.iox_control_request_copies.specs.Lent.{Lent}
 use Rattle.iox_control_request_copies.specs.Lent.TheVariants as lents
 use Rattle.iox_control_request_copies.specs.Lends.{FindsDry, IsAskedOf, IsLoaned, IsRefused, Lends, first_contents, given_after, refusal_of, reply_of_loan}
 use Rattle.iox_hub.specs.Fits.{are_requests_in, count_in, longest_in}
-use Rattle.iox_hub.specs.Growing.{HasRoomFor}
+use Rattle.iox_hub.specs.Growing.{LoanHasRoom}
 use Rattle.iox_hub.specs.Hubs.{HubState, IsHub, given_by, state_of_hub, with_control}
 use Rattle.iox_hub.specs.Lending.{HasLent, IsFresh, LeavesLent, first_stored, with_message}
 use Rattle.iox_hub.specs.Words.{Carried, stored_in}
@@ -48,7 +48,7 @@ module _ {h : HubState} (hub : IsHub h) (shape : Shape) (uninit : Bool) (k : ℕ
     pub made_within : l.slot < count_in h.words l.pool
     made_within = lent_within hub shape a y n there of asked l new is
 
-    pub made_room : (spare : Option ℕ) → HasRoomFor h y shape k spare → k ≤ room_with (longest_in h.words l.pool) spare
+    pub made_room : (spare : Option ℕ) → LoanHasRoom h y shape k spare → k ≤ room_with (longest_in h.words l.pool) spare
     made_room spare room = loan_has_room h shape y n k spare there room a count asked l new is
 
     pub made_of : (b : Bool) → is_client y.port.role ≡ b → are_requests_in h.words l.pool ≡ b
@@ -182,7 +182,7 @@ module _ {h : HubState} (hub : IsHub h) (role : Role) (shape : Shape) (uninit : 
     pub call_within : l.slot < count_in h.words l.pool
     call_within = made_within hub shape uninit k c.asked c.count c.unfilled c.is_asked c.lender c.port c.there c.of new l c.left
 
-    pub call_room : (spare : Option ℕ) → HasRoomFor h c.lender shape k spare → k ≤ room_with (longest_in h.words l.pool) spare
+    pub call_room : (spare : Option ℕ) → LoanHasRoom h c.lender shape k spare → k ≤ room_with (longest_in h.words l.pool) spare
     call_room = made_room hub shape uninit k c.asked c.count c.unfilled c.is_asked c.lender c.port c.there c.of new l c.left
 
     pub call_of : are_requests_in h.words l.pool ≡ is_client role

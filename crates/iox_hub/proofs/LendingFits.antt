@@ -10,7 +10,7 @@ use Rattle.iox_tables.specs.HubStates.Ends.{OfEachHandle}
 use Rattle.iox_tables.specs.HubStates.Tables.{HandleState, HubTables, PoolState, PortState, SlotState, pool_at, port_in, senders_of, slot_at, slots_of}
 use Rattle.iox_tables.specs.HubLoans.Slots.{is_place}
 use Rattle.iox_tables.proofs.HubLoans.Placed.{or_false}
-use Rattle.iox_hub.specs.Fits.{SuitsHandle, WordsFit, are_requests_in, count_in, is_full_loan, is_of_request, longest_in}
+use Rattle.iox_hub.specs.Fits.{SuitsHandle, WordsFit, are_requests_in, count_in, is_full_loan, comes_with_request, longest_in}
 use Rattle.iox_hub.specs.Lending.{with_message}
 use Rattle.iox_hub.specs.Words.{Carried, stored_in}
 use Rattle.iox_hub.proofs.Fitting.{one_as}
@@ -52,7 +52,7 @@ module _ (words : List (Option Carried)) (pool k : ℕ) (z : Stored) where
   }
 
   -- whatever is filled, in the handle's own slot or in another
-  pub suits_full : k < count_in words pool → z.filled ≡ z.elements → (h : HandleState) → are_requests_in words h.pool ≡ is_of_request h.kind
+  pub suits_full : k < count_in words pool → z.filled ≡ z.elements → (h : HandleState) → are_requests_in words h.pool ≡ comes_with_request h.kind
       → (is_full_loan h.kind ≡ true → (stored_in words h.pool h.slot).filled ≡ (stored_in words h.pool h.slot).elements) → SuitsHandle new h
   suits_full low all h kind full = record {
     kind = requests_new words pool k z h.pool ∙ kind;

@@ -10,7 +10,7 @@ use Rattle.iox_tables.specs.HubStates.Ends.{OfEachHandle, ShowsSame}
 use Rattle.iox_tables.specs.HubStates.States.{Given, handle_of, message_of, state_shown}
 use Rattle.iox_tables.specs.HubStates.Tables.{HandleState, HubTables}
 use Rattle.iox_tables.proofs.HubStates.Ends.{free_slots_may_change}
-use Rattle.iox_tables.specs.HubLoans.Slots.{Contents, is_place, put_place, with_contents}
+use Rattle.iox_tables.specs.HubLoans.Slots.{SlotContents, is_place, put_place, with_contents}
 use Rattle.iox_control.specs.Controls.{ControlState, IsControl}
 use Rattle.iox_hub.specs.Fits.{WordsFit, count_in}
 use Rattle.iox_hub.specs.Hubs.{HubState, IsHub, given_by, many_in, state_of_hub}
@@ -19,7 +19,7 @@ use Rattle.iox_hub.specs.Words.{stored_in}
 use Rattle.iox_hub.proofs.LendingWords.{stored_put}
 
 -- the words of a message, as the machine has them
-abbrev pub contents_in : Stored → Contents
+abbrev pub contents_in : Stored → SlotContents
 contents_in z = record { user = z.user; payload = z.payload; filled = z.filled }
 
 -- the hub with these tables, and another message in that slot
@@ -49,7 +49,7 @@ abbrev pub IsNoUnfilled : ℕ → ℕ → HandleState → Type 0
 IsNoUnfilled pool k h = is_place pool k h.pool h.slot ≡ true → is_uninit h.kind ≡ false
 
 -- how many elements are filled is read of unfilled loans alone
-module _ (x : Given) (t : HubTables) (pool k : ℕ) (w : Contents) (filled : ℕ) where
+module _ (x : Given) (t : HubTables) (pool k : ℕ) (w : SlotContents) (filled : ℕ) where
   abbrev old : Given
   old = with_contents x pool k w
 

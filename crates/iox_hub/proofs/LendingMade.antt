@@ -24,7 +24,7 @@ use Rattle.iox_tables.proofs.HubBooks.Frames.{first_map, lanes_on_bare, some_map
 use Rattle.iox_tables.proofs.HubBooks.Going.{each_last}
 use Rattle.iox_tables.specs.HubLoans.Lenders.{Lender, shape_in, ways_by}
 use Rattle.iox_tables.specs.HubLoans.Loans.{loaned_handle, loaned_slot, with_loaned}
-use Rattle.iox_tables.specs.HubLoans.Slots.{Contents, IsUnused, is_place, put_slot, put_slot_of, with_contents}
+use Rattle.iox_tables.specs.HubLoans.Slots.{SlotContents, IsUnused, is_place, put_slot, put_slot_of, with_contents}
 use Rattle.iox_tables.proofs.HubLoans.Placed.{or_false, pool_is, slot_is, slot_stays}
 use Rattle.iox_tables.specs.HubLending.Emptying.{with_back}
 use Rattle.iox_tables.proofs.HubLending.Back.{back_in_order, getting_back_keeps_order}
@@ -33,7 +33,7 @@ use Rattle.iox_control.specs.Controls.{ControlState, IsControl}
 use Rattle.iox_control_request_copies.specs.Asked.{Asked}
 use Rattle.iox_control_request_copies.specs.Loaned.{Loaned}
 use Rattle.iox_control_request_copies.specs.Lends.{IsAskedOf, IsGotBack, IsLoaned, first_contents, on_lane}
-use Rattle.iox_hub.specs.Fits.{SuitsHandle, WordsFit, are_requests_in, count_in, is_full_loan, is_of_request}
+use Rattle.iox_hub.specs.Fits.{SuitsHandle, WordsFit, are_requests_in, count_in, is_full_loan, comes_with_request}
 use Rattle.iox_hub.specs.Hubs.{HubState, IsHub, given_by, many_in, state_of_hub}
 use Rattle.iox_hub.specs.Lending.{IsFresh, first_stored, with_message}
 use Rattle.iox_hub.specs.Reads.{message_in}
@@ -46,7 +46,7 @@ use Rattle.iox_hub.proofs.Named.{added_is_found, handle_is_value}
 
 -- ---- kinds
 
-loan_of_role : (role : Role) (uninit : Bool) → is_client role ≡ is_of_request (kind_of_loan role uninit)
+loan_of_role : (role : Role) (uninit : Bool) → is_client role ≡ comes_with_request (kind_of_loan role uninit)
 loan_of_role Client true = refl
 loan_of_role Client false = refl
 loan_of_role Server true = refl
@@ -198,7 +198,7 @@ first_again shape true k w = refl
 first_again shape false k w = refl
 
 -- what a loan is asked for, and holds at first
-abbrev contents_first : Shape → Bool → ℕ → Contents
+abbrev contents_first : Shape → Bool → ℕ → SlotContents
 contents_first shape uninit k = record { user = shape.user; payload = if uninit then [] else default_payload shape k; filled = 0 }
 
 shown_first : (x : Given) (t : HubTables) (pool slot : ℕ) (shape : Shape) (uninit : Bool) (k : ℕ) (w : Stored)

@@ -29,7 +29,7 @@ use Rattle.iox_control.specs.Controls.{ControlState, IsControl, with_tables}
 use Rattle.iox_control_request_copies.specs.Place.{Place}
 use Rattle.iox_control_request_copies.specs.Written.TheVariants as written
 use Rattle.iox_control_request_copies.specs.Fills.{IsFilled, IsLoan, IsMisfit, given_written, reply_of_write}
-use Rattle.iox_hub.specs.Fits.{SuitsHandle, WordsFit, are_requests_in, count_in, is_of_request}
+use Rattle.iox_hub.specs.Fits.{SuitsHandle, WordsFit, are_requests_in, count_in, comes_with_request}
 use Rattle.iox_hub.specs.Hubs.{HasValue, HubState, IsHub, given_by, many_in, state_of_hub}
 use Rattle.iox_hub.specs.Lending.{IsWritten, payload_of, with_message}
 use Rattle.iox_hub.specs.Reads.{HasOf, message_in}
@@ -64,7 +64,7 @@ loan_is_one Server kind e = step (is_request_loan kind) (is_response_loan kind) 
     step true b f = refl
     step false b f = f
 
-loan_of_request : (role : Role) (kind : Kind) → is_loan_of role kind ≡ true → is_of_request kind ≡ is_client role
+loan_of_request : (role : Role) (kind : Kind) → is_loan_of role kind ≡ true → comes_with_request kind ≡ is_client role
 loan_of_request Client kinds.RequestMut e = refl
 loan_of_request Client kinds.RequestMutUninit e = refl
 loan_of_request Client kinds.Client e = absurd (true≢false (sym e))
@@ -88,14 +88,14 @@ filled_of_role : (role : Role) (kind : Kind) → is_loan_of role kind ≡ true �
 filled_of_role Client kind e = ap (λ (b : Bool). if b then kinds.RequestMut else kinds.ResponseMut) e
 filled_of_role Server kind e = step (is_request_loan kind) refl
   where
-    of : is_of_request kind ≡ false
+    of : comes_with_request kind ≡ false
     of = loan_of_request Server kind e
 
     step : (b : Bool) → is_request_loan kind ≡ b → (if b then kinds.RequestMut else kinds.ResponseMut) ≡ kinds.ResponseMut
     step true is = absurd (true≢false (sym (ap (λ (b : Bool). b || (same_kind kind kinds.PendingResponse || same_kind kind kinds.ActiveRequest)) is) ∙ of))
     step false is = refl
 
-filled_is_of : (role : Role) → is_of_request (kind_of_filled role) ≡ is_client role
+filled_is_of : (role : Role) → comes_with_request (kind_of_filled role) ≡ is_client role
 filled_is_of Client = refl
 filled_is_of Server = refl
 
@@ -219,7 +219,7 @@ module _ (role : Role) {h : HubState} (hub : IsHub h) (node n : ℕ) (loan : IsL
     filled_suits : SuitsHandle (with_message h.words k.pool k.slot z) filled
     filled_suits = record {
       kind = requests_new h.words k.pool k.slot z k.pool ∙ loan_of_role ∙ sym (filled_is_of role)
-          ∙ ap is_of_request (sym (filled_of_role role k.kind loan.passes));
+          ∙ ap comes_with_request (sym (filled_of_role role k.kind loan.passes));
       full = λ e. subst (λ (s : Stored). s.filled ≡ s.elements) (sym (stored_new h.words k.pool k.slot z loan_within)) all;
     }
 

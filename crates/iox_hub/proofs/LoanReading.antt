@@ -17,7 +17,7 @@ use Rattle.iox_tables.proofs.HubBooks.Used.{handle_is, used_by_handle}
 use Rattle.iox_tables.proofs.HubStates.Fixing.{find_port}
 use Rattle.iox_handles.specs.declared.entry.Entry.{Entry}
 use Rattle.iox_control.specs.Entries.{handle_state}
-use Rattle.iox_hub.specs.Fits.{SuitsHandle, are_requests_in, count_in, is_of_request}
+use Rattle.iox_hub.specs.Fits.{SuitsHandle, are_requests_in, count_in, comes_with_request}
 use Rattle.iox_hub.specs.Hubs.{HubState, IsHub, given_by, state_of_hub}
 use Rattle.iox_hub.specs.Reads.{HasOf}
 use Rattle.iox_hub.proofs.Named.{handle_is_value}
@@ -25,7 +25,7 @@ use Rattle.iox_hub.proofs.Reading.{low_if_used}
 
 -- ---- kinds
 
-of_request_loan : (k : Kind) → is_request_loan k ≡ true → is_of_request k ≡ true
+of_request_loan : (k : Kind) → is_request_loan k ≡ true → comes_with_request k ≡ true
 of_request_loan kinds.RequestMut e = refl
 of_request_loan kinds.RequestMutUninit e = refl
 of_request_loan kinds.Client e = absurd (true≢false (sym e))
@@ -36,7 +36,7 @@ of_request_loan kinds.ResponseMutUninit e = absurd (true≢false (sym e))
 of_request_loan kinds.ResponseMut e = absurd (true≢false (sym e))
 of_request_loan kinds.Response e = absurd (true≢false (sym e))
 
-of_response_loan : (k : Kind) → is_response_loan k ≡ true → is_of_request k ≡ false
+of_response_loan : (k : Kind) → is_response_loan k ≡ true → comes_with_request k ≡ false
 of_response_loan kinds.ResponseMut e = refl
 of_response_loan kinds.ResponseMutUninit e = refl
 of_response_loan kinds.Client e = absurd (true≢false (sym e))
@@ -62,7 +62,7 @@ module _ {h : HubState} (hub : IsHub h) (now : HubState) (is : h ≡ now) (node 
       sym (ap (λ (o : Option Kind). option_map_or test o false) (handle_is_value t hub.control.order node n (handle_state e) at))
       ∙ subst (λ (d : HubState). HasOf test d node n) (sym is) has
 
-  suits : are_requests_in h.words e.pool ≡ is_of_request e.kind
+  suits : are_requests_in h.words e.pool ≡ comes_with_request e.kind
   suits = (handle_is (SuitsHandle h.words) t.handles node n (handle_state e) hub.words.handles at).kind
 
   pub loan_has_words : e.slot < count_in h.words e.pool

@@ -13,7 +13,7 @@ use Rattle.iox_tables.specs.HubStates.Tables.{HubSettings, HubTables}
 use Rattle.iox_tables.specs.HubStates.States.{Given, limits_of}
 use Rattle.iox_tables.specs.HubMaking.Starts.{no_ports}
 use Rattle.iox_control_making.specs.declared.asked.Asked.{Asked}
-use Rattle.iox_control_making.specs.Making.{IsAsked}
+use Rattle.iox_control_making.specs.Making.{AsksFor}
 use Rattle.iox_hub.specs.declared.pools.Form.{Form}
 use Rattle.iox_hub.specs.Hubs.{HubState, given_by}
 use Rattle.iox_hub.specs.Making.{IsFormOf, shape_in}
@@ -31,7 +31,7 @@ module _ (x : Given) (t : HubTables) (role : Role) (o : machine.Options) where
   of = shape_of l role
 
   -- of a port that is too large nothing else is asked
-  pub large_asked : (asked : Asked) → asked.large ≡ true → true ≡ is_large l role o → IsAsked x t role o asked
+  pub large_asked : (asked : Asked) → asked.large ≡ true → true ≡ is_large l role o → AsksFor x t role o asked
   large_asked asked large is = record {
     large = large ∙ is;
     size = λ e. absurd (true≢false (sym large ∙ e));
@@ -76,16 +76,16 @@ same_shape x h s Client = refl
 same_shape x h s Server = refl
 
 -- what is asked depends on the settings alone
-by_settings : (x : Given) (t : HubTables) (s : HubSettings) (role : Role) (o : machine.Options) (asked : Asked) → s ≡ t.settings → IsAsked x (no_ports s) role o asked
-    → IsAsked x t role o asked
+by_settings : (x : Given) (t : HubTables) (s : HubSettings) (role : Role) (o : machine.Options) (asked : Asked) → s ≡ t.settings → AsksFor x (no_ports s) role o asked
+    → AsksFor x t role o asked
 by_settings x t s role o asked same is =
-    let it : IsAsked x (no_ports (t.settings)) role o asked = subst (λ (u : HubSettings). IsAsked x (no_ports u) role o asked) same is in
+    let it : AsksFor x (no_ports (t.settings)) role o asked = subst (λ (u : HubSettings). AsksFor x (no_ports u) role o asked) same is in
     record { large = it.large; size = it.size; longest = it.longest; grows = it.grows; strategy = it.strategy; loans = it.loans }
 
 pub asked_here : (h now : HubState) → h ≡ now → (x : Given) (role : Role) (o : machine.Options) (form : Form) (s : HubSettings) (asked : Asked)
     → s ≡ h.control.tables.settings → IsFormOf form (shape_in now role)
-    → ((y : Given) → IsFormOf form (shape_of (limits_of y (no_ports s)) role) → IsAsked y (no_ports s) role o asked)
-    → IsAsked (given_by x now) now.control.tables role o asked
+    → ((y : Given) → IsFormOf form (shape_of (limits_of y (no_ports s)) role) → AsksFor y (no_ports s) role o asked)
+    → AsksFor (given_by x now) now.control.tables role o asked
 asked_here h now view x role o form s asked same is told =
     by_settings (given_by x now) now.control.tables s role o asked (same ∙ ap (λ (k : HubState). k.control.tables.settings) view)
     (told (given_by x now) (subst (IsFormOf form) (sym (same_shape x now s role)) is))

@@ -28,7 +28,7 @@ use Rattle.iox_control.specs.Controls.{ControlState, IsControl}
 use Rattle.iox_control_making.specs.declared.asked.Asked.{Asked}
 use Rattle.iox_control_making.specs.declared.asked.NotMade.{NotMade}
 use Rattle.iox_control_making.specs.declared.asked.NotMade.TheVariants.{DataSegment}
-use Rattle.iox_control_making.specs.Making.{IsAsked, MakesWhole, RefusesWhole, port_asked, refusal_of, with_asked}
+use Rattle.iox_control_making.specs.Making.{AsksFor, MakesWhole, RefusesWhole, port_asked, refusal_of, with_asked}
 use Rattle.iox_control_making.proofs.Told.{no_memory, refused_whole}
 use Rattle.iox_tables.specs.HubBooks.Hubs.{AreInOrder}
 use Rattle.iox_tables.specs.HubLoans.Questions.{kind_in, kind_of_role}
@@ -44,8 +44,8 @@ use Rattle.iox_hub.specs.Words.{Carried, stored_in}
 use Rattle.iox_hub.proofs.MakingFits.{fits_made, free, made_is_value, pool_put, stored_else, values_stay}
 
 -- what is asked of a port does not depend on its handler
-with_handler : {x : Given} {t : HubTables} {role : Role} {o : Options} {asked : Asked} (handler : Option (List ℕ)) → IsAsked x t role (options_of o) asked
-    → IsAsked x t role (options_with o handler) asked
+with_handler : {x : Given} {t : HubTables} {role : Role} {o : Options} {asked : Asked} (handler : Option (List ℕ)) → AsksFor x t role (options_of o) asked
+    → AsksFor x t role (options_with o handler) asked
 with_handler {role = Client} handler is = record { large = is.large; size = is.size; longest = is.longest; grows = is.grows; strategy = is.strategy; loans = is.loans }
 with_handler {role = Server} handler is = record { large = is.large; size = is.size; longest = is.longest; grows = is.grows; strategy = is.strategy; loans = is.loans }
 
@@ -98,13 +98,13 @@ module _ (h : HubState) (hub : IsHub h) where
           filled = λ q k other. ap (λ (s : Stored). s.filled) (sym (stored_else h.words (place_for_one t.pools) (words_made h role asked.size asked.longest) words put q k other));
         })
 
-    pub whole_made : ((x : Given) → IsAsked (given_by x h) t role (options_of o) asked) → MakesWhole t node role id asked c.tables → (x : Given)
+    pub whole_made : ((x : Given) → AsksFor (given_by x h) t role (options_of o) asked) → MakesWhole t node role id asked c.tables → (x : Given)
         → IsHubCommand (state_of_hub x h) node (Create role id (options_with o handler)) (port_reply role t.next_number) (state_of_hub x after)
     whole_made is made x =
         subst (λ (s : State). IsHubCommand (state_of_hub x h) node (Create role id (options_with o handler)) (port_reply role t.next_number) s) (shown_is x)
         (made (given_by x h) (given_by x after) (options_with o handler) (with_handler handler (is x)) (others x))
 
-    pub hub_made : ((x : Given) → IsAsked (given_by x h) t role (options_of o) asked) → MakesWhole t node role id asked c.tables
+    pub hub_made : ((x : Given) → AsksFor (given_by x h) t role (options_of o) asked) → MakesWhole t node role id asked c.tables
         → (many_by (many_in h) role ≡ false → asked.longest ≡ 1) → IsControl c → IsHub after
     hub_made is made one_of_one order = record {
       control = order;
@@ -127,12 +127,12 @@ many_is h Server = refl
 -- ---- in code: a hub as it was met, and what its parts are now
 
 module _ (inside now : HubState) (view : inside ≡ now) (hub : IsHub inside) (node : ℕ) (role : Role) (id : UniqueSystemId) (asked : Asked) (o : Options)
-    (is : (x : Given) → IsAsked (given_by x now) now.control.tables role (options_of o) asked) where
+    (is : (x : Given) → AsksFor (given_by x now) now.control.tables role (options_of o) asked) where
   abbrev old : HubTables
   old = inside.control.tables
 
-  is_inside : (x : Given) → IsAsked (given_by x inside) old role (options_of o) asked
-  is_inside = subst (λ (k : HubState). (x : Given) → IsAsked (given_by x k) k.control.tables role (options_of o) asked) (sym view) is
+  is_inside : (x : Given) → AsksFor (given_by x inside) old role (options_of o) asked
+  is_inside = subst (λ (k : HubState). (x : Given) → AsksFor (given_by x k) k.control.tables role (options_of o) asked) (sym view) is
 
   -- where messages have one element, that is the greatest length of a port that is made
   one_asked : asked.large ≡ false → many_by (many_in inside) role ≡ false → asked.longest ≡ 1

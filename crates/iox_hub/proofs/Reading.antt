@@ -25,7 +25,7 @@ use Rattle.iox_tables.proofs.HubBooks.Used.{handle_is, used_by_handle}
 use Rattle.iox_control.proofs.WholeLemmas.{is_whole_of}
 use Rattle.iox_handles.specs.declared.entry.Entry.{Entry}
 use Rattle.iox_control.specs.Entries.{handle_state}
-use Rattle.iox_hub.specs.Fits.{SuitsHandle, are_requests_in, carried_in, count_in, is_of_request}
+use Rattle.iox_hub.specs.Fits.{SuitsHandle, are_requests_in, carried_in, count_in, comes_with_request}
 use Rattle.iox_hub.specs.Hubs.{HubState, IsHub, given_by, state_of_hub}
 use Rattle.iox_hub.specs.Reads.{HasOf, has_request, has_response, message_in}
 use Rattle.iox_hub.specs.Words.{Carried, stored_in}
@@ -33,7 +33,7 @@ use Rattle.iox_hub.proofs.Named.{found_is_handle}
 
 -- ---- kinds
 
-pub of_request : (k : Kind) → has_request k ≡ true → is_of_request k ≡ true
+pub of_request : (k : Kind) → has_request k ≡ true → comes_with_request k ≡ true
 of_request kinds.RequestMut e = refl
 of_request kinds.PendingResponse e = refl
 of_request kinds.ActiveRequest e = refl
@@ -44,7 +44,7 @@ of_request kinds.ResponseMutUninit e = absurd (true≢false (sym e))
 of_request kinds.ResponseMut e = absurd (true≢false (sym e))
 of_request kinds.Response e = absurd (true≢false (sym e))
 
-pub of_response : (k : Kind) → has_response k ≡ true → is_of_request k ≡ false
+pub of_response : (k : Kind) → has_response k ≡ true → comes_with_request k ≡ false
 of_response kinds.ResponseMut e = refl
 of_response kinds.Response e = refl
 of_response kinds.Client e = refl
@@ -155,7 +155,7 @@ module _ (test : Kind → Bool) (pass : ArePassed test) {h : HubState} (hub : Is
     pub passing : test e.kind ≡ true
     passing = subst (λ (k : HandleState). test k.kind ≡ true) (same_Some named.handle (handle_state e) (sym named.there ∙ at)) named.passes
 
-    pub suits_kind : are_requests_in h.words e.pool ≡ is_of_request e.kind
+    pub suits_kind : are_requests_in h.words e.pool ≡ comes_with_request e.kind
     suits_kind = (handle_is (SuitsHandle h.words) t.handles node n (handle_state e) hub.words.handles at).kind
 
     pub has_words : e.slot < count_in h.words e.pool

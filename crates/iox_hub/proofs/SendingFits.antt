@@ -25,7 +25,7 @@ use Rattle.iox_control_request_copies.specs.Requests.{ways_of, with_request_sent
 use Rattle.iox_control_request_copies.specs.Sendings.{with_lost_released, with_request_ended}
 use Rattle.iox_control_request_copies.specs.Servers.{request_ways}
 use Rattle.iox_control_request_copies.specs.Responses.{is_shut, with_response_ended, with_response_offered, with_response_sent, with_way_emptied}
-use Rattle.iox_hub.specs.Fits.{SuitsHandle, WordsFit, is_of_request}
+use Rattle.iox_hub.specs.Fits.{SuitsHandle, WordsFit, comes_with_request}
 use Rattle.iox_hub.specs.Words.{Carried}
 use Rattle.iox_hub.proofs.GoneFits.{gone_fit_alike}
 use Rattle.iox_hub.proofs.ReleasingFits.{fits_gone, fits_left, left_alike}
@@ -92,7 +92,7 @@ each_changed P new (k ∷ ks) a b = step ((k.node == new.node) && (k.number == n
 -- a loaned request's words suit it as a pending response
 pending_suits : (words : List (Option Carried)) (h : HandleState) (count : ℕ) → h.kind ≡ kinds.RequestMut → SuitsHandle words h → SuitsHandle words (pending_of h count)
 pending_suits words h count kind is = record {
-  kind = is.kind ∙ ap is_of_request kind;
+  kind = is.kind ∙ ap comes_with_request kind;
   full = λ e. absurd (true≢false (sym e));
 }
 

@@ -46,11 +46,11 @@ hub_with_copies h c shape count words place = record h {
 -- ---- responses
 
 -- where the words of the copy of a response belong, if it waits for its client
-abbrev pub place_of : Answered → Option Place
-place_of (answered.Done place) = place
-place_of (answered.Refused r) = None
-place_of answered.OutOfMemory = None
-place_of answered.Undelivered = None
+abbrev pub copy_place : Answered → Option Place
+copy_place (answered.Done place) = place
+copy_place (answered.Refused r) = None
+copy_place answered.OutOfMemory = None
+copy_place answered.Undelivered = None
 
 -- What the copy of a response leaves of words: the message that waits for its client carries the
 -- copies, and all others are as they were. A refusal by a test leaves all as it is.

@@ -14,7 +14,7 @@ use Rattle.iox_tables.specs.HubLoans.Questions.{kind_in}
 use Rattle.iox_tables.specs.HubLoans.Slots.{with_contents}
 use Rattle.iox_control.specs.Controls.{ControlState, IsControl, with_tables}
 use Rattle.iox_control_request_copies.specs.Place.{Place}
-use Rattle.iox_control_request_copies.specs.Fills.{kind_after, place_of}
+use Rattle.iox_control_request_copies.specs.Fills.{kind_after, words_place}
 use Rattle.iox_hub.specs.Hubs.{HasValue, HubState, state_of_hub}
 use Rattle.iox_hub.specs.Keeping.{IsSame}
 use Rattle.iox_hub.specs.Lending.{with_message}
@@ -44,7 +44,7 @@ with_filling h loan kind z = record h {
 pub record IsFill (old : ControlState) (node n : ℕ) (all : Bool) (new : ControlState)
     (place : Place) : Type 0
   where
-    pub at : (j : HandleState) → handle_in old.tables.handles node n ≡ Some j → place ≡ place_of j
+    pub at : (j : HandleState) → handle_in old.tables.handles node n ≡ Some j → place ≡ words_place j
     pub left :
         (j : HandleState) → handle_in old.tables.handles node n ≡ Some j
         → new ≡ with_tables old (with_kind old.tables j (kind_after all j.kind))

@@ -28,8 +28,8 @@ abbrev pub are_requests_in : List (Option Carried) → ℕ → Bool
 are_requests_in words place = option_map_or (λ c. c.requests) (carried_in words place) false
 
 -- a handle of this kind has a request
-abbrev pub is_of_request : Kind → Bool
-is_of_request kind =
+abbrev pub comes_with_request : Kind → Bool
+comes_with_request kind =
     is_request_loan kind || (same_kind kind PendingResponse || same_kind kind ActiveRequest)
 
 -- a handle of this kind is a loan that is filled
@@ -39,7 +39,7 @@ is_full_loan kind = same_kind kind RequestMut || same_kind kind ResponseMut
 -- The handle's message is a request if the handle is of one. If it is a filled loan, each of its
 -- elements is filled.
 pub record SuitsHandle (words : List (Option Carried)) (h : HandleState) : Type 0 where
-  pub kind : are_requests_in words h.pool ≡ is_of_request h.kind
+  pub kind : are_requests_in words h.pool ≡ comes_with_request h.kind
   pub full :
       is_full_loan h.kind ≡ true
       → (stored_in words h.pool h.slot).filled ≡ (stored_in words h.pool h.slot).elements

@@ -21,8 +21,8 @@ pub record WouldLend (h : HubState) (y : Lender) (shape : Shape) (k : ℕ) : Typ
   pub made : MayBeMade h.control y asked
 
 -- If that loan would be made, its message has room for them: its own, or that which is given.
-abbrev pub HasRoomFor : HubState → Lender → Shape → ℕ → Option ℕ → Type 0
-HasRoomFor h y shape k spare =
+abbrev pub LoanHasRoom : HubState → Lender → Shape → ℕ → Option ℕ → Type 0
+LoanHasRoom h y shape k spare =
     WouldLend h y shape k → k ≤ room_with (longest_in h.words y.port.pool) spare
 
 -- That loan would be made, but its message has to grow, and there is no memory for it.

@@ -1,6 +1,6 @@
 -- Loans of a hub, what is written to them, and what they carry then.
 use Rattle.std.specs.Prelude.{◌≡◌, ◌≢◌, ℕ, Bool, true, false, if◌then◌else◌, List, [], Option, Some, option_map, slice_set, unwrap_or, ⊤}
-use Rattle.iox_store.specs.Stored.{Stored, filled_with, lent, lent_uninit, with_stored}
+use Rattle.iox_store.specs.Stored.{Stored, filled_with, lent_filled, lent_uninit, with_stored}
 use Rattle.iox_model.specs.declared.kind.Role.{Role}
 use Rattle.iox_model.specs.Commands.{Payload}
 use Rattle.iox_model.specs.declared.call.Call.TheVariants.{Write}
@@ -52,7 +52,7 @@ pub record IsAskedFor {E H : Type 0} (many : Bool) (width : ℕ) (words : E → 
 -- element or the default of each
 abbrev pub first_stored : Shape → Bool → ℕ → Stored → Stored
 first_stored shape uninit k x =
-    if uninit then lent_uninit x k shape.user else lent x k shape.user (unwrap_or shape.default [])
+    if uninit then lent_uninit x k shape.user else lent_filled x k shape.user (unwrap_or shape.default [])
 
 -- The node has the new loan, which carries just that.
 pub record IsFresh (h : HubState) (node n : ℕ) (role : Role) (shape : Shape) (uninit : Bool) (k : ℕ)

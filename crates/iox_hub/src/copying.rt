@@ -14,7 +14,7 @@ ghost use Rattle.iox_control_request_copies.specs.Copies as requests;
 ghost use Rattle.iox_control_request_copies.specs.Answered.TheVariants as answered;
 ghost use Rattle.iox_control_request_copies.specs.declared.copied.Copied.TheVariants as copied;
 ghost use Rattle.iox_control_request_copies.specs.LoanRefusal.TheVariants.{WantOfMemory};
-ghost use Rattle.iox_hub.specs.Growing.{HasRoomFor, WantsRoom};
+ghost use Rattle.iox_hub.specs.Growing.{LoanHasRoom, WantsRoom};
 ghost use Rattle.iox_hub.specs.Copying as spec;
 ghost use Rattle.iox_hub.specs.Copying.{HasCopied, LeavesAnswered, LeavesCopied, asked_of_copy};
 ghost use Rattle.iox_hub.specs.Hubs.{HasValue, fails_of, state_of_hub};
@@ -34,7 +34,7 @@ use iox_words::Words;
 
 /// Where the words of the copy of a response belong, if it waits for its client.
 fn place_of(answered: Answered) -> Option<Place>
-    ensures { result ≡ spec.place_of answered }
+    ensures { result ≡ spec.copy_place answered }
 {
     match answered {
         Answered::Done(place) => place,
@@ -56,7 +56,7 @@ impl<Q: Payload, QH: Words, P: Payload, PH: Words, H: Backpressure> Hub<Q, QH, P
     ) -> Copied
         requires has { HasValue self.old node client Client }
         requires room { (p : PortState) → port_in self.old.control.tables.ports client ≡ Some p
-            → HasRoomFor self.old (lender_of_request p 0) self.old.request (length values.now)
+            → LoanHasRoom self.old (lender_of_request p 0) self.old.request (length values.now)
             spare }
         ensures reply { (p : PortState) → port_in self.old.control.tables.ports client ≡ Some p
             → requests.Copies self.old.control p
@@ -117,12 +117,12 @@ impl<Q: Payload, QH: Words, P: Payload, PH: Words, H: Backpressure> Hub<Q, QH, P
         requires room { (h : HandleState) (p : PortState)
             → handle_in self.old.control.tables.handles node number ≡ Some h
             → port_in self.old.control.tables.ports h.port ≡ Some p
-            → HasRoomFor self.old (lender_of_response self.old.control.tables h p)
+            → LoanHasRoom self.old (lender_of_response self.old.control.tables h p)
             self.old.response (length values.now) spare }
         ensures reply { (h : HandleState)
             → handle_in self.old.control.tables.handles node number ≡ Some h
             → (p : PortState) → port_in self.old.control.tables.ports h.port ≡ Some p
-            → responses.Answers self.old.control (lender_of_response self.old.control.tables h p)
+            → responses.CopyComesTo self.old.control (lender_of_response self.old.control.tables h p)
             (asked_of_copy self.old.response (length values.now))
             (fails_of self.old p (way_to_client self.old.control.tables h)) result
             self.new.control }
@@ -202,7 +202,7 @@ impl<Q: Payload, QH: Words, P: Payload, PH: Words, H: Backpressure> Hub<Q, QH, P
             → handle_in self.old.control.tables.handles node number ≡ Some h
             → (p : PortState) → port_in self.old.control.tables.ports h.port ≡ Some p
             → result ≢ answered.Refused WantOfMemory
-            → responses.Answers self.old.control (lender_of_response self.old.control.tables h p)
+            → responses.CopyComesTo self.old.control (lender_of_response self.old.control.tables h p)
             (asked_of_copy self.old.response (length values.now))
             (fails_of self.old p (way_to_client self.old.control.tables h)) result
             self.new.control }

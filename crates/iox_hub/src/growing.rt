@@ -5,7 +5,7 @@ ghost use Rattle.iox_tables.specs.HubStates.Tables.{HandleState, PortState, port
 ghost use Rattle.iox_tables.specs.HubStates.Wirings.{handle_in};
 ghost use Rattle.iox_tables.specs.HubLoans.Lenders.{lender_of_request, lender_of_response};
 ghost use Rattle.iox_hub.specs.Fits.{are_requests_in, count_in};
-ghost use Rattle.iox_hub.specs.Growing.{HasRoomFor, WantsRoom};
+ghost use Rattle.iox_hub.specs.Growing.{LoanHasRoom, WantsRoom};
 ghost use Rattle.iox_hub.specs.Hubs.{HasValue};
 ghost use Rattle.iox_hub.specs.Words.{all_carried};
 
@@ -70,7 +70,7 @@ impl<Q: Payload, QH: Words, P: Payload, PH: Words, H: Backpressure> Hub<Q, QH, P
         requires has { HasValue self.old _node client Client }
         ensures room { IfOk result (λ spare. (p : PortState)
             → port_in self.old.control.tables.ports client ≡ Some p
-            → HasRoomFor self.old (lender_of_request p 0) self.old.request elements spare) }
+            → LoanHasRoom self.old (lender_of_request p 0) self.old.request elements spare) }
         ensures wants { IsErr result → (p : PortState)
             → port_in self.old.control.tables.ports client ≡ Some p
             → WantsRoom self.old (lender_of_request p 0) self.old.request elements }
@@ -108,7 +108,7 @@ impl<Q: Payload, QH: Words, P: Payload, PH: Words, H: Backpressure> Hub<Q, QH, P
         ensures room { IfOk result (λ spare. (h : HandleState) (p : PortState)
             → handle_in self.old.control.tables.handles node number ≡ Some h
             → port_in self.old.control.tables.ports h.port ≡ Some p
-            → HasRoomFor self.old (lender_of_response self.old.control.tables h p)
+            → LoanHasRoom self.old (lender_of_response self.old.control.tables h p)
             self.old.response elements spare) }
         ensures wants { IsErr result → (h : HandleState) (p : PortState)
             → handle_in self.old.control.tables.handles node number ≡ Some h

@@ -11,7 +11,7 @@ ghost use Rattle.iox_tables.specs.HubLoans.Loans.{loan_call};
 ghost use Rattle.iox_control_request_copies.specs.Lends.{reply_of_loan};
 ghost use Rattle.iox_control_request_copies.specs.Lent.TheVariants.{Refused};
 ghost use Rattle.iox_control_request_copies.specs.LoanRefusal.TheVariants.{WantOfMemory};
-ghost use Rattle.iox_hub.specs.Growing.{HasRoomFor, WantsRoom};
+ghost use Rattle.iox_hub.specs.Growing.{LoanHasRoom, WantsRoom};
 ghost use Rattle.iox_hub.specs.Hubs.{HasValue, state_of_hub};
 ghost use Rattle.iox_hub.specs.Keeping.{IsNewLoan, KeepsAll};
 ghost use Rattle.iox_hub.specs.Lending.{HasLent, IsAskedFor, LeavesLent};
@@ -62,7 +62,7 @@ impl<Q: Payload, QH: Words, P: Payload, PH: Words, H: Backpressure> Hub<Q, QH, P
         requires has { HasValue self.old node client Client }
         requires default { uninit ≡ false → IsSome self.old.request.default }
         requires room { (p : PortState) → port_in self.old.control.tables.ports client ≡ Some p
-            → HasRoomFor self.old (lender_of_request p 0) self.old.request elements spare }
+            → LoanHasRoom self.old (lender_of_request p 0) self.old.request elements spare }
         ensures left { LeavesLent self.old self.old.request uninit elements result self.new }
         ensures whole { (x : Given) → IsWholeCall (state_of_hub x self.old) node
             (loan_call uninit client elements) (reply_of_loan result) (state_of_hub x self.new) }
@@ -106,7 +106,7 @@ impl<Q: Payload, QH: Words, P: Payload, PH: Words, H: Backpressure> Hub<Q, QH, P
         requires room { (h : HandleState) (p : PortState)
             → handle_in self.old.control.tables.handles node number ≡ Some h
             → port_in self.old.control.tables.ports h.port ≡ Some p
-            → HasRoomFor self.old (lender_of_response self.old.control.tables h p)
+            → LoanHasRoom self.old (lender_of_response self.old.control.tables h p)
             self.old.response elements spare }
         ensures left { LeavesLent self.old self.old.response uninit elements result self.new }
         ensures whole { (x : Given) → IsWholeCall (state_of_hub x self.old) node

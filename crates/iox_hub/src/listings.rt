@@ -4,7 +4,7 @@ ghost use Rattle.std.specs.Option.{option_map, option_map_or};
 ghost use Rattle.std.specs.Prelude.{◌≡◌, [], IfOk, IfSome, IsSome, None, not, ℕ};
 ghost use Rattle.std.specs.Prelude.{false, nat_lt, take, true};
 ghost use Rattle.std.specs.Fn.{CalledAt};
-ghost use Rattle.iox_attributes.specs.Visits.{Visits};
+ghost use Rattle.iox_attributes.specs.Visits.{VisitsInOrder};
 ghost use Rattle.iox_model.specs.Maps.{first_of, is_empty};
 ghost use Rattle.iox_model.specs.Peers.{ports_of_role};
 ghost use Rattle.iox_model.specs.Services.{numbers_of_node};
@@ -82,7 +82,7 @@ fn list_ids<K, F: FnMut(&UniqueId<K>) -> CallbackProgression>(
     mut callback: F,
 )
     requires { F.IsAlwaysCallable callback }
-    ensures { Visits (CalledAt F.FnMut) callback (role_ids role ports.now.ports) }
+    ensures { VisitsInOrder (CalledAt F.FnMut) callback (role_ids role ports.now.ports) }
 {
     for at in 0..ports.len() {
         let Some(id) = id_at(ports, at, role) else {
@@ -192,7 +192,7 @@ impl<Q: Payload, QH: Words, P: Payload, PH: Words, H: Backpressure> Hub<Q, QH, P
         callback: F,
     )
         requires { F.IsAlwaysCallable callback }
-        ensures { (x : Given) → Visits (CalledAt F.FnMut) callback
+        ensures { (x : Given) → VisitsInOrder (CalledAt F.FnMut) callback
             (ids_of_role (state_of_hub x self.now).fixed role) }
     {
         list_ids(self.control.ports(), role, callback);

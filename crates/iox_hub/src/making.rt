@@ -9,7 +9,7 @@ ghost use Rattle.iox_tables.specs.HubLoans.Questions.{kind_of_role};
 ghost use Rattle.iox_slots.specs.Pools.{place_for_one};
 ghost use Rattle.iox_backpressure.specs.Answers.{shown_by};
 ghost use Rattle.iox_backpressure.specs.Handlers.{handlers_with};
-ghost use Rattle.iox_control_making.specs.Making.{IsAsked};
+ghost use Rattle.iox_control_making.specs.Making.{AsksFor};
 ghost use Rattle.iox_hub.specs.Hubs.{HasValue, given_by};
 ghost use Rattle.iox_hub.specs.Keeping.{KeepsAll};
 ghost use Rattle.iox_hub.specs.Making.{AreWordsPut, IsAllowed, IsFormOf, IsWholeMaking, IsWithoutMemory, LeavesMessages, StaysAs};
@@ -95,7 +95,7 @@ impl<Q: Payload, QH: Words, P: Payload, PH: Words, H: Backpressure> Hub<Q, QH, P
 
     /// What the options ask for.
     fn asked(&self, role: Role, options: Options) -> Asked
-        ensures { (x : Given) → IsAsked (given_by x self.now) self.now.control.tables role
+        ensures { (x : Given) → AsksFor (given_by x self.now) self.now.control.tables role
             (options_of options) result }
     {
         asked_of(self.control.settings(), self.form(role), role, options)

@@ -8,7 +8,7 @@ ghost use Rattle.iox_model.specs.Settings.{is_static, shape_of};
 ghost use Rattle.iox_tables.specs.HubStates.States.{Given, limits_of};
 ghost use Rattle.iox_tables.specs.HubMaking.Starts.{no_ports};
 ghost use Rattle.iox_control.specs.Settings.{settings_of};
-ghost use Rattle.iox_control_making.specs.Making.{IsAsked};
+ghost use Rattle.iox_control_making.specs.Making.{AsksFor};
 ghost use Rattle.iox_hub.specs.Making.{IsFormOf, options_of};
 
 use crate::options::Options;
@@ -157,7 +157,7 @@ fn may_be(size: usize, bytes: Option<usize>) -> bool
 pub(crate) fn asked_of(settings: Settings, form: Form, role: Role, options: Options) -> Asked
     ensures { (x : Given)
         → IsFormOf form (shape_of (limits_of x (no_ports (settings_of settings))) role)
-        → IsAsked x (no_ports (settings_of settings)) role (options_of options) result }
+        → AsksFor x (no_ports (settings_of settings)) role (options_of options) result }
 {
     let Some(worst) = worst_pool(settings, role, options) else {
         return LARGE;

@@ -12,7 +12,7 @@ use Rattle.iox_model.specs.States as States
 use Rattle.iox_registry.specs.declared.refusals.ReleaseError.TheVariants.{Foreign, Spent}
 use Rattle.iox_registry.specs.declared.roles.Role.TheVariants.{Node}
 use Rattle.iox_registry.specs.Registers as registers
-use Rattle.iox_registry.specs.Registers.{Adds, Handle, Registrations, Removes, details_in, details_of, is_own, left_with, listed, new_register, recovered, register_refusal, release_refusal, room_of, under_ticket}
+use Rattle.iox_registry.specs.Registers.{Adds, HandleView, Registrations, Removes, details_in, details_of, is_own, left_with, listed, new_register, recovered, register_refusal, release_refusal, room_of, under_ticket}
 use Rattle.iox_registry.proofs.NumberLemmas.{listed-added, listed-removed, locked-removed}
 use Rattle.iox_registry.proofs.RegisterLemmas.{open_parts}
 use Rattle.iox_members.specs.declared.member.Member.{Member}
@@ -187,7 +187,7 @@ first-room service most = rw (not_full) refl
 
 -- ---- why a release is not refused
 
-pub may-go : (registry : Registrations UniqueSystemId) (handle : Handle) (id : UniqueSystemId) → details_of registry handle ≡ Some id
+pub may-go : (registry : Registrations UniqueSystemId) (handle : HandleView) (id : UniqueSystemId) → details_of registry handle ≡ Some id
     → release_refusal registry handle ≡ None
 may-go registry handle id is = of_own (is_own registry handle) (under_ticket handle.ticket (get_or registry.slots handle.slot None)) is
   where

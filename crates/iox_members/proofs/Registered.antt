@@ -2,7 +2,7 @@
 use Rattle.std.proofs.Common.{◌≡◌, ◌==◌, ℕ, zero, suc, Bool, true, false, List, [], ◌∷◌, Option, Some, None, cond, get_or, set, refl, ap, sym, subst, ◌∙◌, get_or-set_other}
 use Rattle.std.specs.Prelude.{IsPermutation}
 use Rattle.std.proofs.lemmas.List.Sorted.{IsPermutation-cons, IsPermutation-middle, IsPermutation-refl, IsPermutation-sym, IsPermutation-trans}
-use Rattle.iox_registry.specs.Registers.{Adds, Handle, Registration, Registrations, details_in, details_of, is_own, left_with, registration_of, under_ticket}
+use Rattle.iox_registry.specs.Registers.{Adds, HandleView, Registration, Registrations, details_in, details_of, is_own, left_with, registration_of, under_ticket}
 
 module _ {D : Type 0} where
   not_some : (d : D) → ◌≡◌ {A = Option D} None (Some d) → ⊥
@@ -32,7 +32,7 @@ module _ {D : Type 0} where
   told_by true ticket slot d told = under ticket slot d told
   told_by false ticket slot d told = absurd (not_some d told)
 
-  pub told : (register : Registrations D) (handle : Handle) (d : D) → details_of register handle ≡ Some d
+  pub told : (register : Registrations D) (handle : HandleView) (d : D) → details_of register handle ≡ Some d
       → (r : Registration D) × (get_or register.slots handle.slot None ≡ Some r) × (r.details ≡ d)
   told register handle d is = told_by (is_own register handle) handle.ticket (get_or register.slots handle.slot None) d is
 
@@ -43,8 +43,8 @@ module _ {D : Type 0} where
 
   -- ---- one comes
 
-  pub stays-added : (details : D) (old : Registrations D) (handle : Handle) (new : Registrations D) → Adds details old handle new
-      → (other : Handle) (d : D) → details_of old other ≡ Some d → details_of new other ≡ Some d
+  pub stays-added : (details : D) (old : Registrations D) (handle : HandleView) (new : Registrations D) → Adds details old handle new
+      → (other : HandleView) (d : D) → details_of old other ≡ Some d → details_of new other ≡ Some d
   stays-added details old handle new adds other d is =
       ap (λ r. details_of r other) adds.left
       ∙ elsewhere (is_own old other) other.ticket old.slots handle.slot other.slot (Some (registration_of handle.ticket details)) apart ∙ is
@@ -57,7 +57,7 @@ module _ {D : Type 0} where
   -- ---- one goes
 
   -- what one handle tells stays as another's slot is emptied
-  pub stays-removed : (old : Registrations D) (handle other : Handle) (a b : D) → details_of old handle ≡ Some a → details_of old other ≡ Some b
+  pub stays-removed : (old : Registrations D) (handle other : HandleView) (a b : D) → details_of old handle ≡ Some a → details_of old other ≡ Some b
       → (b ≡ a → ⊥) → details_of (left_with old (set old.slots handle.slot None)) other ≡ Some b
   stays-removed old handle other a b has is differ =
       elsewhere (is_own old other) other.ticket old.slots handle.slot other.slot None apart ∙ is

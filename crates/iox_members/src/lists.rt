@@ -2,7 +2,7 @@
 ghost use Rattle.std.specs.Prelude.{◌≡◌, ◌==◌, IfOk, filter, find, map, not};
 ghost use Rattle.std.specs.Fn.{CalledAt};
 ghost use Rattle.std.specs.List.{list_any};
-ghost use Rattle.iox_attributes.specs.Visits.{Visits};
+ghost use Rattle.iox_attributes.specs.Visits.{VisitsInOrder};
 ghost use Rattle.iox_model.specs.Joins.{same_id};
 ghost use Rattle.iox_model.specs.Maps.{AreDistinct};
 ghost use Rattle.iox_members.specs.Nodes.{killed};
@@ -26,7 +26,7 @@ pub(crate) fn list_ids<F: FnMut(&UniqueNodeId) -> CallbackProgression>(
     mut callback: F,
 )
     requires { F.IsAlwaysCallable callback }
-    ensures { Visits (CalledAt F.FnMut) callback (map (λ m. m.id) nodes.now) }
+    ensures { VisitsInOrder (CalledAt F.FnMut) callback (map (λ m. m.id) nodes.now) }
 {
     let mut rest = nodes;
     while let Some((first, later)) = rest.split_first() {

@@ -3,7 +3,7 @@ ghost use Rattle.std.specs.Prelude.{◌≡◌, ◌<◌, IfErr, IfOk, None, OnErr
 ghost use Rattle.std.specs.Fn.{CalledAt};
 ghost use Rattle.std.specs.List.{list_any};
 ghost use Rattle.std.specs.Option.{option_map};
-ghost use Rattle.iox_attributes.specs.Visits.{Visits};
+ghost use Rattle.iox_attributes.specs.Visits.{VisitsInOrder};
 ghost use Rattle.iox_model.specs.Joins.{joined, new_node, same_id};
 ghost use Rattle.iox_registry.specs.declared.refusals.RegistryNewError.TheVariants as new_errors;
 ghost use Rattle.iox_registry.specs.Registers.{limit_refusal, room_of};
@@ -113,7 +113,7 @@ impl Members {
     /// says `Continue`. It takes no memory.
     pub fn list_ids<F: FnMut(&UniqueNodeId) -> CallbackProgression>(&self, callback: F)
         requires { F.IsAlwaysCallable callback }
-        ensures { Visits (CalledAt F.FnMut) callback (map (λ m. m.id) self.now.members.nodes) }
+        ensures { VisitsInOrder (CalledAt F.FnMut) callback (map (λ m. m.id) self.now.members.nodes) }
     {
         list_ids(&self.nodes, callback);
     }

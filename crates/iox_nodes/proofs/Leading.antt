@@ -18,7 +18,7 @@ use Rattle.iox_members.specs.Nodes.{RegisteredMembers, room_in}
 use Rattle.iox_members.specs.Registering.{IsSameRegister}
 use Rattle.iox_members.specs.Steps.{IsAfterLeaving, IsDeclaredDead, IsJoined, IsLeaving, IsRefusedUnlessDead, answer_in}
 use Rattle.iox_port_commands.specs.Applying.{HaveDefaults}
-use Rattle.iox_nodes.specs.Served.{IsDone, IsJoin}
+use Rattle.iox_nodes.specs.Served.{IsDoneOrRefused, IsJoin}
 use Rattle.iox_nodes.specs.Shown.{IsService, IsServiceWithRoom, given_for, state_of}
 use Rattle.iox_nodes.proofs.Reaching.{limits_stay, served_after}
 
@@ -47,7 +47,7 @@ kept_with_room x x' h h' c reply kept done same defaults = record {
 }
 
 pub done_service : {C X : Type 0} (x x' : RegisteredMembers) (h h' : HubState) (c : Command) (result : Result X (the_refusal.Refusal C))
-    → IsServiceWithRoom x h → IsDone (state_of x.members h) c result (state_of x'.members h') → IsSameRegister x.registry x'.registry
+    → IsServiceWithRoom x h → IsDoneOrRefused (state_of x.members h) c result (state_of x'.members h') → IsSameRegister x.registry x'.registry
     → HaveDefaults h' → IsServiceWithRoom x' h'
 done_service x x' h h' c result kept done same defaults =
     kept_with_room x x' h h' c (answer_in any_cause (λ u. replies.Done) result) kept (done any_cause) same defaults
@@ -67,7 +67,7 @@ joined_service x x' h id asked result kept joins same =
     (joined_so x x' h id asked result joins kept.room any_cause) same kept.service.defaults
 
 pub death_so : {C : Type 0} (x x' : Members) (h : HubState) (node : ℕ) (result : Result ⊤ (the_refusal.Refusal C)) → IsDeclaredDead x node result x'
-    → IsDone (state_of x h) (DeclareDead node) result (state_of x' h)
+    → IsDoneOrRefused (state_of x h) (DeclareDead node) result (state_of x' h)
 death_so x x' h node result done cause = done cause (state_of x h)
 
 -- ---- leaves and cleanups
@@ -78,17 +78,17 @@ not_twice false = refl
 
 pub leave_so : {C : Type 0} (x x' : Members) (h : HubState) (node : ℕ) (has : Bool) (result : Result ⊤ (the_refusal.Refusal C))
     → IsLeaving x node has result x' → ((y : Given) → has ≡ not (is_empty (numbers_of_node (state_of_hub y h).fixed node)))
-    → IsDone (state_of x h) (Leave node) result (state_of x' h)
+    → IsDoneOrRefused (state_of x h) (Leave node) result (state_of x' h)
 leave_so x x' h node has result done values cause =
     done cause (state_of x h) (not_twice (is_empty (numbers_of_node (state_of x h).fixed node)) ∙ sym (ap not (values (given_for x))))
 
 pub cleanup_refused : {C : Type 0} (X : Type 0) (x : Members) (h : HubState) (node : ℕ) (r : the_refusal.Refusal C)
-    → IsRefusedUnlessDead {C = C} {X = X} x node (Err r) → IsDone {X = X} (state_of x h) (Cleanup node) (Err r) (state_of x h)
+    → IsRefusedUnlessDead {C = C} {X = X} x node (Err r) → IsDoneOrRefused {X = X} (state_of x h) (Cleanup node) (Err r) (state_of x h)
 cleanup_refused X x h node r is cause = rw (is cause (state_of x h)) (refl, refl)
 
 pub cleanup_done : {C X : Type 0} (x x' : Members) (h h' : HubState) (node : ℕ) (u : X) → IsRefusedUnlessDead {C = C} {X = X} x node (Ok u)
     → ((y : Given) → Releases (state_of_hub y h) node (numbers_of_node (state_of_hub y h).fixed node) (state_of_hub y h'))
-    → IsAfterLeaving x node x' → IsDone {C = C} (state_of x h) (Cleanup node) (Ok u) (state_of x' h')
+    → IsAfterLeaving x node x' → IsDoneOrRefused {C = C} (state_of x h) (Cleanup node) (Ok u) (state_of x' h')
 cleanup_done x x' h h' node u is released left cause =
     rw (is cause (state_of x h)) (state_of x h', released (given_for x), refl, left (state_of x h'))
 

@@ -14,7 +14,7 @@ use Rattle.iox_model.specs.States.{State}
 use Rattle.iox_members.specs.Steps.{answer_in}
 use Rattle.iox_port_commands.specs.declared.elements.Elements.{Elements}
 use Rattle.iox_nodes.specs.Given.{command_given, reply_given, reply_to}
-use Rattle.iox_nodes.specs.Served.{IsAnswered, IsDone, IsJoin}
+use Rattle.iox_nodes.specs.Served.{IsAnswered, IsDoneOrRefused, IsJoin}
 
 answer_given : {C X Z : Type 0} (cause : C → Cause) (reply : X → the_reply.Reply (Vec ℕ Z) C) (result : Result X (the_refusal.Refusal C))
     → answer_in cause (λ x. reply_given cause (reply x)) result ≡ reply_given cause (reply_to reply result)
@@ -35,7 +35,7 @@ pub done_answered :
     {Q P H C X Z : Type 0} (q : Q → List ℕ) (p : P → List ℕ) (w : H → List ℕ) (s s' : State)
     (command plain : the_command.Command (Elements Q P) H (Option (the_refusal.Refusal C))) (c : Command) (result : Result X (the_refusal.Refusal C))
     (reply : the_reply.Reply (Vec ℕ Z) C) → command ≡ plain → ((cause : C → Cause) → command_given q p w cause plain ≡ c)
-    → reply ≡ reply_to (λ x. replies.Done) result → IsDone s c result s' → IsAnswered q p w s command reply s'
+    → reply ≡ reply_to (λ x. replies.Done) result → IsDoneOrRefused s c result s' → IsAnswered q p w s command reply s'
 done_answered {C = C} {Z = Z} q p w s s' command plain c result reply is means told done cause =
     subst (λ d. IsCommand s (command_given q p w cause d) (reply_given cause reply) s') (sym is)
     (subst (λ d. IsCommand s d (reply_given cause reply) s') (sym (means cause))

@@ -54,9 +54,9 @@ IsJoin {C = C} s id asked result s' =
     (answer_in cause replies.Node result) s'
 
 -- A command that has nothing to tell is done, or refused so.
-abbrev pub IsDone :
+abbrev pub IsDoneOrRefused :
     {C X : Type 0} → State → Command → Result X (the_refusal.Refusal C) → State → Type 0
-IsDone {C = C} s command result s' =
+IsDoneOrRefused {C = C} s command result s' =
     (cause : C → Cause) → IsCommand s command (answer_in cause (λ x. replies.Done) result) s'
 
 -- A command of a node is answered so, where these are the words of elements and handlers.

@@ -3,7 +3,7 @@ ghost use Rattle.std.specs.Prelude.{◌≡◌, Err, IfOk, OnErr, false};
 ghost use Rattle.iox_model.specs.declared.command.Command.TheVariants.{Cleanup, DeclareDead, Leave};
 ghost use Rattle.iox_model.specs.declared.reply.Refusal.TheVariants.{WantOfMemory};
 ghost use Rattle.iox_nodes.specs.Memory.{is_wanting};
-ghost use Rattle.iox_nodes.specs.Served.{IsDone, IsJoin};
+ghost use Rattle.iox_nodes.specs.Served.{IsDoneOrRefused, IsJoin};
 ghost use Rattle.iox_nodes.specs.Shown.{service_of};
 
 use crate::service::Service;
@@ -66,7 +66,7 @@ impl<Q: Payload, QH: Words, P: Payload, PH: Words, H: Backpressure> Service<Q, Q
     /// A node is declared dead: it asks nothing more. Its ports stay connected, and its number and
     /// its id stay in use, until it is cleaned up. It is refused as `UnknownNode` or `NodeIsDead`.
     pub fn declare_dead<C>(&mut self, node: u64) -> Result<(), Refusal<C>>
-        ensures done { IsDone (service_of self.old) (DeclareDead node) result
+        ensures done { IsDoneOrRefused (service_of self.old) (DeclareDead node) result
             (service_of self.new) }
         ensures unchanged { OnErr result (self.new ≡ self.old) }
     {
@@ -76,7 +76,7 @@ impl<Q: Payload, QH: Words, P: Payload, PH: Words, H: Backpressure> Service<Q, Q
     /// A node leaves; the last one closes the service for good. It is refused as `UnknownNode`,
     /// `NodeIsDead`, or `HasPorts` while a port or a handle of it is not released.
     pub fn leave<C>(&mut self, node: u64) -> Result<(), Refusal<C>>
-        ensures done { IsDone (service_of self.old) (Leave node) result (service_of self.new) }
+        ensures done { IsDoneOrRefused (service_of self.old) (Leave node) result (service_of self.new) }
         ensures unchanged { OnErr result (self.new ≡ self.old) }
     {
         let has_values = self.hub.has_values(node);
@@ -87,7 +87,7 @@ impl<Q: Payload, QH: Words, P: Payload, PH: Words, H: Backpressure> Service<Q, Q
     /// numbers, and then it is gone. The last one closes the service for good. It is refused as
     /// `UnknownNode` or `NodeIsAlive`.
     pub fn cleanup<C>(&mut self, node: u64) -> Result<(), Refusal<C>>
-        ensures done { IsDone (service_of self.old) (Cleanup node) result (service_of self.new) }
+        ensures done { IsDoneOrRefused (service_of self.old) (Cleanup node) result (service_of self.new) }
         ensures unchanged { OnErr result (self.new ≡ self.old) }
     {
         if let Err(refusal) = self.members.dead(node) {

@@ -1,7 +1,7 @@
 //! What there is in a service.
 ghost use Rattle.std.specs.Prelude.{◌≡◌, IfOk, map};
 ghost use Rattle.std.specs.Fn.{CalledAt};
-ghost use Rattle.iox_attributes.specs.Visits.{Visits};
+ghost use Rattle.iox_attributes.specs.Visits.{VisitsInOrder};
 ghost use Rattle.iox_model.specs.declared.kind.Role.TheVariants.{Client, Server};
 ghost use Rattle.iox_model.specs.Peers.{ports_of_role};
 ghost use Rattle.iox_port_commands.specs.Listings.{ids_of_role};
@@ -47,7 +47,7 @@ impl<Q: Payload, QH: Words, P: Payload, PH: Words, H: Backpressure> Service<Q, Q
     /// numbers, as far as it says `Continue`. It takes no memory.
     pub fn list_node_ids<F: FnMut(&UniqueNodeId) -> CallbackProgression>(&self, callback: F)
         requires { F.IsAlwaysCallable callback }
-        ensures { Visits (CalledAt F.FnMut) callback
+        ensures { VisitsInOrder (CalledAt F.FnMut) callback
             (map (λ m. m.id) (service_of self.now).members.nodes) }
     {
         self.members.list_ids(callback);
@@ -57,7 +57,7 @@ impl<Q: Payload, QH: Words, P: Payload, PH: Words, H: Backpressure> Service<Q, Q
     /// numbers, as far as it says `Continue`. It takes no memory.
     pub fn list_client_ids<F: FnMut(&UniqueClientId) -> CallbackProgression>(&self, callback: F)
         requires { F.IsAlwaysCallable callback }
-        ensures { Visits (CalledAt F.FnMut) callback
+        ensures { VisitsInOrder (CalledAt F.FnMut) callback
             (ids_of_role (service_of self.now).fixed Client) }
     {
         self.hub.list_ids(Role::Client, callback);
@@ -67,7 +67,7 @@ impl<Q: Payload, QH: Words, P: Payload, PH: Words, H: Backpressure> Service<Q, Q
     /// numbers, as far as it says `Continue`. It takes no memory.
     pub fn list_server_ids<F: FnMut(&UniqueServerId) -> CallbackProgression>(&self, callback: F)
         requires { F.IsAlwaysCallable callback }
-        ensures { Visits (CalledAt F.FnMut) callback
+        ensures { VisitsInOrder (CalledAt F.FnMut) callback
             (ids_of_role (service_of self.now).fixed Server) }
     {
         self.hub.list_ids(Role::Server, callback);

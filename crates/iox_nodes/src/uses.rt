@@ -4,7 +4,7 @@ ghost use Rattle.iox_words.specs.Numbers.{no_word, one_word};
 ghost use Rattle.iox_model.specs.declared.command.Command.TheVariants.{Cleanup, Leave, ListNodes};
 ghost use Rattle.iox_model.specs.Runs.{IsServed};
 ghost use Rattle.iox_nodes.specs.Memory.{IsAnsweredWithMemory};
-ghost use Rattle.iox_nodes.specs.Served.{IsDone, IsJoin};
+ghost use Rattle.iox_nodes.specs.Served.{IsDoneOrRefused, IsJoin};
 ghost use Rattle.iox_nodes.specs.Shown.{service_of};
 
 use crate::service::Service;
@@ -31,14 +31,14 @@ pub fn opens(service: &mut Bytes, id: UniqueSystemId) -> Result<u64, Refusal<Inf
 
 /// A dead node is cleaned up.
 pub fn cleans_up(service: &mut Bytes, node: u64) -> Result<(), Refusal<Infallible>>
-    ensures { IsDone (service_of service.old) (Cleanup node) result (service_of service.new) }
+    ensures { IsDoneOrRefused (service_of service.old) (Cleanup node) result (service_of service.new) }
 {
     service.cleanup(node)
 }
 
 /// A node leaves.
 pub fn leaves(service: &mut Bytes, node: u64) -> Result<(), Refusal<Infallible>>
-    ensures { IsDone (service_of service.old) (Leave node) result (service_of service.new) }
+    ensures { IsDoneOrRefused (service_of service.old) (Leave node) result (service_of service.new) }
 {
     service.leave(node)
 }

@@ -7,7 +7,7 @@ use Rattle.iox_model.specs.Commands.{Refusal, Cause}
 use Rattle.iox_model.specs.declared.reply.Refusal.TheVariants.{IncompatibleRequestTypes, IncompatibleResponseTypes, IncompatibleAttributes}
 use Rattle.iox_openers.specs.declared.message_types.MessageTypes.{MessageTypes}
 use Rattle.iox_openers.specs.declared.service_description.ServiceDescription.{ServiceDescription}
-use Rattle.iox_openers.specs.Openers.{Opener, Suit, IsLacking, IsAsked, IsRefusedByTypes}
+use Rattle.iox_openers.specs.Openers.{Opener, Suit, IsLacking, FailsFirst, IsRefusedByTypes}
 use Rattle.iox_openers.proofs.CompatibilityLemmas.{compatible_or_not}
 use Rattle.iox_openers.proofs.LackLemmas.{met-lacks_nothing, one-cause, meets-or-lacks}
 
@@ -36,7 +36,7 @@ data Answer (service : ServiceDescription) (opener : Opener) (a : Option Refusal
   Attributes : (cause : Cause) → a ≡ Some (IncompatibleAttributes cause) → Suit opener.types service.types →
       IsLacking opener.required service.attributes cause → Answer service opener a
 
-answer_of : (service : ServiceDescription) (opener : Opener) (a : Option Refusal) → IsAsked service opener a →
+answer_of : (service : ServiceDescription) (opener : Opener) (a : Option Refusal) → FailsFirst service opener a →
     Answer service opener a
 answer_of service opener None h = Nothing refl h.0 h.1
 answer_of service opener (Some IncompatibleRequestTypes) h = Requests refl h
@@ -69,26 +69,26 @@ same-answer s o a b (Attributes cause e suit lacks) (Attributes other f also mor
 
 -- there is one answer
 pub one-answer : (service : ServiceDescription) (opener : Opener) (a b : Option Refusal) →
-    IsAsked service opener a → IsAsked service opener b → a ≡ b
+    FailsFirst service opener a → FailsFirst service opener b → a ≡ b
 one-answer service opener a b h k =
     same-answer service opener a b (answer_of service opener a h) (answer_of service opener b k)
 
 -- what is answered for the types is the answer, or they suit
 from-types : (service : ServiceDescription) (opener : Opener) (a : Option Refusal) →
     IsRefusedByTypes opener.types service.types a →
-    Suit opener.types service.types ⊎ ((b : Option Refusal) × IsAsked service opener b)
+    Suit opener.types service.types ⊎ ((b : Option Refusal) × FailsFirst service opener b)
 from-types service opener None h = inl h
 from-types service opener (Some (IncompatibleAttributes cause)) h = absurd h
 from-types service opener (Some other) h = inr (Some other, h)
 
 from-attributes : (service : ServiceDescription) (opener : Opener) → Suit opener.types service.types →
     Meets opener.required service.attributes ⊎ ((cause : Cause) × IsLacking opener.required service.attributes cause) →
-    (a : Option Refusal) × IsAsked service opener a
+    (a : Option Refusal) × FailsFirst service opener a
 from-attributes service opener suit (inl met) = (None, (suit, met))
 from-attributes service opener suit (inr (cause, lacks)) = (Some (IncompatibleAttributes cause), (suit, lacks))
 
 -- and there is one
-pub answered : (service : ServiceDescription) (opener : Opener) → (a : Option Refusal) × IsAsked service opener a
+pub answered : (service : ServiceDescription) (opener : Opener) → (a : Option Refusal) × FailsFirst service opener a
 answered service opener =
     let types = types-answered opener.types service.types in
     elim (from-types service opener types.0 types.1) [

@@ -8,18 +8,18 @@ use Rattle.iox_attributes.specs.declared.verification_error.AttributeVerificatio
 use Rattle.iox_attributes.specs.declared.verification_error.AttributeVerificationError.TheVariants.{IncompatibleAttribute, NonExistingKey}
 use Rattle.iox_model.specs.declared.reply.Refusal as the_refusal
 use Rattle.iox_model.specs.declared.reply.Refusal.TheVariants.{IncompatibleAttributes}
-use Rattle.iox_openers.specs.Openers.{Opener, IsAsked, IsAskedOfCreator}
+use Rattle.iox_openers.specs.Openers.{Opener, FailsFirst, IsAskedOfCreator}
 use Rattle.iox_openers.specs.Causes.{as_refusal, with_cause}
 
 -- No opener has two answers.
 abbrev pub OneAnswerForAnOpener : Type 0
 OneAnswerForAnOpener = (service : ServiceDescription) (opener : Opener) (a b : Option Refusal) →
-    IsAsked service opener a → IsAsked service opener b → a ≡ b
+    FailsFirst service opener a → FailsFirst service opener b → a ≡ b
 
 -- Each opener has an answer.
 abbrev pub EachOpenerIsAnswered : Type 0
 EachOpenerIsAnswered = (service : ServiceDescription) (opener : Opener) →
-    (answer : Option Refusal) × IsAsked service opener answer
+    (answer : Option Refusal) × FailsFirst service opener answer
 
 -- No creator has two answers.
 abbrev pub OneAnswerForACreator : Type 0

@@ -41,15 +41,15 @@ IsLacking required defined (MissingKey key) = LacksKey required defined key
 
 -- The first of an opener's tests that fails, if one does: types of requests, types of responses,
 -- attributes. Each is compared to the service's.
-abbrev pub IsAsked : ServiceDescription → Opener → Option Refusal → Type 0
+abbrev pub FailsFirst : ServiceDescription → Opener → Option Refusal → Type 0
 -- all are passed
-IsAsked service opener None =
+FailsFirst service opener None =
     Suit opener.types service.types × Meets opener.required service.attributes
 -- the types are compatible, the attributes do not meet what is required
-IsAsked service opener (Some (IncompatibleAttributes cause)) =
+FailsFirst service opener (Some (IncompatibleAttributes cause)) =
     Suit opener.types service.types × IsLacking opener.required service.attributes cause
 -- the types are not compatible
-IsAsked service opener (Some other) = IsRefusedByTypes opener.types service.types (Some other)
+FailsFirst service opener (Some other) = IsRefusedByTypes opener.types service.types (Some other)
 
 -- Why a creation is refused: the first of two tests that fails, if one does. The service's own
 -- types are compared to those that its creator gives.

@@ -13,7 +13,7 @@ pub struct ServiceDescription {
 
 impl ServiceDescription {
     ghost use Rattle.iox_openers.specs.Causes.{as_refusal};
-    ghost use Rattle.iox_openers.specs.Openers.{IsAsked, IsAskedOfCreator, opener};
+    ghost use Rattle.iox_openers.specs.Openers.{FailsFirst, IsAskedOfCreator, opener};
 
     /// What a creator whose own messages have these types is refused by them, if it is refused.
     pub fn creator_refusal(
@@ -32,7 +32,7 @@ impl ServiceDescription {
         types: &MessageTypes,
         verifier: &'a AttributeVerifier,
     ) -> Option<Refusal<AttributeVerificationError<'a>>>
-        ensures { IsAsked self.now (opener types.now verifier.now) (as_refusal result) }
+        ensures { FailsFirst self.now (opener types.now verifier.now) (as_refusal result) }
     {
         if let Some(refusal) = types.incompatibility_to(&self.types) {
             return Some(refusal);

@@ -6,7 +6,7 @@ use Rattle.iox_types.specs.declared.identifiers.system_id.UniqueSystemId.{Unique
 use Rattle.iox_registry.specs.declared.roles.Role.{Role}
 use Rattle.iox_registry.specs.declared.roles.Role.TheVariants.{Node}
 use Rattle.iox_registry.specs.Changes.{Changes, LeadsTo}
-use Rattle.iox_registry.specs.Registers.{Adds, Handle, KeepsOrLoses, Registration, Registrations, Removes, WasGiven, details_in, details_of, is_own, left_with, listed, locked_after, new_register, recovered, same_id, same_role, under_ticket, without_node}
+use Rattle.iox_registry.specs.Registers.{Adds, HandleView, KeepsOrLoses, Registration, Registrations, Removes, WasGiven, details_in, details_of, is_own, left_with, listed, locked_after, new_register, recovered, same_id, same_role, under_ticket, without_node}
 use Rattle.iox_registry.proofs.HandleLemmas.{KeepsOrLoses-recovered}
 use Rattle.iox_registry.proofs.IdLemmas.{same_id-not, same_id-of, same_role-is}
 use Rattle.iox_registry.proofs.RecoveryLemmas.{recovered-none}
@@ -21,7 +21,7 @@ module _ {D : Type 0} (node : D → UniqueSystemId) where
       subst (KeepsOrLoses old) (sym takes.1) (KeepsOrLoses-recovered node takes.0 old)
 
   -- what went is gone for good
-  pub gone-for-good : (old : Registrations D) (later : List (Registrations D)) (last : Registrations D) (handle : Handle)
+  pub gone-for-good : (old : Registrations D) (later : List (Registrations D)) (last : Registrations D) (handle : HandleView)
       → LeadsTo node old later last → WasGiven old handle → details_of old handle ≡ None → details_of last handle ≡ None
   gone-for-good old [] last handle leads given gone = ap (λ r. details_of r handle) leads ∙ gone
   gone-for-good old (next ∷ later) last handle (change, leads) given gone =
@@ -106,7 +106,7 @@ module _ {D : Type 0} (node : D → UniqueSystemId) where
       not_open same = cc
 
   -- what a recovery leaves under a handle
-  pub recovered-of : (id : UniqueSystemId) (old : Registrations D) (handle : Handle) (details : D)
+  pub recovered-of : (id : UniqueSystemId) (old : Registrations D) (handle : HandleView) (details : D)
       → details_of old handle ≡ Some details
       → details_of (recovered node id old) handle ≡ cond (same_id (node details) id) None (Some details)
   recovered-of id old handle details told = of_own (is_own old handle) told
@@ -183,11 +183,11 @@ module _ {D : Type 0} (node : D → UniqueSystemId) where
       takes.1 ∙ recovered-none node takes.0 old (nothing-without takes.0 old.slots none)
 
 -- a handle that was given is the register's own
-pub own-given : {D : Type 0} (register : Registrations D) (handle : Handle) → WasGiven register handle → is_own register handle ≡ true
+pub own-given : {D : Type 0} (register : Registrations D) (handle : HandleView) → WasGiven register handle → is_own register handle ≡ true
 own-given register handle given = own_since register handle given.0 given.1
 
 pub given-later : {D : Type 0} (node : D → UniqueSystemId) (old : Registrations D) (later : List (Registrations D))
-    (last : Registrations D) (handle : Handle) → LeadsTo node old later last → WasGiven old handle → WasGiven last handle
+    (last : Registrations D) (handle : HandleView) → LeadsTo node old later last → WasGiven old handle → WasGiven last handle
 given-later node old [] last handle leads given = subst (λ r. WasGiven r handle) (sym leads) given
 given-later node old (next ∷ later) last handle (change, leads) given =
     given-later node next later last handle leads ((KeepsOrLoses-change node old next change).given handle given)

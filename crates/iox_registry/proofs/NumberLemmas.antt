@@ -3,7 +3,7 @@ use Rattle.std.proofs.Common.{◌≡◌, ◌==◌, ◌&&◌, ◌+◌, ◌<◌, �
 use Rattle.std.specs.Prelude.{nat_lt}
 use Rattle.std.proofs.lemmas.Bool.{eq-eqb, eqb-true, lt-ltb}
 use Rattle.iox_registry.specs.declared.roles.Role.TheVariants.{Node}
-use Rattle.iox_registry.specs.Registers.{Adds, Handle, Registration, Registrations, Removes, details_in, details_of, is_own, left_with, listed, locked_after, registration_of, same_role, under_ticket}
+use Rattle.iox_registry.specs.Registers.{Adds, HandleView, Registration, Registrations, Removes, details_in, details_of, is_own, left_with, listed, locked_after, registration_of, same_role, under_ticket}
 use Rattle.iox_registry.proofs.IdLemmas.{same_role-of}
 
 module _ {D : Type 0} where
@@ -35,7 +35,7 @@ module _ {D : Type 0} where
   one-less (None ∷ slots) (suc i) r has = one-less slots i r has
   one-less (Some first ∷ slots) (suc i) r has = let rest = one-less slots i r has in omega arith
 
-  pub listed-added : (details : D) (old : Registrations D) (handle : Handle) (new : Registrations D)
+  pub listed-added : (details : D) (old : Registrations D) (handle : HandleView) (new : Registrations D)
       → Adds details old handle new → length (listed new) ≡ length (listed old) + 1
   listed-added details old handle new adds =
       ap (λ r. length (listed r)) adds.left
@@ -53,19 +53,19 @@ module _ {D : Type 0} where
       not_some : is_some {T = D} None ≡ true → ⊥
       not_some is = cc
 
-  emptied : (handle : Handle) (old new : Registrations D) → Removes handle old new
+  emptied : (handle : HandleView) (old new : Registrations D) → Removes handle old new
       → length (details_in (set old.slots handle.slot None)) + 1 ≡ length (listed old)
   emptied handle old new removes =
       let has = has-slot (is_own old handle) handle.ticket (get_or old.slots handle.slot None) removes.had in
       one-less old.slots handle.slot has.0 has.1
 
-  pub listed-removed : (handle : Handle) (old new : Registrations D) → Removes handle old new
+  pub listed-removed : (handle : HandleView) (old new : Registrations D) → Removes handle old new
       → length (listed new) + 1 ≡ length (listed old)
   listed-removed handle old new removes =
       ap (λ r. length (listed r) + 1) removes.left ∙ emptied handle old new removes
 
   -- a register of nodes is locked exactly if nothing is left
-  pub locked-removed : (handle : Handle) (old new : Registrations D) → Removes handle old new → old.role ≡ Node
+  pub locked-removed : (handle : HandleView) (old new : Registrations D) → Removes handle old new → old.role ≡ Node
       → new.locked ≡ (length (listed new) == 0)
   locked-removed handle old new removes role =
       let less = emptied handle old new removes in
@@ -79,7 +79,7 @@ module _ {D : Type 0} where
       chosen : (b x y z : Bool) → b ≡ true → x ≡ true → cond b (x && z) y ≡ z
       chosen b x y z one two = rw (one, two) refl
 
-  pub ends-removed : (handle : Handle) (old new : Registrations D) → Removes handle old new → old.role ≡ Node
+  pub ends-removed : (handle : HandleView) (old new : Registrations D) → Removes handle old new → old.role ≡ Node
       → (new.locked ≡ true) ↔ (length (listed new) ≡ 0)
   ends-removed handle old new removes role =
       let locked = locked-removed handle old new removes role in

@@ -10,7 +10,7 @@ use Rattle.iox_registry.specs.declared.roles.Role.{Role}
 use Rattle.iox_registry.specs.declared.refusals.AddFailure.{AddFailure}
 use Rattle.iox_registry.specs.declared.refusals.AddFailure.TheVariants.{Locked, Full}
 use Rattle.iox_registry.specs.declared.refusals.ReleaseError.TheVariants.{Foreign, Spent}
-use Rattle.iox_registry.specs.Registers.{Adds, Handle, KeepsOrLoses, Registration, Registrations, Removes, add_refusal, details_of, is_own, left_with, listed, locked_after, most_tickets, registration_of, release_refusal, under_ticket}
+use Rattle.iox_registry.specs.Registers.{Adds, HandleView, KeepsOrLoses, Registration, Registrations, Removes, add_refusal, details_of, is_own, left_with, listed, locked_after, most_tickets, registration_of, release_refusal, under_ticket}
 use Rattle.iox_registry.specs.Standing.{IsEntryOf, handle_in, kept_in, shown, shown_slots}
 use Rattle.iox_registry.proofs.HandleLemmas.{KeepsOrLoses-add, KeepsOrLoses-free}
 use Rattle.iox_registry.proofs.IdLemmas.{same_role-is, same_role-of}
@@ -43,13 +43,13 @@ module _ {D : Type 0} where
           not_none same = cc
       parts false false false is = (refl, refl, refl)
 
-  pub own_since : (register : Registrations D) (handle : Handle) → handle.service ≡ register.service
+  pub own_since : (register : Registrations D) (handle : HandleView) → handle.service ≡ register.service
       → handle.role ≡ register.role → is_own register handle ≡ true
   own_since register handle service role =
       and_from _ _ (eq-eqb _ _ service) (same_role-of handle.role register.role role)
 
   -- what was added stands under its handle
-  pub details-added : (details : D) (old : Registrations D) (handle : Handle) (new : Registrations D)
+  pub details-added : (details : D) (old : Registrations D) (handle : HandleView) (new : Registrations D)
       → Adds details old handle new → details_of new handle ≡ Some details
   details-added details old handle new adds =
       rw (adds.left) (
@@ -64,7 +64,7 @@ module _ {D : Type 0} where
           → cond own (under_ticket handle.ticket slot) None ≡ Some details
       found own is at = rw (is, at) (same handle.ticket)
 
-  pub KeepsOrLoses-Adds : (details : D) (old : Registrations D) (handle : Handle) (new : Registrations D)
+  pub KeepsOrLoses-Adds : (details : D) (old : Registrations D) (handle : HandleView) (new : Registrations D)
       → Adds details old handle new → KeepsOrLoses old new
   KeepsOrLoses-Adds details old handle new adds =
       rw (adds.left, adds.fresh) (KeepsOrLoses-add details old handle.slot)
@@ -76,7 +76,7 @@ module _ {D : Type 0} where
   left-is old slots told locked is same = rw (is, same) refl
 
   -- a handle of the register that tells nothing is spent
-  pub spent : (register : Registrations D) (handle : Handle) → is_own register handle ≡ true
+  pub spent : (register : Registrations D) (handle : HandleView) → is_own register handle ≡ true
       → is_some (details_of register handle) ≡ false → release_refusal register handle ≡ Some Spent
   spent register handle own none = of_bool _ _ own (of_option (details_of register handle) none)
     where
@@ -88,14 +88,14 @@ module _ {D : Type 0} where
       of_bool a b one two = rw (one, two) refl
 
   -- an own handle has the service and the role of the register
-  pub own-parts : (register : Registrations D) (handle : Handle) → is_own register handle ≡ true
+  pub own-parts : (register : Registrations D) (handle : HandleView) → is_own register handle ≡ true
       → (handle.service ≡ register.service) × (handle.role ≡ register.role)
   own-parts register handle own =
       let parts = and_parts _ _ own in
       (eqb-true _ _ parts.0, same_role-is handle.role register.role parts.1)
 
   -- an own handle is told by what the container says of it
-  pub handle-is : (register : Registrations D) (handle : Handle) (service : ℕ) (role : Role) (ticket : ℕ) (entry : ContainerHandle)
+  pub handle-is : (register : Registrations D) (handle : HandleView) (service : ℕ) (role : Role) (ticket : ℕ) (entry : ContainerHandle)
       → handle_in service role ticket entry ≡ handle → IsEntryOf service ticket entry → is_own register handle ≡ true
       → (handle ≡ handle_in register.service register.role entry.ticket entry) × (entry.container_id ≡ register.service)
   handle-is register handle service role ticket entry view of_entry own =
@@ -108,7 +108,7 @@ module _ {D : Type 0} where
       same one two three = rw (one, two, three) refl
 
   -- a handle whose registration went tells nothing
-  pub details-removed : (handle : Handle) (old new : Registrations D) → Removes handle old new → details_of new handle ≡ None
+  pub details-removed : (handle : HandleView) (old new : Registrations D) → Removes handle old new → details_of new handle ≡ None
   details-removed handle old new removes =
       rw (removes.left) (hidden (is_own old handle) (emptied old.slots handle.slot))
     where
@@ -122,7 +122,7 @@ module _ {D : Type 0} where
       hidden true at = ap (under_ticket handle.ticket) at
       hidden false at = refl
 
-  pub KeepsOrLoses-Removes : (handle : Handle) (old new : Registrations D) → Removes handle old new → KeepsOrLoses old new
+  pub KeepsOrLoses-Removes : (handle : HandleView) (old new : Registrations D) → Removes handle old new → KeepsOrLoses old new
   KeepsOrLoses-Removes handle old new removes = rw (removes.left) (KeepsOrLoses-free old handle.slot _)
 
   pub shown-new : (room : ℕ) → shown_slots {D = D} (replicate room None) ≡ replicate room None

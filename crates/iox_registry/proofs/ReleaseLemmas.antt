@@ -15,7 +15,7 @@ use Rattle.iox_container.specs.Leaving.{Frees}
 use Rattle.iox_registry.specs.declared.registered.Registered.{Registered}
 use Rattle.iox_registry.specs.declared.roles.Role.{Role}
 use Rattle.iox_registry.specs.declared.roles.Role.TheVariants.{Node}
-use Rattle.iox_registry.specs.Registers.{Handle, Registrations, Removes, details_in, details_of, is_own, listed, locked_after, same_role, under_ticket}
+use Rattle.iox_registry.specs.Registers.{HandleView, Registrations, Removes, details_in, details_of, is_own, listed, locked_after, same_role, under_ticket}
 use Rattle.iox_registry.specs.Standing.{IsStanding, entry_of_kept, handle_in, kept_in, mode_of, register_in, shown, shown_slots}
 use Rattle.iox_registry.proofs.CountLemmas.{count-standing, listed-less}
 use Rattle.iox_registry.proofs.RecoveryLemmas.{locked-by}

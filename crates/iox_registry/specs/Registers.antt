@@ -18,7 +18,7 @@ use Rattle.iox_registry.specs.declared.remaining_owners.RemainingOwners.{Remaini
 use Rattle.iox_registry.specs.declared.remaining_owners.RemainingOwners.TheVariants.{HasOwners, NoMoreOwners}
 
 -- what tells a registration
-pub record Handle : Type 0 where
+pub record HandleView : Type 0 where
   -- the number of the service, and what is registered there
   pub service : ℕ
   pub role : Role
@@ -109,7 +109,7 @@ abbrev pub listed : {D : Type 0} → Registrations D → List D
 listed register = details_in register.slots
 
 -- the handle names the service and the role of the register
-abbrev pub is_own : {D : Type 0} → Registrations D → Handle → Bool
+abbrev pub is_own : {D : Type 0} → Registrations D → HandleView → Bool
 is_own register handle = (handle.service == register.service) && same_role handle.role register.role
 
 -- the details, if they came under this ticket
@@ -119,7 +119,7 @@ under_ticket ticket (Some registration) =
     if registration.ticket == ticket then Some registration.details else None
 
 -- the details of a handle: none if it is another register's, or what it told is gone
-abbrev pub details_of : {D : Type 0} → Registrations D → Handle → Option D
+abbrev pub details_of : {D : Type 0} → Registrations D → HandleView → Option D
 details_of register handle =
     if is_own register handle
     then under_ticket handle.ticket (slice_index_or register.slots handle.slot None)
@@ -153,7 +153,7 @@ abbrev pub registration_of : {D : Type 0} → ℕ → D → Registration D
 registration_of ticket details = record { ticket = ticket; details = details }
 
 -- From old, details are added under a handle, which leaves new. Which free slot they get is open.
-pub record Adds {D : Type 0} (details : D) (old : Registrations D) (handle : Handle)
+pub record Adds {D : Type 0} (details : D) (old : Registrations D) (handle : HandleView)
     (new : Registrations D) : Type 0 where
   -- nothing spoke against it
   pub allowed : add_refusal old ≡ None
@@ -174,7 +174,7 @@ pub record Adds {D : Type 0} (details : D) (old : Registrations D) (handle : Han
 -- ---- something goes
 
 -- why nothing is released: the handle is another register's, or what it told is gone
-abbrev pub release_refusal : {D : Type 0} → Registrations D → Handle → Option ReleaseError
+abbrev pub release_refusal : {D : Type 0} → Registrations D → HandleView → Option ReleaseError
 release_refusal register handle =
     if is_own register handle
     then (if is_none (details_of register handle) then Some Spent else None)
@@ -194,7 +194,7 @@ abbrev pub left_with :
 left_with old left = record old { slots = left; locked = locked_after old left }
 
 -- From old, the registration of a handle goes, which leaves new.
-pub record Removes {D : Type 0} (handle : Handle) (old new : Registrations D) : Type 0 where
+pub record Removes {D : Type 0} (handle : HandleView) (old new : Registrations D) : Type 0 where
   pub had : IsSome (details_of old handle)
   pub left : new ≡ left_with old (slice_set old.slots handle.slot None)
 
@@ -217,13 +217,13 @@ remaining register = if register.locked then NoMoreOwners else HasOwners
 -- ---- handles that were given
 
 -- the register has given this handle
-abbrev pub WasGiven : {D : Type 0} → Registrations D → Handle → Type 0
+abbrev pub WasGiven : {D : Type 0} → Registrations D → HandleView → Type 0
 WasGiven register handle =
     (handle.service ≡ register.service) × (handle.role ≡ register.role)
     × (handle.ticket < register.used_tickets)
 
 -- From old to new each handle that was given keeps its details, or has none.
 pub record KeepsOrLoses {D : Type 0} (old new : Registrations D) : Type 0 where
-  pub given : (handle : Handle) → WasGiven old handle → WasGiven new handle
-  pub details : (handle : Handle) → WasGiven old handle
+  pub given : (handle : HandleView) → WasGiven old handle → WasGiven new handle
+  pub details : (handle : HandleView) → WasGiven old handle
       → (details_of new handle ≡ details_of old handle) ⊎ (details_of new handle ≡ None)

@@ -11,7 +11,7 @@ use Rattle.iox_container.specs.Containers.{Contents}
 use Rattle.iox_registry.specs.declared.registered.Registered.{Registered}
 use Rattle.iox_registry.specs.declared.roles.Role.{Role}
 use Rattle.iox_registry.specs.declared.roles.Role.TheVariants.{Node}
-use Rattle.iox_registry.specs.Registers.{Handle, Registration, Registrations, same_id, same_role}
+use Rattle.iox_registry.specs.Registers.{HandleView, Registration, Registrations, same_id, same_role}
 
 -- what callers see of what a slot has
 abbrev pub shown : {D : Type 0} → Registered D → Registration D
@@ -61,12 +61,12 @@ pub record IsStanding {D : Type 0} (node : D → UniqueSystemId) (container : Co
 -- ---- handles
 
 -- what callers see of a handle
-abbrev pub handle_in : ℕ → Role → ℕ → ContainerHandle → Handle
+abbrev pub handle_in : ℕ → Role → ℕ → ContainerHandle → HandleView
 handle_in service role ticket entry =
     record { service = service; role = role; slot = entry.index; ticket = ticket }
 
 -- the container's handle of what a handle tells
-abbrev pub entry_handle : Handle → ContainerHandle
+abbrev pub entry_handle : HandleView → ContainerHandle
 entry_handle handle =
     record { container_id = handle.service; index = handle.slot; ticket = handle.ticket }
 

@@ -13,10 +13,10 @@ pub struct RegistryHandle {
 }
 
 impl Model for RegistryHandle {
-    ghost use Rattle.iox_registry.specs.Registers.{Handle};
+    ghost use Rattle.iox_registry.specs.Registers.{HandleView};
     ghost use Rattle.iox_registry.specs.Standing.{IsEntryOf, entry_handle, handle_in};
 
-    ghost Value = { Handle };
+    ghost Value = { HandleView };
 
     ghost view = { λ it. handle_in it.service it.role it.ticket it.entry };
 

@@ -4,7 +4,7 @@ ghost use Rattle.std.specs.Fn.{CalledAt};
 ghost use Rattle.iox_sets.specs.Refusals.{IsRefusal};
 ghost use Rattle.iox_registry.specs.declared.refusals.RegistryNewError.TheVariants.{WantOfMemory};
 ghost use Rattle.iox_registry.specs.Registers.{Adds, KeepsOrLoses, Removes, add_refusal, details_of, is_own, limit_refusal, listed, new_register, recovered, release_refusal, room_of};
-ghost use Rattle.iox_attributes.specs.Visits.{Visits};
+ghost use Rattle.iox_attributes.specs.Visits.{VisitsInOrder};
 
 use crate::handle::RegistryHandle;
 use crate::has_node::HasNode;
@@ -103,7 +103,7 @@ impl<D: HasNode> Register<D> {
     /// Calls `callback` with all details, as far as it says `Continue`.
     pub(crate) fn list<F: FnMut(&D) -> CallbackProgression>(&self, mut callback: F)
         requires { F.IsAlwaysCallable callback }
-        ensures { Visits (CalledAt F.FnMut) callback (listed self.now) }
+        ensures { VisitsInOrder (CalledAt F.FnMut) callback (listed self.now) }
     {
         let mut rest = self.slots.as_slice();
         while let Some((first, later)) = rest.split_first() {

@@ -29,7 +29,7 @@ use Rattle.iox_wire_lenders.specs.declared.terms.PortTerms.{PortTerms}
 use Rattle.iox_wire_lenders.specs.declared.terms.WireTerms.{WireTerms}
 use Rattle.iox_wire_locals.specs.Tables.{Setting, port_shape}
 use Rattle.iox_wire_locals.specs.WorkedWires.{port_of_ones}
-use Rattle.iox_wire.specs.Wires.{AreWhole, OpensOn}
+use Rattle.iox_wire.specs.Wires.{AreWhole, WireOpensOn}
 use Rattle.iox_rows_whole_wire.specs.Ones.{IsPortOfOnes, limits_of_ones}
 use Rattle.iox_rows_whole_wire.specs.Fours.{ArePortsOfFour, AreTermsOfFour, IsPlanOfFour, client_of, four_ports, server_of}
 use Rattle.iox_rows_whole_wire.proofs.OpensOnOnes.{nine, steps_of, ten, whole}
@@ -320,7 +320,7 @@ module _ (requests responses fire : Bool) where
       room = λ role over. subst (λ (l : PlanLimits). 0 < planned_buffer l role) (sym is.limits) (buffered role);
     }
 
-    opens : OpensOn plan terms (0 ∷ 1 ∷ 2 ∷ []) p state_here
+    opens : WireOpensOn plan terms (0 ∷ 1 ∷ 2 ∷ []) p state_here
     opens = record {
       agrees = record {
         layout = refl;
@@ -336,5 +336,5 @@ module _ (requests responses fire : Bool) where
       living = lives;
     }
 
-    pub may_open : (q : Setting) × (s : State) × OpensOn plan terms (0 ∷ 1 ∷ 2 ∷ []) q s
+    pub may_open : (q : Setting) × (s : State) × WireOpensOn plan terms (0 ∷ 1 ∷ 2 ∷ []) q s
     may_open = (p, state_here, opens)

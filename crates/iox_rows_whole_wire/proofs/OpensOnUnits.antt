@@ -31,7 +31,7 @@ use Rattle.iox_wire_lenders.specs.declared.terms.PortTerms.{PortTerms}
 use Rattle.iox_wire_lenders.specs.declared.terms.WireTerms.{WireTerms}
 use Rattle.iox_wire_locals.specs.Tables.{Setting, port_shape}
 use Rattle.iox_wire_locals.specs.WorkedWires.{port_of_ones}
-use Rattle.iox_wire.specs.Wires.{AreWhole, OpensOn}
+use Rattle.iox_wire.specs.Wires.{AreWhole, WireOpensOn}
 use Rattle.iox_rows_whole_wire.specs.Ones.{ArePortsOfOnes, IsPortOfOnes, limits_of_ones}
 use Rattle.iox_rows_whole_wire.specs.Units.{AreTermsOfUnits, HasNoWord, IsPlanOfUnits, longest_of_units, unit_client, unit_server}
 use Rattle.iox_rows_whole_wire.proofs.OpensOnOnes.{steps_of}
@@ -370,7 +370,7 @@ module _ (many : Bool) (plan : WirePlan) (terms : WireTerms) (is : IsPlanOfUnits
       subst (λ (l : Limits). IsPlanFor plan l (state_here many).fixed.ports) (sym (limits_are many))
       (subst (λ (qs : List Port). IsPlanFor plan (limits_here many) qs) (sym (ports_are many)) plan_for)
 
-  opens : OpensOn plan terms (0 ∷ 1 ∷ []) p (state_here many)
+  opens : WireOpensOn plan terms (0 ∷ 1 ∷ []) p (state_here many)
   opens = record {
     agrees = record {
       layout = refl;
@@ -386,5 +386,5 @@ module _ (many : Bool) (plan : WirePlan) (terms : WireTerms) (is : IsPlanOfUnits
     living = lives many;
   }
 
-  pub may_open : (q : Setting) × (s : State) × OpensOn plan terms (0 ∷ 1 ∷ []) q s
+  pub may_open : (q : Setting) × (s : State) × WireOpensOn plan terms (0 ∷ 1 ∷ []) q s
   may_open = (p, state_here many, opens)

@@ -32,7 +32,7 @@ use Rattle.iox_wire_lenders.specs.declared.terms.PortTerms.{PortTerms}
 use Rattle.iox_wire_lenders.specs.declared.terms.WireTerms.{WireTerms}
 use Rattle.iox_wire_locals.specs.Tables.{Setting, port_shape}
 use Rattle.iox_wire_locals.specs.WorkedWires.{port_of_ones}
-use Rattle.iox_wire.specs.Wires.{AreWhole, OpensOn}
+use Rattle.iox_wire.specs.Wires.{AreWhole, WireOpensOn}
 use Rattle.iox_rows_whole_wire.specs.Wide.{AreWidePorts, AreWideTerms, IsWide, IsWidePlan, IsWidePort, wide_buffer, wide_client, wide_limits, wide_server}
 use Rattle.iox_rows_whole_wire.proofs.OpensOnOnes.{steps_of}
 
@@ -340,7 +340,7 @@ module _ (huge : Bool) (plan : WirePlan) (terms : WireTerms) (is : IsWidePlan hu
       subst (λ (l : Limits). IsPlanFor plan l (state_here huge).fixed.ports) (sym (limits_are huge))
       (subst (λ (qs : List Port). IsPlanFor plan (limits_here huge) qs) (sym (ports_are huge)) plan_for)
 
-  opens : OpensOn plan terms (0 ∷ 1 ∷ []) p (state_here huge)
+  opens : WireOpensOn plan terms (0 ∷ 1 ∷ []) p (state_here huge)
   opens = record {
     agrees = record {
       layout = refl;
@@ -356,5 +356,5 @@ module _ (huge : Bool) (plan : WirePlan) (terms : WireTerms) (is : IsWidePlan hu
     living = lives huge;
   }
 
-  pub may_open : (q : Setting) × (s : State) × OpensOn plan terms (0 ∷ 1 ∷ []) q s
+  pub may_open : (q : Setting) × (s : State) × WireOpensOn plan terms (0 ∷ 1 ∷ []) q s
   may_open = (p, state_here huge, opens)

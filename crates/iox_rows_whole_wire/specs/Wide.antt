@@ -20,9 +20,9 @@ abbrev pub wide_server : PlanPort
 wide_server =
     record { number = 1; node = 1; role = Server; pool = 2; longest = 1; slot_words = 16 }
 
--- how many responses may wait for a request: one, or so many that a wire has no words for them
+-- how many responses may wait for a request: one, or so many that the wire has just 2^63 words
 abbrev pub wide_buffer : (huge : Bool) → ℕ
-wide_buffer huge = if huge then 2 ^ 62 - 2 else 1
+wide_buffer huge = if huge then 2 ^ 61 - 21 else 1
 
 -- all other limits are 1, and nothing overflows
 abbrev pub wide_limits : (huge : Bool) → PlanLimits

@@ -169,10 +169,8 @@ fn what_is_told(reply: NodeReply, words: Option<&[u64]>) -> Told {
         NodeReply::OfRequest(reply) => requested(reply),
         NodeReply::OfResponse(reply) => responded(reply),
         NodeReply::OfRequestCopy(CopyReply::Handle(number)) => Told::Handle(number),
-        NodeReply::OfRequestCopy(CopyReply::Sent(count)) => Told::Sent(count),
         NodeReply::OfRequestCopy(CopyReply::Refused(refused)) => refusal(refused),
         NodeReply::OfResponseCopy(ResponseCopyReply::Done) => Told::Done,
-        NodeReply::OfResponseCopy(ResponseCopyReply::Handle(number)) => Told::Handle(number),
         NodeReply::OfResponseCopy(ResponseCopyReply::Refused(refused)) => refusal(refused),
     }
 }

@@ -8,7 +8,7 @@ ghost use Rattle.iox_rows_whole_wire.specs.Wide.{IsWidePort, wide_limits};
 use super::play::{Act, Ask, Told, plays};
 use iox_model::kind::Role;
 use iox_types::{MessageTypeDetails, RequestHeader, ResponseHeader, TypeDetail, TypeVariant};
-use iox_wire::{Wire, WordMapNewError};
+use iox_wire::{Wire, WireNewError, new_refusal};
 use iox_wire_lenders::{MessageTerms, PortTerms, WireTerms};
 use iox_word_places::{PlanLimits, PlanPort, WirePlan};
 use std::alloc::Global;
@@ -33,13 +33,13 @@ const SERVER: PlanPort = PlanPort {
     slot_words: 16,
 };
 
-/// Each limit is 1, or so many responses may wait that a wire has no words for them.
+/// Each limit is 1, or so many responses may wait that the wire has just 2^63 words.
 fn limits(huge: bool) -> PlanLimits
     ensures { result ≡ wide_limits huge }
 {
     PlanLimits {
         active_requests: 1,
-        response_buffer: if huge { (1 << 62) - 2 } else { 1 },
+        response_buffer: if huge { (1 << 61) - 21 } else { 1 },
         borrowed_responses: 1,
         request_overflow: false,
         response_overflow: false,
@@ -126,7 +126,7 @@ fn terms(alloc: Global) -> Result<WireTerms, Fail>
 }
 
 /// A wire of that plan, whose nodes live, or why there is none.
-pub(super) fn open(alloc: Global, huge: bool) -> Result<Result<Wire, WordMapNewError>, Fail> {
+pub(super) fn open(alloc: Global, huge: bool) -> Result<Result<Wire, WireNewError>, Fail> {
     let plan = plan(alloc, huge)?;
     let terms = terms(alloc)?;
     Ok(Wire::new(alloc, plan, terms, &[0, 1], 8))
@@ -142,7 +142,42 @@ fn plays_on(rt: &impl Abort, alloc: Global, huge: bool, table: &[Act]) -> Result
 #[test]
 fn wire_of_too_many_words_does_not_open(rt: HostRuntime) -> Result<(), Fail> {
     let opened = open(rt.alloc(), true)?;
-    assert_eq!(rt; opened.err(), Some(WordMapNewError::TooManyWords));
+    assert_eq!(rt; opened.err(), Some(WireNewError::TooManyWords));
+    Ok(())
+}
+
+/// Why no wire is made of that plan, if so many responses may wait, and the first handles have that
+/// number.
+fn refusal(alloc: Global, waiting: usize, first: u64) -> Result<Option<WireNewError>, Fail> {
+    let mut plan = plan(alloc, false)?;
+    let mut terms = terms(alloc)?;
+    plan.limits.response_buffer = waiting;
+    terms.first_number = first;
+    Ok(new_refusal(&plan, &terms))
+}
+
+#[test]
+fn too_many_words_are_told_before_spent_numbers(rt: HostRuntime) -> Result<(), Fail> {
+    let alloc = rt.alloc();
+    // 2^63 words, 4 fewer, and more than a number counts
+    let (most, fewer, more) = ((1 << 61) - 21, (1 << 61) - 22, usize::MAX);
+    let (spent, last) = (1 << 63, (1 << 63) - 1);
+    let words = Some(WireNewError::TooManyWords);
+    let numbers = Some(WireNewError::NumbersSpent);
+    assert_eq!(rt; refusal(alloc, 1, 2)?, None);
+    assert_eq!(rt; refusal(alloc, fewer, last)?, None);
+    assert_eq!(rt; refusal(alloc, most, last)?, words);
+    assert_eq!(rt; refusal(alloc, more, last)?, words);
+    assert_eq!(rt; refusal(alloc, most, spent)?, words);
+    assert_eq!(rt; refusal(alloc, fewer, spent)?, numbers);
+    assert_eq!(rt; refusal(alloc, 1, u64::MAX)?, numbers);
+    Ok(())
+}
+
+#[test]
+fn refusal_is_shown_by_its_name(rt: HostRuntime) -> Result<(), Fail> {
+    let text = WireNewError::NumbersSpent.to_string(rt.alloc())?;
+    assert_eq!(rt; text.as_str(), "WireNewError::NumbersSpent");
     Ok(())
 }
 

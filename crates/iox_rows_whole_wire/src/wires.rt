@@ -1,6 +1,8 @@
 //! A wire where each setting is 1, with a client on one node and a server on the other.
 use super::settings::{NO_OVERFLOW, OVERFLOW, open, plan, terms};
-use iox_wire::{NodeReply, Progress, SeatReply, Wire, WireRefusal, is_plan, is_whole};
+use iox_wire::{
+    NodeReply, Progress, SeatReply, Wire, WirePlan, WireRefusal, have_layouts, is_plan, is_whole,
+};
 use std::test::Fail;
 
 #[test]
@@ -115,5 +117,27 @@ fn queues_that_overflow_without_room_are_not_whole(rt: HostRuntime) -> Result<()
     assert!(rt; !is_whole(&plan, &terms));
     plan.limits.request_overflow = false;
     assert!(rt; is_whole(&plan, &terms));
+    Ok(())
+}
+
+/// Requests of that plan have so many elements at most, for which a slot has so many words.
+fn lengthen(plan: &mut WirePlan, longest: usize, slot_words: usize) {
+    for port in &mut plan.ports {
+        if port.number == 0 {
+            port.longest = longest;
+            port.slot_words = slot_words;
+        }
+    }
+}
+
+#[test]
+fn request_of_2_to_the_63_bytes_has_no_layout(rt: HostRuntime) -> Result<(), Fail> {
+    let mut plan = plan(rt.alloc(), NO_OVERFLOW)?;
+    assert!(rt; have_layouts(&plan));
+    // an element is a word, and 9 words are in front of it
+    lengthen(&mut plan, (1 << 60) - 10, (1 << 60) - 1);
+    assert!(rt; is_plan(&plan) && have_layouts(&plan));
+    lengthen(&mut plan, (1 << 60) - 9, 1 << 60);
+    assert!(rt; is_plan(&plan) && !have_layouts(&plan));
     Ok(())
 }

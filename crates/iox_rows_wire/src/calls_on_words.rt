@@ -1,6 +1,6 @@
 //! Calls on the words of a wire where each setting is 1, with the exact number of their accesses.
 ghost use Rattle.std.specs.Prelude.{◌≡◌, ◌∷◌, ◌+◌, ◌<◌, ◌^◌, [], IfOk};
-ghost use Rattle.iox_wire_nodes.specs.ReceivesAims.{HasRoomFor, MayReceive};
+ghost use Rattle.iox_wire_nodes.specs.ReceivesAims.{MayTakeOneMore, MayReceive};
 
 use crate::word_places::{CLIENT, SERVER, all_ones};
 use iox_model::kind::Kind;
@@ -119,7 +119,7 @@ fn received(
 ) -> Option<(u64, ReceiveReply)>
     requires accesses { seat.old.seat.accesses ≡ 0 }
     requires may { MayReceive seat.old receiving.old.terms.number }
-    requires counts { HasRoomFor seat.old.seat receiving.old.local }
+    requires counts { MayTakeOneMore seat.old.seat receiving.old.local }
 {
     for made in 0..30 {
         if !receiving.is_busy() {

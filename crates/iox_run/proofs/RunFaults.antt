@@ -8,7 +8,7 @@ use Rattle.iox_run.specs.declared.run.player.Player.{Player}
 use Rattle.iox_session.specs.Shown.{session_of}
 use Rattle.iox_run.specs.Answers.{IsTextOfLines, IsTextOf}
 use Rattle.iox_run.specs.Runs.{IsBeginningOf, Stops}
-use Rattle.iox_run.specs.Standings.{kept, Stands, Goes, SendsAll, Finishes}
+use Rattle.iox_run.specs.Standings.{kept, IsAsFar, Goes, SendsAll, Finishes}
 use Rattle.iox_run.proofs.RunAnswers.{ended_lines_are_first, nil_from_kept, kept-nil}
 
 -- bytes before a beginning of some more, and before some more of a beginning
@@ -22,13 +22,13 @@ IsBeginningOf-append sent more waits text begins whole = (
 )
 
 -- all that was sent and waits answers the lines that have ended
-pub ended_answered : (script sent : List ℕ) (player : Player) → Stands script sent player
+pub ended_answered : (script sent : List ℕ) (player : Player) → IsAsFar script sent player
     → IsTextOfLines (ended_lines script) (sent ++ player.answers.items)
 ended_answered script sent player stands = (stands.replies, session_of player.session, stands.played, stands.answers)
 
 -- and so the first lines of a script that goes on
 first_answered : (script rest whole sent : List ℕ) (player : Player) → script ++ rest ≡ whole
-    → Stands script sent player
+    → IsAsFar script sent player
     → IsTextOfLines (take (length (ended_lines script)) (ended_lines whole)) (sent ++ player.answers.items)
 first_answered script rest whole sent player is stands =
     let first = ended_lines_are_first script rest ∙ ap (λ s. take (length (ended_lines script)) (ended_lines s)) is in
@@ -36,7 +36,7 @@ first_answered script rest whole sent player is stands =
 
 -- a write failed after a beginning of what waits
 pub write_failed : (script rest whole sent more : List ℕ) (player : Player) → script ++ rest ≡ whole
-    → Stands script sent player → IsBeginningOf more player.answers.items
+    → IsAsFar script sent player → IsBeginningOf more player.answers.items
     → Stops Write whole (sent ++ more)
 write_failed script rest whole sent more player is stands begins =
     let text : List ℕ = sent ++ player.answers.items in (
@@ -50,7 +50,7 @@ write_failed script rest whole sent more player is stands begins =
 
 -- memory ran out after all that waits was sent
 pub memory_ran_out : (script rest whole sent more : List ℕ) (player : Player) → script ++ rest ≡ whole
-    → Stands script sent player → more ≡ player.answers.items
+    → IsAsFar script sent player → more ≡ player.answers.items
     → Stops WantOfMemory whole (sent ++ more)
 memory_ran_out script rest whole sent more player is stands all = (
   length (ended_lines script),
@@ -58,7 +58,7 @@ memory_ran_out script rest whole sent more player is stands all = (
 )
 
 -- all is answered of a script whose last line has ended
-pub all_answered : (script sent : List ℕ) (player : Player) → Stands script sent player → player.line.items ≡ []
+pub all_answered : (script sent : List ℕ) (player : Player) → IsAsFar script sent player → player.line.items ≡ []
     → IsTextOf script (sent ++ player.answers.items)
 all_answered script sent player stands whole =
     subst (λ lines. IsTextOfLines lines (sent ++ player.answers.items))
@@ -78,7 +78,7 @@ ended_lines-feed script some =
     ∙ ap (λ lines. ended_lines script ++ lines) (sym (line_of_some (rest_of script) some))
 
 -- and then all is answered of the script
-pub last_answered : (script sent : List ℕ) (player ended : Player) → Stands script sent player
+pub last_answered : (script sent : List ℕ) (player ended : Player) → IsAsFar script sent player
     → player.line.items ≢ [] → Goes (10 ∷ []) [] player ended → IsTextOf script (sent ++ ended.answers.items)
 last_answered script sent player ended stands some goes =
     let rest_is : rest_of script ≢ [] = λ nil. some (stands.line ∙ ap kept nil ∙ kept-nil) in
@@ -88,7 +88,7 @@ last_answered script sent player ended stands some goes =
 
 -- the last answers were sent, or a beginning of them
 pub Finishes-sent : (player : Player) (last : List ℕ) (result : Result (Unit {0}) Fault) (more : List ℕ)
-    → ((script sent : List ℕ) → Stands script sent player → IsTextOf script (sent ++ last))
+    → ((script sent : List ℕ) → IsAsFar script sent player → IsTextOf script (sent ++ last))
     → SendsAll last result more
     → Finishes player result more
 Finishes-sent player last (Ok _) more text all script sent stands none short reader end =

@@ -13,7 +13,7 @@ use Rattle.iox_run.specs.declared.run.player.Player.{Player}
 use Rattle.iox_session.specs.SessionStates.{new_session}
 use Rattle.iox_run.specs.Answers.{IsTextOfLines}
 use Rattle.iox_run.specs.Runs.{Stops, Plays, max_script}
-use Rattle.iox_run.specs.Standings.{ReadsWithin, Stands, IsSent, Sends, PlaysOn, Finishes}
+use Rattle.iox_run.specs.Standings.{ReadsWithin, IsAsFar, IsSent, Sends, PlaysOn, Finishes}
 use Rattle.iox_run.proofs.RunFaults.{ended_answered}
 
 -- A script was taken from the reader, which may give so many bytes more, and all its answers so far went to the writer.
@@ -22,11 +22,11 @@ pub record Running (reader reader' writer writer' : Option (List ℕ)) (room : �
   pub sent : List ℕ
   pub came : Consumes reader reader' script
   pub went : Appends writer writer' sent
-  pub stands : Stands script sent player
+  pub stands : IsAsFar script sent player
   pub none : IsSent player
   pub within : length script + room ≡ max_script
 
-pub Running-new : (reader writer : Option (List ℕ)) (player : Player) → Stands [] [] player → IsSent player
+pub Running-new : (reader writer : Option (List ℕ)) (player : Player) → IsAsFar [] [] player → IsSent player
     → Running reader reader writer writer max_script player
 Running-new reader writer player stands none = record {
   script = [];

@@ -12,12 +12,12 @@ use Rattle.iox_session.specs.SessionStates.{SessionState, new_session}
 use Rattle.iox_session.specs.Shown.{session_of}
 use Rattle.iox_run.specs.Answers.{AreReplies, answer_text}
 use Rattle.iox_run.specs.Cuts.{HasNoLineFeed}
-use Rattle.iox_run.specs.Standings.{AnswersLine, kept, Stands, Goes, IsSent, Waits}
+use Rattle.iox_run.specs.Standings.{AnswersLine, kept, IsAsFar, Goes, IsSent, Waits}
 use Rattle.iox_run.proofs.RunAnswers.{AreReplies-push, AreReplies-length, answer_texts-push, saids-push, meaning-kept, kept-nil, nil_from_kept, kept-append}
 
 -- before the first byte
 pub Stands-new : (player : Player) → session_of player.session ≡ new_session → player.count ≡ 0 → player.line.items ≡ []
-    → player.answers.items ≡ [] → Stands [] [] player
+    → player.answers.items ≡ [] → IsAsFar [] [] player
 Stands-new player session count line answers = record { replies = []; played = session; count = count; line = line ∙ sym kept-nil; answers = answers }
 
 -- the same state of the session, after lines that are the same
@@ -30,14 +30,14 @@ AreReplies-same lines lines' replies m m' played same left =
 
 pub Goes-nil : (player : Player) → Goes [] [] player player
 Goes-nil player script sent stands =
-    subst (λ s. Stands (script ++ []) s player) (sym (append-nil sent)) (subst (λ s. Stands s sent player) (sym (append-nil script)) stands)
+    subst (λ s. IsAsFar (script ++ []) s player) (sym (append-nil sent)) (subst (λ s. IsAsFar s sent player) (sym (append-nil script)) stands)
 
 pub Goes-trans : (bytes more bytes' more' : List ℕ) (a b c : Player) → Goes bytes more a b
     → Goes bytes' more' b c → Goes (bytes ++ bytes') (more ++ more') a c
 Goes-trans bytes more bytes' more' a b c first second script sent stands =
     let stands' = second (script ++ bytes) (sent ++ more) (first script sent stands) in
-    subst (λ s. Stands (script ++ (bytes ++ bytes')) s c) (append_assoc sent more more')
-    (subst (λ s. Stands s ((sent ++ more) ++ more') c) (append_assoc script bytes bytes') stands')
+    subst (λ s. IsAsFar (script ++ (bytes ++ bytes')) s c) (append_assoc sent more more')
+    (subst (λ s. IsAsFar s ((sent ++ more) ++ more') c) (append_assoc script bytes bytes') stands')
 
 -- all that waits is sent
 pub Goes-sent : (more : List ℕ) (a b : Player) → Waits a b → more ≡ a.answers.items → IsSent b
@@ -70,12 +70,12 @@ Goes-kept bytes a b none session count line answers script sent stands =
     }
 
 -- what the line says that the bytes end
-pub said_from_bytes : (script sent bytes : List ℕ) (player : Player) → Stands script sent player
+pub said_from_bytes : (script sent bytes : List ℕ) (player : Player) → IsAsFar script sent player
     → player.line.items ≡ [] → meaning (rest_of script ++ bytes) ≡ meaning bytes
 said_from_bytes script sent bytes player stands none =
     ap (λ front. meaning (front ++ bytes)) (nil_from_kept (rest_of script) (sym stands.line ∙ none))
 
-pub said_from_kept : (script sent bytes line : List ℕ) (player : Player) → Stands script sent player
+pub said_from_kept : (script sent bytes line : List ℕ) (player : Player) → IsAsFar script sent player
     → line ≡ player.line.items ++ take (65537 - length player.line.items) bytes
     → meaning (rest_of script ++ bytes) ≡ meaning line
 said_from_kept script sent bytes line player stands grown =
@@ -84,7 +84,7 @@ said_from_kept script sent bytes line player stands grown =
 
 -- a line feed ends a line that says so
 pub Goes-line : (bytes : List ℕ) (said : Result ScriptCommand LineCause) (a b : Player) → HasNoLineFeed bytes
-    → ((script sent : List ℕ) → Stands script sent a → meaning (rest_of script ++ bytes) ≡ said)
+    → ((script sent : List ℕ) → IsAsFar script sent a → meaning (rest_of script ++ bytes) ≡ said)
     → AnswersLine (a.count + 1) said (session_of a.session) (session_of b.session) a.answers.items b.answers.items
     → b.count ≡ a.count + 1 → b.line.items ≡ [] → Goes (bytes ++ 10 ∷ []) [] a b
 Goes-line bytes said a b none says answered count line script sent stands =

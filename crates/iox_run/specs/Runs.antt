@@ -30,12 +30,12 @@ Stops Write script sent = (n : ℕ) × BeginsTextOfLines (take n (ended_lines sc
 Stops WantOfMemory script sent = (n : ℕ) × IsTextOfLines (take n (ended_lines script)) sent
 
 -- What was sent is what the script that was read asks for, given how the program ended.
-abbrev pub Answers : {E : Type 0} → (reader' : Option (List ℕ)) → Result E Fault → List ℕ → List ℕ → Type 0
+abbrev pub AnswersScript : {E : Type 0} → (reader' : Option (List ℕ)) → Result E Fault → List ℕ → List ℕ → Type 0
 -- at the script's end: the answers to the script
-Answers reader' (Ok _) script sent = (length script ≤ max_script) × IsTextOf script sent
+AnswersScript reader' (Ok _) script sent = (length script ≤ max_script) × IsTextOf script sent
 -- After a fault: answers to lines that had ended. Or the whole script was read, and a write failed
 -- after a beginning of its answers.
-Answers reader' (Err fault) script sent =
+AnswersScript reader' (Err fault) script sent =
     Stops fault script sent
     ⊎ (IsAtEnd reader' × (fault ≡ Write) × BeginsTextOfLines (lines_of script) sent)
 
@@ -45,4 +45,4 @@ abbrev pub Plays : {E : Type 0} → (reader reader' writer writer' : Option (Lis
     → Result E Fault → Type 0
 Plays reader reader' writer writer' result =
     (script : List ℕ) × (sent : List ℕ) × Consumes reader reader' script × Appends writer writer' sent
-    × Answers reader' result script sent
+    × AnswersScript reader' result script sent

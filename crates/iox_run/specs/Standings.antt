@@ -12,7 +12,7 @@ use Rattle.iox_run.specs.declared.run.player.Player.{Player}
 use Rattle.iox_session.specs.SessionStates.{SessionState, new_session}
 use Rattle.iox_session.specs.Shown.{session_of}
 use Rattle.iox_run.specs.Answers.{IsLineAnswered, AreReplies, answer_text, answer_texts}
-use Rattle.iox_run.specs.Runs.{IsBeginningOf, Stops, Answers, max_script}
+use Rattle.iox_run.specs.Runs.{IsBeginningOf, Stops, AnswersScript, max_script}
 
 -- A read gave `n` bytes: at most as many as there was room for, and none only at the end.
 pub record Comes (room : ℕ) (reader reader' : Option (List ℕ)) (n : ℕ) (chunk : List ℕ) : Type 0 where
@@ -49,7 +49,7 @@ unfoldable pub kept : List ℕ → List ℕ
 kept line = take (max_line + 1) line
 
 -- How far the player is once it has read this much of a script and sent these answers.
-pub record Stands (script sent : List ℕ) (player : Player) : Type 0 where
+pub record IsAsFar (script sent : List ℕ) (player : Player) : Type 0 where
   pub replies : List (Result ScriptReply LineCause)
   pub played : AreReplies new_session (map meaning (ended_lines script)) replies (session_of player.session)
   pub count : player.count ≡ length (ended_lines script)
@@ -58,7 +58,7 @@ pub record Stands (script sent : List ℕ) (player : Player) : Type 0 where
 
 -- The player took these further bytes, and sent these further answers.
 abbrev pub Goes : (bytes more : List ℕ) → (player player' : Player) → Type 0
-Goes bytes more player player' = (script sent : List ℕ) → Stands script sent player → Stands (script ++ bytes) (sent ++ more) player'
+Goes bytes more player player' = (script sent : List ℕ) → IsAsFar script sent player → IsAsFar (script ++ bytes) (sent ++ more) player'
 
 -- nothing waits to be sent
 abbrev pub IsSent : Player → Type 0
@@ -78,10 +78,10 @@ pub record Waits (player player' : Player) : Type 0 where
 abbrev pub PlaysOn : List ℕ → (player player' : Player) → Result (Unit {0}) Fault → List ℕ → Type 0
 PlaysOn bytes player player' (Ok _) more = Goes bytes more player player' × IsSent player'
 PlaysOn bytes player player' (Err fault) more =
-    (script sent : List ℕ) → Stands script sent player → Stops fault (script ++ bytes) (sent ++ more)
+    (script sent : List ℕ) → IsAsFar script sent player → Stops fault (script ++ bytes) (sent ++ more)
 
 -- the reader is at its end, and the whole script is answered
 abbrev pub Finishes : Player → Result (Unit {0}) Fault → List ℕ → Type 0
 Finishes player result more =
-    (script sent : List ℕ) → Stands script sent player → IsSent player → length script ≤ max_script
-    → (reader : Option (List ℕ)) → IsAtEnd reader → Answers reader result script (sent ++ more)
+    (script sent : List ℕ) → IsAsFar script sent player → IsSent player → length script ≤ max_script
+    → (reader : Option (List ℕ)) → IsAtEnd reader → AnswersScript reader result script (sent ++ more)

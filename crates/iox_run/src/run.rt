@@ -24,7 +24,7 @@ const CHUNK: usize = 8192;
 /// Plays the script that the reader gives, and writes the answers to it and nothing else.
 pub fn run<R: Read, W: Write>(alloc: Global, reader: &mut R, writer: &mut W) -> Result<(), Fault>
     // What goes out is the text of replies that the machine may give to the script that came in;
-    // after a fault it is a beginning of such a text, as `Answers` says.
+    // after a fault it is a beginning of such a text, as `AnswersScript` says.
     ensures text { Plays (R.remaining reader.old) (R.remaining reader.new)
         (W.contents writer.old) (W.contents writer.new) result }
     ensures ended { OnOk result (IsAtEnd (R.remaining reader.new)) }

@@ -6,11 +6,11 @@ use Rattle.iox_nodes.specs.Shown.{ServiceTables}
 use Rattle.iox_script.specs.declared.command.ScriptCommand.TheVariants as commands
 use Rattle.iox_script.specs.declared.reply.ScriptReply.TheVariants as answers
 use Rattle.iox_script.specs.Commands.{ServiceCommand, ServiceReply}
-use Rattle.iox_session.specs.Sessions.{IsPlayed, IsPlayedBy, IsServed}
+use Rattle.iox_session.specs.Sessions.{IsPlayed, IsPlayedBy, ServiceAnswers}
 use Rattle.iox_session.specs.Shown.{SessionTables, script_state, session_of}
 
 pub played_so : (v : SessionTables) (s s' : ServiceTables) (command : ServiceCommand) (answer : ServiceReply) → v.service ≡ Some s
-    → IsServed (script_state s) command answer (script_state s')
+    → ServiceAnswers (script_state s) command answer (script_state s')
     → IsPlayed (session_of v) (commands.Service command) (answers.Service answer) (session_of (record v { service = Some s' }))
 played_so v s s' command answer is served =
     subst

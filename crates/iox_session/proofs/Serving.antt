@@ -40,7 +40,7 @@ use Rattle.iox_script.specs.Grammar.{options_of}
 use Rattle.iox_script.specs.Commands.{Options, ServiceCommand, ServiceReply}
 use Rattle.iox_session.specs.Answers.{command_asked, no_cause, options_given, payload_given, reply_given}
 use Rattle.iox_session.specs.Limits.{limits_with}
-use Rattle.iox_session.specs.Sessions.{IsAsked, IsPlain, IsServed, WantsMemory}
+use Rattle.iox_session.specs.Sessions.{CanBeAsked, IsPlain, ServiceAnswers, WantsMemory}
 use Rattle.iox_session.specs.Shown.{IsLimited, IsOfScript, IsTold, makes_large, script_state}
 use Rattle.iox_session.proofs.Unasked.{served_same}
 
@@ -65,7 +65,7 @@ MakesUnmarked mark s =
 
 -- so none has it, as long as none had it
 none_then : (mark : m.Port → Bool) → IsLasting mark → (s t : State) (command : ServiceCommand) (c : Command) (reply : Reply)
-    → Some c ≡ command_asked s command → IsAsked command → MakesUnmarked mark s → list_any mark s.fixed.ports ≡ false
+    → Some c ≡ command_asked s command → CanBeAsked command → MakesUnmarked mark s → list_any mark s.fixed.ports ≡ false
     → IsCommand s c reply t → list_any mark t.fixed.ports ≡ false
 none_then mark lasts s t (Join id asked) c reply asks said makes none done =
     joins_keep mark s id None reply t none (subst (λ k. IsCommand s k reply t) (same_Some c (Join id None) asks) done)
@@ -87,7 +87,7 @@ none_then mark lasts s t (Port (ports.Read node n)) c reply asks said makes none
 none_then mark lasts s t command c reply asks said makes none done = absurd (none-some c (sym asks))
 
 -- a service of a script stays one
-stays_of_script : (s t : State) (command : ServiceCommand) (c : Command) (reply : Reply) → Some c ≡ command_asked s command → IsAsked command
+stays_of_script : (s t : State) (command : ServiceCommand) (c : Command) (reply : Reply) → Some c ≡ command_asked s command → CanBeAsked command
     → IsOfScript s → IsCommand s c reply t → IsOfScript t
 stays_of_script s t command c reply asks said of done = record {
   limits = limited_then s c reply t of.limits done;
@@ -100,7 +100,7 @@ stays_of_script s t command c reply asks said of done = record {
 
 -- what is answered
 pub served_so : (s : State) (command : ServiceCommand) (c : Command) (reply : Reply) (answer : ServiceReply) (s' : State)
-    → Some c ≡ command_asked s command → reply ≡ reply_given answer → IsDoneWithMemory s c reply s' → IsServed s command answer s'
+    → Some c ≡ command_asked s command → reply ≡ reply_given answer → IsDoneWithMemory s c reply s' → ServiceAnswers s command answer s'
 served_so s command c reply answer s' asks told done =
     subst (λ (o : Option Command). MatchOption o ⊥ (λ k. IsDoneWithMemory s k (reply_given answer) s')) asks
     (subst (λ r. IsDoneWithMemory s c r s') told done)
@@ -168,7 +168,7 @@ large_by l role o limited large =
 -- a port that is too large is refused
 pub large_so : (s : State) (command : ServiceCommand) (c : Command) → Some c ≡ command_asked s command → MayLackMemory s c → IsLimited s.fixed.limits
     → ((requests responses : Bool) → true ≡ makes_large (limits_with requests responses) command)
-    → IsServed s command (Refused UnableToCreateDataSegment) s
+    → ServiceAnswers s command (Refused UnableToCreateDataSegment) s
 large_so s (Port (ports.Client node id o)) c asks may limited large = record {
   done = lacks s c (Port (ports.Client node id (options_given o))) asks may;
   memory = large_by s.fixed.limits roles.Client o limited large;
@@ -181,18 +181,18 @@ large_so s command c asks may limited large = absurd (true≢false (large true t
 
 -- whether a port is too large, of a line that a script can say
 pub client_large : (k : ServiceCommand) (node : ℕ) (id : UniqueSystemId) (o : Options) (b requests responses : Bool) → k ≡ Port (ports.Client node id o)
-    → IsAsked k → b ≡ is_large (limits_with requests responses) roles.Client (options_given (options_of o.max_slice_len))
+    → CanBeAsked k → b ≡ is_large (limits_with requests responses) roles.Client (options_given (options_of o.max_slice_len))
     → b ≡ makes_large (limits_with requests responses) k
 client_large k node id o b requests responses is asked large =
     subst (λ c. b ≡ makes_large (limits_with requests responses) c) (sym is)
-    (subst (λ (p : Options). b ≡ is_large (limits_with requests responses) roles.Client (options_given p)) (sym (subst IsAsked is asked)) large)
+    (subst (λ (p : Options). b ≡ is_large (limits_with requests responses) roles.Client (options_given p)) (sym (subst CanBeAsked is asked)) large)
 
 pub server_large : (k : ServiceCommand) (node : ℕ) (id : UniqueSystemId) (o : Options) (b requests responses : Bool) → k ≡ Port (ports.Server node id o)
-    → IsAsked k → b ≡ is_large (limits_with requests responses) roles.Server (options_given (options_of o.max_slice_len))
+    → CanBeAsked k → b ≡ is_large (limits_with requests responses) roles.Server (options_given (options_of o.max_slice_len))
     → b ≡ makes_large (limits_with requests responses) k
 server_large k node id o b requests responses is asked large =
     subst (λ c. b ≡ makes_large (limits_with requests responses) c) (sym is)
-    (subst (λ (p : Options). b ≡ is_large (limits_with requests responses) roles.Server (options_given p)) (sym (subst IsAsked is asked)) large)
+    (subst (λ (p : Options). b ≡ is_large (limits_with requests responses) roles.Server (options_given p)) (sym (subst CanBeAsked is asked)) large)
 
 -- ---- the whole call
 
@@ -202,12 +202,12 @@ told_so : {Z E : Type 0} (v v' : ServiceTables) (command : ServiceCommand) (c : 
     → IfOk r (λ reply. IsDoneWithMemory (service_of v) c (nodes.reply_given no_cause reply) (service_of v'))
     → OnErr r (MayLackMemory (service_of v) c) → OnErr r (v' ≡ v) → IsLimited (service_of v).fixed.limits
     → ((requests responses : Bool) → large ≡ makes_large (limits_with requests responses) command) → IsTold r large told
-    → IfOk told (λ answer. IsServed (service_of v) command answer (service_of v'))
+    → IfOk told (λ answer. ServiceAnswers (service_of v) command answer (service_of v'))
 told_so v v' command c (Ok reply) large (Ok answer) asks done lacks stays limited is told =
     served_so (service_of v) command c (nodes.reply_given no_cause reply) answer (service_of v') asks told done
 told_so v v' command c (Err e) true (Ok answer) asks done lacks stays limited is told =
-    subst (λ (a : ServiceReply). IsServed (service_of v) command a (service_of v')) (sym told)
-    (subst (λ w. IsServed (service_of v) command (Refused UnableToCreateDataSegment) (service_of w)) (sym stays)
+    subst (λ (a : ServiceReply). ServiceAnswers (service_of v) command a (service_of v')) (sym told)
+    (subst (λ w. ServiceAnswers (service_of v) command (Refused UnableToCreateDataSegment) (service_of w)) (sym stays)
     (large_so (service_of v) command c asks lacks limited is))
 told_so v v' command c (Err e) false (Ok answer) asks done lacks stays limited is told = absurd told
 told_so v v' command c r large (Err e) asks done lacks stays limited is told = tt
@@ -218,12 +218,12 @@ pub told_served : {Z E : Type 0} (v v' : ServiceTables) (command : ServiceComman
     → IfOk r (λ reply. IsDoneWithMemory (service_of v) c (nodes.reply_given no_cause reply) (service_of v'))
     → OnErr r (MayLackMemory (service_of v) c) → OnErr r (v' ≡ v) → IsOfScript (service_of v)
     → ((requests responses : Bool) → large ≡ makes_large (limits_with requests responses) command) → IsTold r large told
-    → IfOk told (λ answer. IsServed (script_state v) command answer (script_state v'))
+    → IfOk told (λ answer. ServiceAnswers (script_state v) command answer (script_state v'))
 told_served {E = E} v v' command c r large told asks done lacks stays of is tells =
     step told (told_so v v' command c r large told asks done lacks stays of.limits is tells)
   where
-    step : (x : Result ServiceReply E) → IfOk x (λ answer. IsServed (service_of v) command answer (service_of v'))
-        → IfOk x (λ answer. IsServed (script_state v) command answer (script_state v'))
+    step : (x : Result ServiceReply E) → IfOk x (λ answer. ServiceAnswers (service_of v) command answer (service_of v'))
+        → IfOk x (λ answer. ServiceAnswers (script_state v) command answer (script_state v'))
     step (Ok answer) served = served_same follow (service_of v) of.unhandled command answer (service_of v') served
     step (Err e) served = served
 
@@ -240,7 +240,7 @@ told_wants s command c (Err e) large (Err f) asks of lacks told = wants_so s com
 told_wants s command c (Ok reply) large (Err f) asks of lacks told = absurd told
 
 pub of_script_after : {Z E : Type 0} (v v' : ServiceTables) (command : ServiceCommand) (c : Command) (r : Result (the_reply.Reply (Vec ℕ Z) Infallible) E)
-    → Some c ≡ command_asked (service_of v) command → IsAsked command
+    → Some c ≡ command_asked (service_of v) command → CanBeAsked command
     → IfOk r (λ reply. IsDoneWithMemory (service_of v) c (nodes.reply_given no_cause reply) (service_of v')) → OnErr r (v' ≡ v)
     → IsOfScript (service_of v) → IsOfScript (service_of v')
 of_script_after v v' command c (Ok reply) asks said done stays of =

@@ -42,7 +42,7 @@ use Rattle.iox_model.specs.WholeCalls.{IsDone, IsWholeCall, MayCome, MayHold, Un
 use Rattle.iox_nodes.proofs.Marks.{neither}
 use Rattle.iox_script.specs.Commands.{ServiceCommand, ServiceReply}
 use Rattle.iox_session.specs.Answers.{options_given, payload_given, reply_given}
-use Rattle.iox_session.specs.Sessions.{IsServed}
+use Rattle.iox_session.specs.Sessions.{ServiceAnswers}
 use Rattle.iox_session.specs.Shown.{with_acts}
 
 -- what handlers answer
@@ -341,7 +341,7 @@ joins_same a s id asked reply t x =
 
 -- so is what a line asks
 pub served_same : (a : Acts) (s : State) → NoneHandled s.fixed → (command : ServiceCommand) (answer : ServiceReply) (t : State)
-    → IsServed s command answer t → IsServed (with_acts a s) command answer (with_acts a t)
+    → ServiceAnswers s command answer t → ServiceAnswers (with_acts a s) command answer (with_acts a t)
 served_same a s none (Join id asked) answer t x = record {
   done = joins_same a s id None (reply_given answer) t x.done;
   memory = x.memory;

@@ -34,20 +34,20 @@ abbrev pub IsPlain : Options → Type 0
 IsPlain o = o ≡ options_of o.max_slice_len
 
 -- a line can ask it of the service
-abbrev pub IsAsked : ServiceCommand → Type 0
-IsAsked (Join id asked) = ⊤
-IsAsked (Port (Client node id options)) = IsPlain options
-IsAsked (Port (Server node id options)) = IsPlain options
-IsAsked (Port (SendCopy node number words)) = ⊤
-IsAsked (Port (Receive node number)) = ⊤
-IsAsked (Port (Read node number)) = ⊤
-IsAsked _ = ⊥
+abbrev pub CanBeAsked : ServiceCommand → Type 0
+CanBeAsked (Join id asked) = ⊤
+CanBeAsked (Port (Client node id options)) = IsPlain options
+CanBeAsked (Port (Server node id options)) = IsPlain options
+CanBeAsked (Port (SendCopy node number words)) = ⊤
+CanBeAsked (Port (Receive node number)) = ⊤
+CanBeAsked (Port (Read node number)) = ⊤
+CanBeAsked _ = ⊥
 
 -- a line can say it
 abbrev pub IsSaid : ScriptCommand → Type 0
 IsSaid (Set key value) = ⊤
 IsSaid (Create name id) = ⊤
-IsSaid (Service command) = IsAsked command
+IsSaid (Service command) = CanBeAsked command
 
 -- the service may find no memory for it: a node or a port is made, or words are shown
 abbrev pub WantsMemory : ServiceCommand → Type 0
@@ -105,8 +105,8 @@ IsCreated None m id reply m' =
 -- ---- once it is created
 
 -- The machine does what a line asks of the service, where memory is there for it.
-abbrev pub IsServed : State → ServiceCommand → ServiceReply → State → Type 0
-IsServed s command answer s' =
+abbrev pub ServiceAnswers : State → ServiceCommand → ServiceReply → State → Type 0
+ServiceAnswers s command answer s' =
     MatchOption (command_asked s command) ⊥ (λ c. IsDoneWithMemory s c (reply_given answer) s')
 
 -- The service of the session is in state s. It answers the command, and is left in another state.
@@ -116,7 +116,7 @@ pub record IsAnswered (m : SessionState) (s : State) (command : ServiceCommand) 
   pub told : reply ≡ answers.Service answer
   pub state : State
   pub left : m' ≡ with_service m (Some state)
-  pub served : IsServed s command answer state
+  pub served : ServiceAnswers s command answer state
 
 -- ---- a command
 

@@ -8,7 +8,7 @@ ghost use Rattle.iox_nodes.specs.Shown.{service_of};
 ghost use Rattle.iox_nodes.specs.Asking.{options_for, payload_for};
 ghost use Rattle.iox_session.specs.Answers.{command_asked, no_cause, options_given, payload_given};
 ghost use Rattle.iox_session.specs.Limits.{limits_with};
-ghost use Rattle.iox_session.specs.Sessions.{IsAsked};
+ghost use Rattle.iox_session.specs.Sessions.{CanBeAsked};
 ghost use Rattle.iox_session.specs.Shown.{makes_large};
 
 use crate::settings::is_large;
@@ -54,7 +54,7 @@ fn elements(service: &Words, node: u64, number: u64, words: Vec<u64>) -> Element
 
 /// What is asked of a port or a handle.
 fn at_port(service: &Words, command: PortCommand<Payload, Infallible>) -> AtPort
-    requires { IsAsked (Port command) }
+    requires { CanBeAsked (Port command) }
     ensures { Some (command_given {C = Infallible} one_word one_word (shown_by following) no_cause
         (Port result)) ≡ command_asked (service_of service.now) (Port command) }
 {
@@ -86,7 +86,7 @@ fn at_port(service: &Words, command: PortCommand<Payload, Infallible>) -> AtPort
 
 /// What a line asks of the service.
 pub(crate) fn asked(service: &Words, command: ServiceCommand) -> Asked
-    requires { IsAsked command }
+    requires { CanBeAsked command }
     ensures { Some (command_given one_word one_word (shown_by following) no_cause result)
         ≡ command_asked (service_of service.now) command }
 {
@@ -99,7 +99,7 @@ pub(crate) fn asked(service: &Words, command: ServiceCommand) -> Asked
 
 /// Whether a line makes a port that is too large.
 pub(crate) fn makes_large(command: &ServiceCommand) -> bool
-    requires { IsAsked command.now }
+    requires { CanBeAsked command.now }
     ensures { (requests responses : Bool)
         → result ≡ makes_large (limits_with requests responses) command.now }
 {

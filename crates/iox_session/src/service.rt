@@ -2,7 +2,7 @@
 ghost use Rattle.std.specs.Prelude.{◌≡◌, IfOk, None, OnErr};
 ghost use Rattle.iox_nodes.specs.Served.{IsCreated};
 ghost use Rattle.iox_session.specs.Limits.{limits_with};
-ghost use Rattle.iox_session.specs.Sessions.{IsAsked, IsServed, WantsMemory};
+ghost use Rattle.iox_session.specs.Sessions.{CanBeAsked, ServiceAnswers, WantsMemory};
 ghost use Rattle.iox_session.specs.Shown.{script_state};
 
 use crate::asking::{Words, asked, makes_large};
@@ -58,8 +58,8 @@ impl Service {
         alloc: Global,
         command: ServiceCommand,
     ) -> Result<ServiceReply, AllocError>
-        requires asked { IsAsked command }
-        ensures served { IfOk result (λ answer. IsServed (script_state self.old) command answer
+        requires asked { CanBeAsked command }
+        ensures served { IfOk result (λ answer. ServiceAnswers (script_state self.old) command answer
             (script_state self.new)) }
         ensures unchanged { OnErr result (self.new ≡ self.old) }
         ensures memory { OnErr result (WantsMemory command) }

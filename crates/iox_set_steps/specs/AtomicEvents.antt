@@ -11,20 +11,20 @@ use Rattle.iox_set_steps.specs.declared.unrestricted_atomic.AtomicProgram.TheVar
 use Rattle.iox_set_steps.specs.Values.{cell_of, version_now, word_of, value_now, AgreeUpTo, words_of, LeadsOn}
 use Rattle.iox_set_steps.specs.AtomicPrograms.{last_version, version_behind, index_behind, stores_from, atomic_access, atomic_next, atomic_event, program_of}
 use Rattle.iox_set_steps.specs.AtomicPlays.{IsStoring, IsLoading, AtomicsKnow}
-use Rattle.iox_set_steps.specs.AtomicKnowledge.{Follows}
+use Rattle.iox_set_steps.specs.AtomicKnowledge.{Advances}
 use Rattle.iox_set_steps.specs.AtomicLemmas.{word_place_is, other_cell_stays, written_more, loaded_more, stores_from_knows, loads_from_knows}
 
 -- what an access makes of the words and of the party
 pub record Makes (size base : ℕ) (words : List ℕ) (program : AtomicProgram size) (words' : List ℕ) (seen : ℕ) : Type 0 where
   pub leads : LeadsOn size (value_now size base words) (atomic_event program seen) (value_now size base words')
-  pub follows : Follows size base words words'
+  pub follows : Advances size base words words'
   pub knows : AtomicsKnow size base words' (program_of (atomic_next size program seen))
   pub version : version_now base words' < 2 ^ 64
 
 module _ (size base : ℕ) (words : List ℕ) (room : base + 1 + size + size ≤ length words) (memory : length words < 2 ^ 64)
     (small : version_now base words < 2 ^ 64) where
   -- words that do not change follow themselves
-  unchanged : Follows size base words words
+  unchanged : Advances size base words words
   unchanged = record { onward = omega arith; stays = λ stands at inside. refl }
 
   -- what an access makes that does nothing to the value

@@ -12,7 +12,7 @@ use Rattle.iox_set_steps.specs.AtomicPlays.{IsLoading, AtomicsKnow, is_storing}
 use Rattle.iox_set_steps.specs.AtomicLemmas.{two_cells}
 
 -- the version does not decrease, and while it is unchanged so is the value
-pub record Follows (size base : ℕ) (words words' : List ℕ) : Type 0 where
+pub record Advances (size base : ℕ) (words words' : List ℕ) : Type 0 where
   pub onward : version_now base words ≤ version_now base words'
   pub stays : version_now base words' ≡ version_now base words → AgreeUpTo size (value_now size base words') (value_now size base words)
 
@@ -31,7 +31,7 @@ module _ (size base : ℕ) (words : List ℕ) (room : base + 1 + size + size ≤
   atomic_access_within (LoadsAgain version list) knows = (omega arith, omega arith)
 
 -- what a load found still holds after what the other parties do
-loading_survives : (size base : ℕ) (words words' : List ℕ) → Follows size base words words' → (version : ℕ) (list : List ℕ) (count : ℕ) → count ≤ size
+loading_survives : (size base : ℕ) (words words' : List ℕ) → Advances size base words words' → (version : ℕ) (list : List ℕ) (count : ℕ) → count ≤ size
     → IsLoading size base words version list count → IsLoading size base words' version list count
 loading_survives size base words words' follows version list count most loading =
     let passed = loading.passed in
@@ -43,7 +43,7 @@ loading_survives size base words words' follows version list count most loading 
     }
 
 -- what holds of a party that is in no store still holds after what the others do
-pub survives : (size base : ℕ) (words words' : List ℕ) → Follows size base words words' → (program : AtomicProgram size) → is_storing program ≡ false
+pub survives : (size base : ℕ) (words words' : List ℕ) → Advances size base words words' → (program : AtomicProgram size) → is_storing program ≡ false
     → AtomicsKnow size base words program → AtomicsKnow size base words' program
 survives size base words words' follows AtRest other knows = tt
 survives size base words words' follows (LoadsToStore list) other knows = tt

@@ -15,7 +15,7 @@ use Rattle.iox_set_steps.specs.declared.unrestricted_atomic.party.AtomicParty.{A
 use Rattle.iox_set_steps.specs.AtomicPrograms.{index_behind, atomic_access, atomic_next, program_of}
 use Rattle.iox_set_steps.specs.AtomicPlays.{AtomicMachineState, atomics_ask, atomics_happen, atomics_rest, AtomicsLead, is_storing, IsAtValue, AtomicsHold}
 use Rattle.iox_set_steps.specs.AtomicLemmas.{run_more}
-use Rattle.iox_set_steps.specs.AtomicKnowledge.{Follows, atomic_access_within, survives}
+use Rattle.iox_set_steps.specs.AtomicKnowledge.{Advances, atomic_access_within, survives}
 use Rattle.iox_set_steps.specs.AtomicEvents.{Makes, atomic_makes}
 
 -- the access of each party names a word that exists
@@ -39,7 +39,7 @@ words_stay size base words (LoadsAgain version list) other = refl
 -- what held of another party still holds
 other_knows : (size base : ℕ) (words : List ℕ) (number other : ℕ) (party that : AtomicParty size) → IsAtValue size base words number party
     → IsAtValue size base words other that → other ≢ number
-    → Follows size base words (words_after (atomic_access size base party.program) words)
+    → Advances size base words (words_after (atomic_access size base party.program) words)
     → IsAtValue size base (words_after (atomic_access size base party.program) words) other that
 other_knows size base words number other party that at known apart follows = record {
   here = known.here;

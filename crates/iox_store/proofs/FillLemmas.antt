@@ -3,7 +3,7 @@ use Rattle.std.proofs.Common.{◌≡◌, ℕ, zero, suc, ◌+◌, List, [], ◌�
 use Rattle.std.specs.List.{range_with_len}
 use Rattle.std.proofs.lemmas.List.{flat_map_more}
 use Rattle.iox_store.specs.Stored.{Stored, copies, written_next}
-use Rattle.iox_store.specs.Answering.{Answers}
+use Rattle.iox_store.specs.Answering.{GivesInTurn}
 
 copies-from : (words : List ℕ) (a n : ℕ)
     → flat_map (λ k. words) (range_with_len a (suc n)) ≡ flat_map (λ k. words) (range_with_len a n) ++ words
@@ -18,8 +18,8 @@ copies-more words n = ap (copies words) (add-one n) ∙ copies-from words 0 n
 
 -- one answer more
 pub Answers-more : {F E : Type 0} (step : F → ℕ → E → F → Type 0) (f : F) (first : ℕ) (values : List E) (g : F) (value : E) (h : F)
-    → Answers step f first values g → step g (first + length values) value h
-    → Answers step f first (values ++ value ∷ []) h
+    → GivesInTurn step f first values g → step g (first + length values) value h
+    → GivesInTurn step f first (values ++ value ∷ []) h
 Answers-more step f first [] g value h asked last =
     (h, subst (λ n. step f n value h) (add-zero first) (subst (λ x. step x (first + 0) value h) (sym asked) last), refl)
 Answers-more step f first (x ∷ xs) g value h (after, now, asked) last =

@@ -3,17 +3,17 @@ use Rattle.std.specs.Prelude.{ℕ, suc, ◌≡◌, List, [], ◌∷◌, flat_map
 use Rattle.iox_store.specs.Stored.{Stored, filled_with}
 
 -- The closure is asked for one number after the other, from the first on, and answers these values.
-abbrev pub Answers : {F E : Type 0} → (F → ℕ → E → F → Type 0) → F → ℕ → List E → F → Type 0
-Answers step f first [] last = f ≡ last
-Answers {F} step f first (value ∷ values) last =
-    (after : F) × step f first value after × Answers step after (suc first) values last
+abbrev pub GivesInTurn : {F E : Type 0} → (F → ℕ → E → F → Type 0) → F → ℕ → List E → F → Type 0
+GivesInTurn step f first [] last = f ≡ last
+GivesInTurn {F} step f first (value ∷ values) last =
+    (after : F) × step f first value after × GivesInTurn step after (suc first) values last
 
 -- From old, each element is filled with what the closure answers for its index, which leaves new.
 pub record FillsByAnswers {F E : Type 0} (words : E → List ℕ) (step : F → ℕ → E → F → Type 0)
     (f : F) (old new : Stored) : Type 0 where
   pub values : List E
   pub last : F
-  pub answered : Answers step f 0 values last
+  pub answered : GivesInTurn step f 0 values last
   -- one for each element
   pub count : length values ≡ old.elements
   -- the payload is their words, and nothing else changed

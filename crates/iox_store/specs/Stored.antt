@@ -65,8 +65,8 @@ abbrev pub filled_with : Stored → List ℕ → Stored
 filled_with x payload = record x { filled = x.elements; payload = payload }
 
 -- lent for so many elements, each filled with the same words
-abbrev pub lent : Stored → ℕ → List ℕ → List ℕ → Stored
-lent x elements user words = filled_with (lent_uninit x elements user) (copies words elements)
+abbrev pub lent_filled : Stored → ℕ → List ℕ → List ℕ → Stored
+lent_filled x elements user words = filled_with (lent_uninit x elements user) (copies words elements)
 
 -- one more element is filled
 abbrev pub written_next : Stored → List ℕ → Stored

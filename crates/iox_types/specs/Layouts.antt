@@ -42,8 +42,8 @@ payload_place details place =
     aligned_place (user_header_place details place + details.user_header.size) details.payload.alignment
 
 -- a message whose header stands at `place` ends at a place that fits `usize`, even without elements
-abbrev pub HasRoomAt : MessageTypeDetails → ℕ → Type 0
-HasRoomAt details place = place + message_bytes details 0 < 2 ^ 64
+abbrev pub EndsWithinUsize : MessageTypeDetails → ℕ → Type 0
+EndsWithinUsize details place = place + message_bytes details 0 < 2 ^ 64
 
 -- The parts of a message, as `mine` describes them, stand where `service` lays them out from
 -- `start` on. Each is aligned, begins behind the one before, and ends within `size` bytes.

@@ -4,7 +4,7 @@ ghost use Rattle.std.specs.declared.cmp.Ordering.TheVariants.{Equal};
 ghost use Rattle.iox_types.specs.declared.identifiers.port_id.UniquePortId.{UniquePortId as PortId};
 ghost use Rattle.iox_types.specs.Compatibility.{AreCompatible};
 ghost use Rattle.iox_types.specs.Identifiers.{IsId, id_value};
-ghost use Rattle.iox_types.specs.Layouts.{HasRoomAt, message_size};
+ghost use Rattle.iox_types.specs.Layouts.{EndsWithinUsize, message_size};
 ghost use Rattle.iox_types.specs.PortIds.{IsPortId};
 ghost use Rattle.iox_types.specs.Places.{IsAlignedTo, aligned_place};
 ghost use Rattle.iox_types.specs.declared.identifiers.system_id.UniqueSystemId.{UniqueSystemId as Id};
@@ -35,7 +35,7 @@ pub fn aligned_places_are_least()
 /// Where a whole message fits, its places fit `usize`.
 pub fn a_message_that_fits_has_room()
     ensures { (details : MessageTypeDetails) (n place : ℕ) → 0 < details.header.alignment →
-        place + message_size details n < 2 ^ 64 → HasRoomAt details place }
+        place + message_size details n < 2 ^ 64 → EndsWithinUsize details place }
 {}
 
 /// Equality, order and hash of identifiers agree: they tell two apart if and only if they differ.

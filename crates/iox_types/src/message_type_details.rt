@@ -18,7 +18,7 @@ pub struct MessageTypeDetails {
 impl MessageTypeDetails {
     ghost use Rattle.iox_types.specs.Details.{AllShort, detail};
     ghost use Rattle.iox_types.specs.Compatibility.{AreAligned, AreCompatible};
-    ghost use Rattle.iox_types.specs.Layouts.{HasRoomAt, LaysOut, message_bytes, message_layout, as_usize};
+    ghost use Rattle.iox_types.specs.Layouts.{EndsWithinUsize, LaysOut, message_bytes, message_layout, as_usize};
     ghost use Rattle.iox_types.specs.Layouts.{payload_place, user_header_place};
     ghost use Rattle.iox_types.specs.declared.type_detail.TypeVariant.TheVariants.{FixedSize};
 
@@ -73,7 +73,7 @@ impl MessageTypeDetails {
 
     /// Where the user header stands, if the header stands at `header`.
     pub fn user_header_ptr_from_header(&self, header: usize) -> usize
-        requires { HasRoomAt self.now header }
+        requires { EndsWithinUsize self.now header }
         ensures { result ≡ user_header_place self.now header }
     {
         aligned_place(header + self.header.size(), self.user_header.alignment())
@@ -81,7 +81,7 @@ impl MessageTypeDetails {
 
     /// Where the payload stands, if the header stands at `header`.
     pub fn payload_ptr_from_header(&self, header: usize) -> usize
-        requires { HasRoomAt self.now header }
+        requires { EndsWithinUsize self.now header }
         ensures { result ≡ payload_place self.now header }
     {
         let user_header = self.user_header_ptr_from_header(header);

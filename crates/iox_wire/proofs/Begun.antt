@@ -27,7 +27,7 @@ use Rattle.iox_wire_weaves.specs.Lends.{MayLend}
 use Rattle.iox_wire_weaves.specs.MessageBegins.{WordsAreWhole}
 use Rattle.iox_wire_weaves.specs.NodeCall.{NodeCall}
 use Rattle.iox_wire_weaves.specs.NodeCall.TheVariants.{Handle, HasRequests, Loan, Receive, Send, SendCopy, Write}
-use Rattle.iox_wire_weaves.specs.Nodes.{Node, seat_at, seat_in}
+use Rattle.iox_wire_weaves.specs.Nodes.{NodeView, seat_at, seat_in}
 use Rattle.iox_wire_weaves.specs.NodesBegins.{AddsHandle, IsUnderWay, MayBegin, begun_at}
 use Rattle.iox_wire_weaves.specs.Replies.{call_within}
 use Rattle.iox_wire_weaves.specs.Runs.{GoesOnBy, Run}
@@ -117,7 +117,7 @@ words_are_whole p x (Handle n handle_calls.HasResponse) = tt
 three : {A B C D : Type 0} (f : A → B → C → D) {a a' : A} {b b' : B} {c c' : C} → a ≡ a' → b ≡ b' → c ≡ c' → f a b c ≡ f a' b' c'
 three f p q r = λ i. f (p i) (q i) (r i)
 
-made_alike : (x : Node) (c : CallAt) → (seat_at c x).handles_made ≡ x.seat.seat.handles_made
+made_alike : (x : NodeView) (c : CallAt) → (seat_at c x).handles_made ≡ x.seat.seat.handles_made
 made_alike x at.Seats = refl
 made_alike x at.Receives = refl
 made_alike x at.Lends = refl
@@ -146,11 +146,11 @@ has_begun plan terms old call events mid new set begun adds there by_role room l
     let rests : is_busy (seat_in old.node).local ≡ false = rests_if set.0 (seat_in old.node) (Port (call_in set.0 (seat_in old.node) call)) way.allowed in
     let same : mid.node ≡ new.node = sym (ap (λ (x : WireNode). x.node) keeps) in
     record {
-      begun = λ p setting. subst (λ (x : Node). IsUnderWay p old.node (Port (call_in p (seat_in old.node) call)) x) same (begun p setting);
-      ready = subst (λ (x : Node). MayAdd x.at x) same (way.ready.may (λ more. lends rests (room (adds more)) set.0 set.1));
-      at = subst (λ (x : Node). IsKeptAt (call_in_words call) x.at) same there;
-      role = λ p. ap (λ (x : Node). x.at) (sym same) ∙ by_role p;
-      rooms = subst (λ (x : Node). KeepsRooms old.node x) same rooms;
+      begun = λ p setting. subst (λ (x : NodeView). IsUnderWay p old.node (Port (call_in p (seat_in old.node) call)) x) same (begun p setting);
+      ready = subst (λ (x : NodeView). MayAdd x.at x) same (way.ready.may (λ more. lends rests (room (adds more)) set.0 set.1));
+      at = subst (λ (x : NodeView). IsKeptAt (call_in_words call) x.at) same there;
+      role = λ p. ap (λ (x : NodeView). x.at) (sym same) ∙ by_role p;
+      rooms = subst (λ (x : NodeView). KeepsRooms old.node x) same rooms;
       number = ap (λ (x : WireNode). x.number) keeps ∙ number;
       lives = record {
         alive = ap (λ (x : WireNode). x.alive) keeps ∙ lives.alive;

@@ -20,11 +20,11 @@ use Rattle.iox_wire_weaves.specs.Plans.{IsPlan, port_numbers, sizes_of}
 use Rattle.iox_wire_weaves.specs.Openings.{OverflowsWithRoom}
 use Rattle.iox_wire_weaves.specs.PlansOf.{IsSettingOf}
 use Rattle.iox_wire_weaves.specs.Tables.{Setting}
-use Rattle.iox_wire_weaves.specs.Laws.{IsFresh}
+use Rattle.iox_wire_weaves.specs.Laws.{IsNewWire}
 use Rattle.iox_wire_weaves.specs.WirePlans.{IsWirePlan}
 use Rattle.iox_wire_weaves.specs.Terms.{IsSettingWith}
 use Rattle.iox_wire_weaves.specs.WireTerms.{WireTerms}
-use Rattle.iox_wire_weaves.specs.Wires.{AreWhole, OpensOn, ShowsOpened, WireData, WireNode, node_at}
+use Rattle.iox_wire_weaves.specs.Wires.{AreWhole, WireOpensOn, ShowsOpened, WireData, WireNode, node_at}
 use Rattle.iox_wire_weaves.proofs.Opened.{wires_open}
 use Rattle.iox_wire.specs.Kept.{AreOpened, IsKept, IsOpenedNode, IsShown}
 use Rattle.iox_wire_openings.specs.OpenedNodes.{planned_desk, planned_ways}
@@ -66,14 +66,14 @@ kept_first plan apart low handles n x opened = record {
 
 module _ (plan : WirePlan) (terms : WireTerms) (ns : List ℕ) (wire : WireData) (is : IsPlan plan) (plan_is : wire.plan ≡ plan) (terms_are : wire.terms ≡ terms)
     (words : wire.words ≡ replicate (total_words (sizes_of plan)) 0) (handles : ℕ) (nodes : AreOpened plan handles ns wire.nodes) (replies : wire.replies ≡ []) (events : wire.events ≡ []) where
-  module _ (p : Setting) (s : State) (opens : OpensOn plan terms ns p s) where
+  module _ (p : Setting) (s : State) (opens : WireOpensOn plan terms ns p s) where
     setting : IsSettingOf plan p
     setting = opens.told.setting
 
     one : (n : ℕ) (x : WireNode) → node_at n wire.nodes ≡ Some x → IsOpenedNode plan handles n x
     one n x at = opened_node plan handles ns wire.nodes n x nodes at
 
-    pub fresh : IsFresh p plan terms ns wire
+    pub fresh : IsNewWire p plan terms ns wire
     fresh = record {
       plan_is = plan_is;
       terms_are = terms_are;
@@ -96,7 +96,7 @@ module _ (plan : WirePlan) (terms : WireTerms) (ns : List ℕ) (wire : WireData)
     memory = omega (arith, low);
   }
 
-  pub shown_opened : AreWhole plan terms → total_words (sizes_of plan) < 2 ^ 63 → terms.first_number < 2 ^ 63 → (p : Setting) × (s : State) × OpensOn plan terms ns p s → IsShown wire
+  pub shown_opened : AreWhole plan terms → total_words (sizes_of plan) < 2 ^ 63 → terms.first_number < 2 ^ 63 → (p : Setting) × (s : State) × WireOpensOn plan terms ns p s → IsShown wire
   shown_opened whole low first o =
       let shows : ShowsOpened o.0 o.1 wire = shows_opened o.0 o.1 o.2 whole.room in
       record {

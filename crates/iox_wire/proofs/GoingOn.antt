@@ -13,7 +13,7 @@ use Rattle.iox_wire_weaves.specs.CallAt.{CallAt}
 use Rattle.iox_wire_weaves.specs.CallAt.TheVariants as at
 use Rattle.iox_wire_copies.specs.Copiers as copiers
 use Rattle.iox_wire_copies.specs.Copies.{IsLoanOf}
-use Rattle.iox_wire_copies.specs.CopyAims.{IsHeld}
+use Rattle.iox_wire_copies.specs.CopyAims.{MayBeGivenUp}
 use Rattle.iox_wire_copies.specs.declared.at.CopierAt.{CopierAt}
 use Rattle.iox_wire_copies.specs.declared.at.CopierAt.TheVariants as copier_at
 use Rattle.iox_wire_copies.specs.CopyCalls as request_copies
@@ -30,7 +30,7 @@ use Rattle.iox_wire_copies.specs.LoansAims as loans
 use Rattle.iox_wire_weaves.specs.LocalsSteps.{ending_at}
 use Rattle.iox_wire_weaves.specs.NewLoan.{NewLoan}
 use Rattle.iox_wire_weaves.specs.NewLoans.{entry_in}
-use Rattle.iox_wire_weaves.specs.Nodes.{Node, seat_at}
+use Rattle.iox_wire_weaves.specs.Nodes.{NodeView, seat_at}
 use Rattle.iox_wire_weaves.specs.Programs.{site_of}
 use Rattle.iox_wire_weaves.specs.RequestDispatches.{RequestDispatch}
 use Rattle.iox_wire_copies.specs.RequestSendsAims as requests
@@ -112,7 +112,7 @@ response_finds p x r local seen told aimed place = tt
 
 -- ---- a copy
 
-made_held : (p : Setting) (x : Seat) (seen : ℕ) (local : Local) → IsTold p (placed x local) seen → IsHeld x local
+made_held : (p : Setting) (x : Seat) (seen : ℕ) (local : Local) → IsTold p (placed x local) seen → MayBeGivenUp x local
 made_held p x seen (LendStores o slot next) told = told.made o slot refl refl
 made_held p x seen local told = tt
 
@@ -131,7 +131,7 @@ response_loan_finds x r kind local seen place = tt
 
 request_copy : (p : Setting) (seen : ℕ) (x : Placed) (r : request_copies.CopyCall) (name : CopierAt) → IsTold p (placed x.seat r.local) seen
     → request_copies.AreAimed p x.seat name r → copiers.MayBeMade x name r.lends.lending.order r.sends.loan → request_copies.HasItsPlace name r
-    → request_copies.MayEnd x name r × request_copies.FindsUsed x r seen
+    → request_copies.LoanMayEnd x name r × request_copies.FindsUsed x r seen
 request_copy p seen x r copier_at.Rest told aimed may place =
     (tt, subst (λ l. loans.GetsBackUsed x.seat l × requests.FindsAt x.seat r.sends l seen) (sym place) (tt, tt))
 request_copy p seen x r copier_at.Refuses told aimed may place =
@@ -157,7 +157,7 @@ request_copy p seen x r copier_at.Sends told aimed may place =
 
 response_copy : (p : Setting) (seen : ℕ) (x : Placed) (r : response_copies.ResponseCopy) (name : CopierAt) → IsTold p (placed x.seat r.local) seen
     → response_copies.AreAimed p x.seat name r → copiers.MayBeMade x name r.lends.lending.order r.sends.loan → response_copies.HasItsPlace name r
-    → is_busy r.local ≡ true → response_copies.MayEnd x name r × response_copies.FindsUsed x r seen
+    → is_busy r.local ≡ true → response_copies.LoanMayEnd x name r × response_copies.FindsUsed x r seen
 response_copy p seen x r copier_at.Rest told aimed may place busy =
     (tt, subst (λ l. loans.GetsBackUsed x.seat l × responses.FindsAt x.seat r.sends.terms l seen) (sym place) (tt, tt))
 response_copy p seen x r copier_at.Refuses told aimed may place busy =
@@ -184,7 +184,7 @@ response_copy p seen x r copier_at.Sends told aimed may place busy =
 
 -- ---- each call
 
-pub goes_on : (p : Setting) (seen : ℕ) (n : Node) (call : CallAt) → IsTold p (seat_at call n) seen → AreAimed p call n → MayAdd call n → KnowsItsPlace call n
+pub goes_on : (p : Setting) (seen : ℕ) (n : NodeView) (call : CallAt) → IsTold p (seat_at call n) seen → AreAimed p call n → MayAdd call n → KnowsItsPlace call n
     → is_busy (seat_at call n).local ≡ true → MayGoOn call n seen
 goes_on p seen n at.Seats told aimed may place busy = tt
 goes_on p seen n at.Receives told aimed may place busy = may

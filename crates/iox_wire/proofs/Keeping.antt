@@ -14,7 +14,7 @@ use Rattle.iox_wire_weaves.specs.Ending.{Ending}
 use Rattle.iox_wire_weaves.specs.Laws.{Replaces, WentOn}
 use Rattle.iox_wire_weaves.specs.LocalsSteps.{accessed, advance, closed, ending_at, next, tells}
 use Rattle.iox_wire_weaves.specs.NodeReply.{NodeReply}
-use Rattle.iox_wire_weaves.specs.Nodes.{Node, seat_in}
+use Rattle.iox_wire_weaves.specs.Nodes.{NodeView, seat_in}
 use Rattle.iox_wire_weaves.specs.ReadWords.{TellsNoWords}
 use Rattle.iox_wire_weaves.specs.Seat.{Seat}
 use Rattle.iox_wire_weaves.specs.Settlements.{reply_of}
@@ -72,7 +72,7 @@ quiet p x seen busy = by_end (advance p (accessed x) x.local seen) (ending_at (a
 
 -- ---- a node
 
-pub kept_on : (p : Setting) (x y : Node) (seen : ℕ) (reply : Option NodeReply) → IsKept x → is_busy (seat_in x).local ≡ true → (seat_in x).accesses < most_accesses
+pub kept_on : (p : Setting) (x y : NodeView) (seen : ℕ) (reply : Option NodeReply) → IsKept x → is_busy (seat_in x).local ≡ true → (seat_in x).accesses < most_accesses
     → WentOn p x seen reply y → (reply ≡ None → MayAdd x.at x → MayAdd y.at y) → IsKept y
 kept_on p x y seen reply kept busy few went ready = record {
   few = less (seat_in y).accesses (seat_in x).accesses (ap (λ (s : Seat). s.accesses) went.next_is ∙ made.stepped p (seat_in x) seen) few;
@@ -88,7 +88,7 @@ kept_on p x y seen reply kept busy few went ready = record {
     less : (a b : ℕ) → a ≡ b + 1 → b < most_accesses → a ≤ most_accesses
     less a b is low = omega (arith, is, low)
 
-pub kept_begun : (p : Setting) (x y : Node) (call : WireCall) → IsKept x → seat_in y ≡ begin p (seat_in x) call → MayAdd y.at y → IsKept y
+pub kept_begun : (p : Setting) (x y : NodeView) (call : WireCall) → IsKept x → seat_in y ≡ begin p (seat_in x) call → MayAdd y.at y → IsKept y
 kept_begun p x y call kept begun ready = record {
   few = subst (λ k. k ≤ most_accesses) (sym (ap (λ (s : Seat). s.accesses) begun ∙ made.begun p (seat_in x) call)) kept.few;
   tidy = subst IsTidy (sym begun) (begun_nodes_are_tidy p (seat_in x) call kept.tidy);

@@ -12,7 +12,7 @@ use Rattle.iox_wire_weaves.specs.Lendings.{next_handle}
 use Rattle.iox_wire_weaves.specs.Lends.{MayLend}
 use Rattle.iox_wire_weaves.specs.Local.{Local}
 use Rattle.iox_wire_weaves.specs.Local.TheVariants.{Idle}
-use Rattle.iox_wire_weaves.specs.Nodes.{Node, seat_at, seat_in}
+use Rattle.iox_wire_weaves.specs.Nodes.{NodeView, seat_at, seat_in}
 use Rattle.iox_wire_weaves.specs.Runs.{Run}
 use Rattle.iox_wire_weaves.specs.Seat.{Seat}
 use Rattle.iox_wire_weaves.specs.Steps.{most_accesses}
@@ -27,7 +27,7 @@ leaves_idle Idle rests = tt
 leaves_idle local rests = absurd (true≢false rests)
 
 -- whatever its last call was
-lends_by : (p : Setting) (n : Node) (call : CallAt) → MayCountMore p (seat_at call n) → 0 < n.seat.room → (port : ℕ) → MayLend n.seat (next_handle p n.seat.seat) port
+lends_by : (p : Setting) (n : NodeView) (call : CallAt) → MayCountMore p (seat_at call n) → 0 < n.seat.room → (port : ℕ) → MayLend n.seat (next_handle p n.seat.seat) port
 lends_by p n at.Seats more room port = record { room = room; newer = more.newer; handles = more.handles; loans = more.loans port }
 lends_by p n at.Receives more room port = record { room = room; newer = more.newer; handles = more.handles; loans = more.loans port }
 lends_by p n at.Lends more room port = record { room = room; newer = more.newer; handles = more.handles; loans = more.loans port }

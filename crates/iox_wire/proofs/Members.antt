@@ -8,12 +8,12 @@ use Rattle.iox_laws.proofs.WeaveLedger.Truths.{none-some}
 use Rattle.iox_wire_weaves.specs.WirePlan.{WirePlan}
 use Rattle.iox_wire_weaves.specs.CallAt.{CallAt}
 use Rattle.iox_wire_weaves.specs.CallAt.TheVariants as at
-use Rattle.iox_wire_weaves.specs.Nodes.{Node, seat_at}
+use Rattle.iox_wire_weaves.specs.Nodes.{NodeView, seat_at}
 use Rattle.iox_wire_weaves.specs.Wires.{WireNode, node_at}
 use Rattle.iox_wire.specs.Kept.{AreOpened, IsOpenedNode}
 
 -- a node counts its accesses whatever its call is
-pub counted_at : (x : Node) (c : CallAt) → (seat_at c x).accesses ≡ x.seat.seat.accesses
+pub counted_at : (x : NodeView) (c : CallAt) → (seat_at c x).accesses ≡ x.seat.seat.accesses
 counted_at x at.Seats = refl
 counted_at x at.Receives = refl
 counted_at x at.Lends = refl

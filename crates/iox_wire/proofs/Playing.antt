@@ -31,7 +31,7 @@ use Rattle.iox_wire_weaves.proofs.Lookups.{first_none, seat_there}
 use Rattle.iox_wire.specs.Begun.{LacksRoom}
 use Rattle.iox_wire.specs.Kept.{Loses}
 use Rattle.iox_wire.specs.Replies.{words_call}
-use Rattle.iox_wire.specs.Schedules.{AreEntered, IsAsked, IsDeclaredDead, IsEntered, IsPlayed, IsStepped, IsWovenBy, LeadsTo, WantsMemory}
+use Rattle.iox_wire.specs.Schedules.{AreEntered, IsAsked, IsDeclaredDead, IsEntered, EntriesArePlayed, IsStepped, IsWovenBy, EntryLeadsTo, WantsMemory}
 use Rattle.iox_wire.specs.declared.entry.WireEntry.{WireEntry}
 use Rattle.iox_wire.specs.declared.entry.WireEntry.TheVariants.{Begin, Die, Step}
 
@@ -172,7 +172,7 @@ death_told a b n (Err refusal) woven lost alive refused same = refused_where _ _
 -- the run goes on by beats to which the entry may lead, and the wire shows it
 abbrev GoesOnIn : Setting → Run → WireEntry → WireData → Type 0
 GoesOnIn p r e b =
-    (bs : List Beat) × (after : Run) × LeadsTo r.last e bs × IsWeave r.last bs after.last
+    (bs : List Beat) × (after : Run) × EntryLeadsTo r.last e bs × IsWeave r.last bs after.last
     × (after.first ≡ r.first) × (after.beats ≡ r.beats ++ bs) × Shows p b after
 
 -- the machine's call of what is asked where the machine does not refuse it
@@ -229,7 +229,7 @@ begin_goes a b n call p r shows (Some refusal) is left = (
 
 step_goes : (a b : WireData) (n : ℕ) (p : Setting) (r : Run) → Shows p a r → (o : Option WireRefusal)
     → MatchOption o (MakesItsAccess a n b × ((progress : Progress NodeReply) × StepIsWoven a n progress b)) (λ refusal. b ≡ a) → GoesOnIn p r (Step n) b
-step_goes a b n p r shows None so = let s = so.1.1 p r shows in (s.0, s.1, s.2, s.3.woven, s.3.first, s.3.beats, s.5)
+step_goes a b n p r shows None so = let s = so.1.1 p r shows in (s.beats, s.after, s.is_step, s.goes_on.woven, s.goes_on.first, s.goes_on.beats, s.shows)
 step_goes a b n p r shows (Some refusal) same =
     ([], r, nothing, refl, refl, sym (append-nil r.beats), subst (λ w. Shows p w r) (sym same) shows)
 
@@ -279,7 +279,7 @@ woven_by a b (e ∷ es) entered p r shows =
       l.5,
     )
 
-pub played : (a b : WireData) (es : List WireEntry) → AreEntered a es b → IsPlayed a es b
+pub played : (a b : WireData) (es : List WireEntry) → AreEntered a es b → EntriesArePlayed a es b
 played a b es entered = record { each = entered; woven = woven_by a b es entered }
 
 pub one_more : (a b c : WireData) (es : List WireEntry) (e : WireEntry) → AreEntered a es b → IsEntered b e c → AreEntered a (es ++ e ∷ []) c
@@ -308,7 +308,7 @@ three_made a d n entered p r shows =
       λ goes. subst (λ w. MakesOneAccess p c n w) (sym entered.2.2.2) (made_access c entered.2.2.0 n (step_refusal c n) entered.2.2.1 goes p second.1 second.6),
     )
 
-pub three_told : (told : Result (Unit {0}) WireRefusal) (a d : WireData) (n : ℕ) → OnOk told (IsPlayed a (Step n ∷ Step n ∷ Step n ∷ []) d)
+pub three_told : (told : Result (Unit {0}) WireRefusal) (a d : WireData) (n : ℕ) → OnOk told (EntriesArePlayed a (Step n ∷ Step n ∷ Step n ∷ []) d)
     → (p : Setting) (r : Run) → Shows p a r
     → OnOk told ((b c : WireData) × (step_refusal a n ≡ None → MakesOneAccess p a n b) × (step_refusal b n ≡ None → MakesOneAccess p b n c)
     × (step_refusal c n ≡ None → MakesOneAccess p c n d))

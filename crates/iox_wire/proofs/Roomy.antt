@@ -7,7 +7,7 @@ use Rattle.std.proofs.Common.{◌≡◌, ℕ, ◌≤◌, ◌==◌, ◌^◌, Bool
 use Rattle.std.proofs.lemmas.Bool.{cases_Bool}
 use Rattle.std.proofs.lemmas.Option.{none-some, same_Some}
 use Rattle.iox_wire_weaves.specs.Laws.{Replaces}
-use Rattle.iox_wire_weaves.specs.Nodes.{Node}
+use Rattle.iox_wire_weaves.specs.Nodes.{NodeView}
 use Rattle.iox_wire_weaves.specs.PlacedHandles.{HasRoomForSlots}
 use Rattle.iox_wire_weaves.specs.PlanPort.{PlanPort}
 use Rattle.iox_wire_weaves.specs.Plans.{most_ways}
@@ -63,7 +63,7 @@ at_most : (most ways room : ℕ) → ways ≡ most → room ≡ ways → most �
 at_most most ways room is same = omega (arith, is, same)
 
 -- a node that is made with so much room has room for what calls keep
-pub roomy_node : (plan : WirePlan) (ways words : ℕ) (n : Node) → ways ≡ most_ways plan → words ≡ most_words plan → n.seat.ways_room ≡ ways → n.seat.words_room ≡ words
+pub roomy_node : (plan : WirePlan) (ways words : ℕ) (n : NodeView) → ways ≡ most_ways plan → words ≡ most_words plan → n.seat.ways_room ≡ ways → n.seat.words_room ≡ words
     → HasRoomOf ways words n → HasRoomToBegin plan n
 roomy_node plan ways words n ways_are words_are seat_ways seat_words has = record {
   asks = record { ways = fits n.seat.ways_room seat_ways; words = slots n.seat.words_room seat_words };

@@ -3,8 +3,7 @@ use Rattle.std.specs.Prelude.{IfSome, position, ◌⊎◌}
 use Rattle.std.proofs.Common.{◌≡◌, ℕ, ◌<◌, ◌≤◌, ◌==◌, true, List, [], ◌++◌, append-nil, arith, length, get_or, Option, Some, None, refl, ap, ap₂, sym, subst, ◌∙◌, slice_set, inl, inr, true≢false}
 use Rattle.iox_laws.proofs.WeaveLaws.WholeLemmas.{some-is}
 use Rattle.iox_model.specs.declared.event.Event.{Event}
-use Rattle.iox_model.specs.Schedules.{Finished, IsStepOf}
-use Rattle.iox_model.specs.Weaves.{Beat}
+use Rattle.iox_model.specs.Schedules.{Finished}
 use Rattle.iox_model.specs.declared.reply.Reply.TheVariants.{Words}
 use Rattle.iox_steps.specs.Accesses.{seen_at, words_after}
 use Rattle.iox_steps.specs.declared.access.Progress.{Progress}
@@ -12,17 +11,16 @@ use Rattle.iox_wire_weaves.specs.Aims.{IsAimed}
 use Rattle.iox_wire_weaves.specs.Laws.{LivesAs, progress_of}
 use Rattle.iox_wire_weaves.specs.NodeReply.{NodeReply}
 use Rattle.iox_wire_weaves.specs.NodeReply.TheVariants as node_replies
-use Rattle.iox_wire_weaves.specs.Nodes.{Node, answered_at, reply_in, seat_in}
+use Rattle.iox_wire_weaves.specs.Nodes.{NodeView, answered_at, reply_in, seat_in}
 use Rattle.iox_wire_weaves.specs.Plans.{slot_words_of}
 use Rattle.iox_wire_weaves.specs.Replies.{most_words}
 use Rattle.iox_wire_weaves.specs.Rooms.{KeepsRooms}
 use Rattle.iox_wire_weaves.specs.Runs.{Run}
 use Rattle.iox_wire_weaves.specs.SeatReply.TheVariants as seat_replies
 use Rattle.iox_wire_weaves.specs.SlotEvents.{slot_event}
-use Rattle.iox_wire_weaves.specs.Steps.{IsWireCallAt, MakesOneAccess, answer_of, call_after, finished_by, most_accesses, read_after, recorded, reply_of, step_refusal}
+use Rattle.iox_wire_weaves.specs.Steps.{GoesOnByStep, IsWireCallAt, MakesOneAccess, answer_of, call_after, finished_by, most_accesses, read_after, recorded, reply_of, step_refusal}
 use Rattle.iox_wire_weaves.specs.Tables.{Setting}
-use Rattle.iox_wire_weaves.specs.WholeSteps.{GoesOnWith}
-use Rattle.iox_wire_weaves.specs.Wires.{Shows, WireData, WireNode, answers_in, node_at}
+use Rattle.iox_wire_weaves.specs.Wires.{Shows, WireData, WireNode, node_at}
 use Rattle.iox_wire_weaves.proofs.Lookups.{steps_on}
 use Rattle.iox_wire_weaves.proofs.ReadsWithin.{reads_are_within}
 use Rattle.iox_wire.specs.Kept.{FoundThere, HasGoneOn, IsShown, MayAccess, access_in}
@@ -155,7 +153,7 @@ module _ (w : WireData) (n i : ℕ) (m d : WireNode) (first : position (λ x. x.
 
       made : (p : Setting) → MayAccess p d.node w.words → wires.Made w n i d first read p reply words event y
       made p may = record {
-        gone = subst (λ (k : Node). HasGoneOn p d.node w.words reply k) (sym ends.node) (gone p w.words may (saw_d p may));
+        gone = subst (λ (k : NodeView). HasGoneOn p d.node w.words reply k) (sym ends.node) (gone p w.words may (saw_d p may));
         words_are = stored p (there_too p may) ∙ ap (λ (x : WireNode). words_after (access_in p x.node) w.words) same;
         event_is = told p (there_too p may).aimed ∙ ap₂ (λ (x : WireNode) k. slot_event p (seat_in x.node).local k) same (saw_d p may);
       }
@@ -165,7 +163,7 @@ module _ (w : WireData) (n i : ℕ) (m d : WireNode) (first : position (λ x. x.
         number = ends.number ∙ number;
         lives = record { alive = ends.lives.alive ∙ lives.alive; died = ends.lives.died ∙ lives.died; longest = ends.lives.longest ∙ lives.longest };
         call = ends.call ∙ ap (λ o. call_after o reply) call;
-        rooms = subst (λ (k : Node). KeepsRooms d.node k) (sym ends.node) rooms;
+        rooms = subst (λ (k : NodeView). KeepsRooms d.node k) (sym ends.node) rooms;
       }
 
       own_number : z.number ≡ n
@@ -175,7 +173,7 @@ module _ (w : WireData) (n i : ℕ) (m d : WireNode) (first : position (λ x. x.
       by_reply : (o : Option NodeReply) → finished_by z.number z z.node.seat.words (length events) o ≡ finished_by n d y.node.seat.words (length events) o
       by_reply None = refl
       by_reply (Some a) =
-          four (λ k c l (x : Node). finished_by k (record d { call = c; longest = l }) x.seat.words (length events) (Some a)) own_number call lives.longest (sym ends.node)
+          four (λ k c l (x : NodeView). finished_by k (record d { call = c; longest = l }) x.seat.words (length events) (Some a)) own_number call lives.longest (sym ends.node)
         where
           four : {A B C D E : Type 0} (f : A → B → C → D → E) {a a' : A} {b b' : B} {c c' : C} {e e' : D} → a ≡ a' → b ≡ b' → c ≡ c' → e ≡ e' → f a b c e ≡ f a' b' c' e'
           four f p q r s = λ i. f (p i) (q i) (r i) (s i)
@@ -187,9 +185,7 @@ module _ (w : WireData) (n i : ℕ) (m d : WireNode) (first : position (λ x. x.
       shown_now = shown_after w n i d first read y reply words event replies events room shown goes made is_after said noted
 
       pub woven : (p : Setting) (r : Run) → Shows p w r
-          → MakesOneAccess p w n Now
-          × (bs : List Beat) × (after : Run) × IsStepOf n bs × GoesOnWith r bs after
-          × (answers_in bs ≡ answer_of n Now.nodes (progress_of reply)) × Shows p Now after
+          → MakesOneAccess p w n Now × GoesOnByStep p r n (answer_of n Now.nodes (progress_of reply)) Now
       woven p r shows = stepped w n i d first read p r y reply words event replies events room shows goes (made p (may_d p r shows)) is_after said noted
 
 -- ---- what is replied

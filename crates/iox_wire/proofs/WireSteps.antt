@@ -5,8 +5,8 @@ use Rattle.iox_wire_weaves.specs.Nodes.{seat_in}
 use Rattle.std.specs.Option.{option_map_or}
 use Rattle.std.proofs.Common.{◌≡◌, ℕ, ◌==◌, true, false, List, ◌++◌, length, get_or, Option, Some, None, refl, ap, ap₂, sym, subst, ◌∙◌, slice_set}
 use Rattle.iox_model.specs.Maps.{or_else, refused_if}
-use Rattle.iox_model.specs.Schedules.{Finished, IsStepOf}
-use Rattle.iox_model.specs.Weaves.{Beat, Dies}
+use Rattle.iox_model.specs.Schedules.{Finished}
+use Rattle.iox_model.specs.Weaves.{Dies}
 use Rattle.iox_steps.specs.declared.access.Access.{Access}
 use Rattle.iox_steps.specs.Accesses.{IsWithin, seen_at, words_after}
 use Rattle.iox_wire_weaves.specs.Programs.{program_access}
@@ -15,7 +15,6 @@ use Rattle.iox_wire_weaves.specs.Locals.{program_of}
 use Rattle.iox_wire_weaves.specs.Tables.{Setting}
 use Rattle.iox_wire_weaves.specs.NodeReply.{NodeReply}
 use Rattle.iox_wire_weaves.specs.Runs.{GoesOnBy, Run}
-use Rattle.iox_wire_weaves.specs.WholeSteps.{GoesOnWith}
 use Rattle.iox_wire_weaves.specs.declared.refusal.WireRefusal.{WireRefusal}
 use Rattle.iox_wire_weaves.specs.declared.refusal.WireRefusal.TheVariants.{NodeIsDead}
 use Rattle.iox_wire_weaves.specs.Laws.{LivesAs, Replaces, WentOn, progress_of}
@@ -23,8 +22,8 @@ use Rattle.iox_model.specs.declared.event.Event.{Event}
 use Rattle.iox_wire_weaves.specs.SlotEvents.{slot_event}
 use Rattle.iox_steps.specs.declared.access.Progress.{Progress}
 use Rattle.iox_steps.specs.declared.access.Progress.TheVariants.{Done, Going}
-use Rattle.iox_wire_weaves.specs.Steps.{IsOwnAnswer, MakesItsAccess, MakesOneAccess, StepIsWoven, access_of, answer_of, call_after, finished_by, recorded, rest_refusal, step_refusal}
-use Rattle.iox_wire_weaves.specs.Wires.{Shows, WireData, WireNode, answers_in, living_refusal, node_at}
+use Rattle.iox_wire_weaves.specs.Steps.{GoesOnByStep, IsOwnAnswer, MakesItsAccess, MakesOneAccess, StepIsWoven, access_of, answer_of, call_after, finished_by, recorded, rest_refusal, step_refusal}
+use Rattle.iox_wire_weaves.specs.Wires.{Shows, WireData, WireNode, living_refusal, node_at}
 use Rattle.iox_wire_weaves.proofs.DeathsShown.{deaths_show}
 use Rattle.iox_wire_weaves.proofs.Lookups.{living_by, seat_there, steps_on}
 use Rattle.iox_wire_weaves.proofs.StepsShown.{steps_show}
@@ -118,9 +117,7 @@ module _ (w : WireData) (n i : ℕ) (d : WireNode) (at : position (λ x. x.numbe
       → Shows p w r → step_refusal w n ≡ None → Made p reply words event y → IsAfter reply y
       → replies ≡ w.replies ++ finished_by n d y.node.seat.words (length events) reply → events ≡ w.events ++ recorded w.plan w.nodes n event
       → let new : WireData = record { plan = w.plan; terms = w.terms; words = words; nodes = slice_set w.nodes i y; replies = replies; events = events; room = room } in
-      MakesOneAccess p w n new
-      × (bs : List Beat) × (after : Run) × IsStepOf n bs × GoesOnWith r bs after
-      × (answers_in bs ≡ answer_of n new.nodes (progress_of reply)) × Shows p new after
+      MakesOneAccess p w n new × GoesOnByStep p r n (answer_of n new.nodes (progress_of reply)) new
   stepped p r y reply words event replies events room shows goes made is told noted =
       steps_show p w (record { plan = w.plan; terms = w.terms; words = words; nodes = slice_set w.nodes i y; replies = replies; events = events; room = room }) r n d y reply shows goes
       (replaced n w.nodes i d y at read is.number) is.lives
@@ -140,7 +137,7 @@ module _ (w : WireData) (n i : ℕ) (d : WireNode) (at : position (λ x. x.numbe
       let s = stepped p r y reply words event replies events room shows goes made is told noted in
       let rests = steps_on w n d there goes in
       record {
-        shows = (p, s.2, s.6);
+        shows = (p, s.1.after, s.1.shows);
         whole = shown.whole;
         numbers = shown.numbers;
         kept = kept_still w.nodes n d y (slice_set w.nodes i y) (replaced n w.nodes i d y at read is.number) shown.kept

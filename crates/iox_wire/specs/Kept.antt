@@ -8,7 +8,7 @@ use Rattle.iox_wire_weaves.specs.Tables.{Setting}
 use Rattle.iox_wire_weaves.specs.CallAt.TheVariants.{Seats}
 use Rattle.iox_wire_weaves.specs.NodeReply.{NodeReply}
 use Rattle.iox_wire_weaves.specs.Aims.{IsAimed, KnowsItsPlace, MayAdd, MayGoOn}
-use Rattle.iox_wire_weaves.specs.Nodes.{Node, answered_at, seat_in}
+use Rattle.iox_wire_weaves.specs.Nodes.{NodeView, answered_at, seat_in}
 use Rattle.iox_wire_openings.specs.OpenedNodes.{planned_seat}
 use Rattle.iox_wire.specs.Replies.{FinishedCalls}
 use Rattle.iox_wire_weaves.specs.ReadWords.{TellsNoWords}
@@ -29,7 +29,7 @@ use Rattle.iox_wire_weaves.specs.Wires.{IsSameSetting, Shows, WireData, WireNode
 -- ---- a wire
 
 -- What a node keeps to.
-pub record IsKept (x : Node) : Type 0 where
+pub record IsKept (x : NodeView) : Type 0 where
   -- it made no more accesses than it may
   pub few : (seat_in x).accesses ≤ most_accesses
   -- it has one desk for a port, and one count for a way
@@ -109,32 +109,32 @@ AreOpened plan handles (n ∷ ns) (x ∷ xs) =
 AreOpened plan handles ns xs = ⊥
 
 -- so many handles each node has room for
-abbrev pub HaveRoomFor : ℕ → List WireNode → Type 0
-HaveRoomFor handles nodes =
+abbrev pub NodesHaveRoom : ℕ → List WireNode → Type 0
+NodesHaveRoom handles nodes =
     (n : ℕ) (x : WireNode) → node_at n nodes ≡ Some x → x.node.seat.room ≡ handles
 
 -- ---- an access
 
 -- the access that a node makes next
-abbrev pub access_in : Setting → Node → Access
+abbrev pub access_in : Setting → NodeView → Access
 access_in p x = program_access p.layout (program_of p (seat_in x).local)
 
 -- The node may make its access: it knows where, that is among the words, and it may go on with what
 -- it finds there, its place being one of its own loan if it sends.
-pub record MayAccess (p : Setting) (x : Node) (words : List ℕ) : Type 0 where
+pub record MayAccess (p : Setting) (x : NodeView) (words : List ℕ) : Type 0 where
   pub aimed : IsAimed p x
   pub within : IsWithin 0 (length words) (access_in p x)
   pub goes_on : KnowsItsPlace x.at x → MayGoOn x.at x (seen_at (access_in p x) words)
 
 -- It went on with what its access found: its call, and no other, answers this if it is over, and there
 -- is room for what it adds if not.
-pub record HasGoneOn (p : Setting) (x : Node) (words : List ℕ) (reply : Option NodeReply) (y : Node)
+pub record HasGoneOn (p : Setting) (x : NodeView) (words : List ℕ) (reply : Option NodeReply) (y : NodeView)
     : Type 0 where
   pub went : WentOn p x (seen_at (access_in p x) words) reply y
   pub own : IfSome reply (λ r. answered_at r ≡ x.at)
   pub ready : reply ≡ None → MayAdd x.at x → MayAdd y.at y
 
 -- its access found this in words where it may make it
-abbrev pub FoundThere : Setting → Node → ℕ → Type 0
+abbrev pub FoundThere : Setting → NodeView → ℕ → Type 0
 FoundThere p x seen =
     (words : List ℕ) × MayAccess p x words × (seen ≡ seen_at (access_in p x) words)

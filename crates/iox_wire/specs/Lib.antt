@@ -6,5 +6,7 @@ pub mod Kept
 pub mod Begun
 -- and what a schedule leads to
 pub mod Schedules
+-- why no wire is made
+pub mod NewRefusals
 -- what the crates above cite of those below
 pub use Rattle.iox_wire_weaves.specs.Wires

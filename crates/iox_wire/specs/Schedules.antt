@@ -64,19 +64,19 @@ AreEntered old (e ∷ es) new = (mid : WireData) × IsEntered old e mid × AreEn
 
 -- The beats to which the entry may lead at a world, as the machine's own entry may (`IsEntry`). A call
 -- of a wire says itself whose payload its words are: what has no such payload refuses it.
-abbrev pub LeadsTo : World → WireEntry → List Beat → Type 0
-LeadsTo w (Begin node call) bs =
+abbrev pub EntryLeadsTo : World → WireEntry → List Beat → Type 0
+EntryLeadsTo w (Begin node call) bs =
     IsBeginOf (begin_refusal w node (Port (call_said w.state.fixed node call)))
     node (said_on_wire w.state.fixed node (words_call call)) bs
-LeadsTo w (Step node) bs = IsStepOf node bs
-LeadsTo w (Die node) bs = IsDeathOf (not_living w.state node) node bs
+EntryLeadsTo w (Step node) bs = IsStepOf node bs
+EntryLeadsTo w (Die node) bs = IsDeathOf (not_living w.state node) node bs
 
 -- the entries, from one world, may make these beats, which lead to the other world
 abbrev pub IsWeaveBy : World → List WireEntry → List Beat → World → Type 0
 IsWeaveBy w [] bs w' = (bs ≡ []) × (w' ≡ w)
 IsWeaveBy w (e ∷ es) bs w' =
     (now later : List Beat) × (mid : World) × (bs ≡ now ++ later)
-    × LeadsTo w e now × IsWeave w now mid × IsWeaveBy mid es later w'
+    × EntryLeadsTo w e now × IsWeave w now mid × IsWeaveBy mid es later w'
 
 -- Each run that the wire showed goes on by beats to which these entries may lead, and the wire
 -- shows that run.
@@ -89,7 +89,7 @@ IsWovenBy old entries new =
 -- ---- schedules
 
 -- The entries are played: one after another on the wire, and on each run that it showed.
-pub record IsPlayed (old : WireData) (entries : List WireEntry) (new : WireData) : Type 0 where
+pub record EntriesArePlayed (old : WireData) (entries : List WireEntry) (new : WireData) : Type 0 where
   pub each : AreEntered old entries new
   pub woven : IsWovenBy old entries new
 
@@ -104,5 +104,5 @@ WantsMemory old (Die node) new = ⊥
 -- The entries are played up to one that finds no memory. Each of them took room for one step at most.
 abbrev pub IsStopped : WireData → List WireEntry → WireData → Type 0
 IsStopped old entries new =
-    (count : ℕ) × (last : WireData) × IsPlayed old (take count entries) last
+    (count : ℕ) × (last : WireData) × EntriesArePlayed old (take count entries) last
     × (old.room ≤ last.room + count) × IsSomeAnd (slice_get entries count) (λ entry. WantsMemory last entry new)

@@ -9,6 +9,7 @@ mod events;
 mod finding;
 mod finished;
 mod member;
+mod new_error;
 mod opening;
 mod reading;
 mod schedule;
@@ -29,8 +30,8 @@ pub use iox_wire_locals::CallRefusal;
 pub use iox_wire_weaves::{
     CopyReply, HandleCall, LendReply, NodeCall, NodePayload, NodeReply, PlanPort, ReceiveReply,
     RequestReply, RespondReply, ResponseCopyReply, SeatReply, WirePlan, WireRefusal, WireTerms,
-    WordMapNewError,
 };
-pub use opening::is_whole;
+pub use new_error::WireNewError;
+pub use opening::{have_layouts, is_whole, new_refusal};
 pub use told::{ToldCall, ToldReply};
 pub use wire::Wire;

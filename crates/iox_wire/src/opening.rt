@@ -1,4 +1,5 @@
-//! Whether a wire may open with a plan and its terms, and the nodes of a wire as it opens.
+//! Whether a wire may open with a plan and its terms, why none is made, and the nodes of a wire as
+//! it opens.
 ghost use Rattle.std.specs.Prelude.{◌≡◌, ◌↔◌, ◌*◌, ◌<◌, ℕ, IfOk, IsSomeAnd, IsTrue, length};
 ghost use Rattle.std.specs.Prelude.{slice_get, true};
 ghost use Rattle.iox_model.specs.Maps.{AreDistinct};
@@ -10,12 +11,20 @@ ghost use Rattle.iox_wire_weaves.specs.Replies.{most_words};
 ghost use Rattle.iox_wire_weaves.specs.Terms.{IsWholePort, messages_of};
 ghost use Rattle.iox_wire_weaves.specs.Wires.{AreWhole};
 ghost use Rattle.iox_wire.specs.Kept.{AreOpened, IsOpenedNode};
+ghost use Rattle.iox_wire.specs.NewRefusals.{HasLayout, HaveLayouts, new_refusal};
 
 use crate::member::Member;
+use crate::new_error::WireNewError;
 use iox_model::kind::Role;
 use iox_wire_openings::open_node;
 use iox_wire_weaves::{StoredNode, WirePlan, WireTerms};
 use std::alloc::{AllocError, Global};
+
+/// No list has as many words, and a number counts fewer of them twice.
+const MOST_WORDS: usize = 1 << 63;
+
+/// From this number on a node might have no number left for a handle that it makes.
+const MOST_NUMBERS: u64 = 1 << 63;
 
 /// How many words the longest message takes in a slot of the plan's ports.
 pub(crate) fn longest_message(plan: &WirePlan) -> usize
@@ -149,11 +158,55 @@ fn overflows_with_room(plan: &WirePlan) -> bool
 }
 
 /// Whether the terms fit the plan, each port has a slot, and each queue that overflows has room for a
-/// message. With `is_plan` that is all that can be tested of what `Wire::new` asks: that a wire of
-/// both may `open` follows from the service that they were made of, and is for those to say who have
-/// it.
+/// message. With `is_plan` that is all that can be tested of what `Wire::new` asks, but that messages
+/// have layouts (`have_layouts`): that a wire of both may `open` follows from the service that they
+/// were made of, and is for those to say who have it.
 pub fn is_whole(plan: &WirePlan, terms: &WireTerms) -> bool
     ensures { IsTrue result ↔ AreWhole plan.now terms.now }
 {
     overflows_with_room(plan) && are_ports_whole(plan, terms) && are_user_headers_told(plan, terms)
+}
+
+/// Whether the longest message of the port at that place has a layout.
+fn has_layout(plan: &WirePlan, place: usize) -> bool
+    ensures { IsTrue result ↔ HasLayout plan.now place }
+{
+    match plan.ports.get(place) {
+        Some(port) => {
+            let details = plan.details(port.role);
+            details.sample_layout(port.longest).is_some()
+        }
+        None => false,
+    }
+}
+
+/// Whether the longest message of each port has a layout: its bytes are fewer than 2^63. No service
+/// has other ports, so a wire opens with no other plan.
+pub fn have_layouts(plan: &WirePlan) -> bool
+    ensures { IsTrue result ↔ HaveLayouts plan.now }
+{
+    for place in 0..plan.ports.len() {
+        if !has_layout(plan, place) {
+            return false;
+        }
+    }
+    true
+}
+
+/// Why no wire is made of the plan and the terms, whatever memory there is. The first that applies is
+/// told: too many words, and then that numbers are spent.
+pub fn new_refusal(plan: &WirePlan, terms: &WireTerms) -> Option<WireNewError>
+    requires { AreDistinct (port_numbers plan.now) }
+    ensures { result ≡ new_refusal plan.now terms.now }
+{
+    let Some(total) = plan.total_words() else {
+        return Some(WireNewError::TooManyWords);
+    };
+    if total >= MOST_WORDS {
+        return Some(WireNewError::TooManyWords);
+    }
+    if terms.first_number >= MOST_NUMBERS {
+        return Some(WireNewError::NumbersSpent);
+    }
+    None
 }

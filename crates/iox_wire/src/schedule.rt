@@ -8,7 +8,7 @@ ghost use Rattle.iox_wire_weaves.specs.Wires.{machine_refusal, refusal_in};
 ghost use Rattle.iox_wire_weaves.specs.declared.refusal.WireRefusal.TheVariants.{WantOfMemory};
 ghost use Rattle.iox_wire.specs.Begun.{LacksRoom};
 ghost use Rattle.iox_wire.specs.Schedules.{IsAsked, IsDeclaredDead, IsEntered, IsStepped};
-ghost use Rattle.iox_wire.specs.Schedules.{IsPlayed, IsStopped, IsWovenBy, WantsMemory};
+ghost use Rattle.iox_wire.specs.Schedules.{EntriesArePlayed, IsStopped, IsWovenBy, WantsMemory};
 
 use crate::entry::WireEntry;
 use crate::wire::Wire;
@@ -109,7 +109,7 @@ impl Wire {
     /// change nothing. No step finds none for which there was room before.
     pub fn run(&mut self, schedule: &[WireEntry<'_>]) -> Result<(), WireRefusal>
         ensures weave { (count : ℕ) × IsWovenBy self.old (take count schedule.now) self.new }
-        ensures whole { OnOk result (IsPlayed self.old schedule.now self.new) }
+        ensures whole { OnOk result (EntriesArePlayed self.old schedule.now self.new) }
         ensures stopped { OnErr result (IsStopped self.old schedule.now self.new) }
         ensures room { self.old.room ≤ self.new.room + length schedule.now }
         ensures refused { IfErr result (λ error. error ≡ WantOfMemory) }

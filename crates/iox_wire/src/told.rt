@@ -128,7 +128,6 @@ fn of_request_copy<'a>(reply: CopyReply) -> ToldReply<'a>
 {
     match reply {
         CopyReply::Handle(number) => ToldReply::Handle(number),
-        CopyReply::Sent(count) => ToldReply::Sent(count),
         CopyReply::Refused(refusal) => ToldReply::Refused(refusal),
     }
 }
@@ -139,7 +138,6 @@ fn of_response_copy<'a>(reply: ResponseCopyReply) -> ToldReply<'a>
 {
     match reply {
         ResponseCopyReply::Done => ToldReply::Done,
-        ResponseCopyReply::Handle(number) => ToldReply::Handle(number),
         ResponseCopyReply::Refused(refusal) => ToldReply::Refused(refusal),
     }
 }

@@ -4,18 +4,21 @@ ghost use Rattle.std.specs.Prelude.{None, OnErr, OnOk, Some, map, option_map, sl
 ghost use Rattle.iox_wire_weaves.specs.Asking.{BeginIsWoven, BeginsItsCall, IsBeginRefusal};
 ghost use Rattle.iox_wire_weaves.specs.HandleCall.TheVariants.{Release};
 ghost use Rattle.iox_wire_weaves.specs.NodeCall.TheVariants as calls;
-ghost use Rattle.iox_wire.specs.Schedules.{IsPlayed, IsStepped};
+ghost use Rattle.iox_wire.specs.Schedules.{EntriesArePlayed, IsStepped};
 ghost use Rattle.iox_wire.specs.declared.entry.WireEntry.TheVariants.{Begin, Step};
 ghost use Rattle.std.specs.Bool.{OnTrue};
 ghost use Rattle.iox_model.specs.States.{State};
-ghost use Rattle.iox_wire_weaves.specs.WordMapNewError.TheVariants.{WantOfMemory};
 ghost use Rattle.iox_wire_weaves.specs.Plans.{IsPlan};
-ghost use Rattle.iox_wire_weaves.specs.Refusals.{map_refusal};
+ghost use Rattle.iox_word_map.specs.WordMaps.{total_words};
+ghost use Rattle.iox_wire_weaves.specs.Plans.{sizes_of};
+ghost use Rattle.iox_wire.specs.NewRefusals.{new_refusal};
+ghost use Rattle.iox_wire.specs.declared.new_error.WireNewError.TheVariants as new_errors;
 ghost use Rattle.iox_wire_weaves.specs.Tables.{Setting};
 ghost use Rattle.iox_wire_weaves.specs.declared.refusal.WireRefusal.TheVariants as refusals;
 ghost use Rattle.iox_wire_weaves.specs.Steps.{DeathIsWoven, MakesOneAccess, StepIsWoven};
+ghost use Rattle.iox_wire_weaves.specs.SettingsStay.{SettingStays};
 ghost use Rattle.iox_wire_weaves.specs.Steps.{step_refusal};
-ghost use Rattle.iox_wire_weaves.specs.Wires.{AreWhole, OpensOn, Shows, ShowsOpened, WireData};
+ghost use Rattle.iox_wire_weaves.specs.Wires.{AreWhole, WireOpensOn, Shows, ShowsOpened, WireData};
 ghost use Rattle.iox_wire_weaves.specs.Wires.{WireNode, living_refusal, node_at};
 ghost use Rattle.iox_wire_weaves.specs.Begins.{is_busy};
 ghost use Rattle.iox_wire_weaves.specs.Nodes.{seat_in};
@@ -29,30 +32,76 @@ ghost use Rattle.iox_wire.specs.Replies.{finished_of};
 
 use crate::entry::WireEntry;
 use crate::finished::FinishedCall;
+use crate::new_error::WireNewError;
+use crate::opening::have_layouts;
 use crate::told::{ToldCall, ToldReply};
 use crate::wire::Wire;
 use iox_steps::Progress;
 use iox_wire_weaves::{
-    HandleCall, NodeCall, NodePayload, NodeReply, WirePlan, WireRefusal, WireTerms, WordMapNewError,
+    HandleCall, NodeCall, NodePayload, NodeReply, WirePlan, WireRefusal, WireTerms,
 };
 use std::alloc::Global;
 
-/// A wire for these nodes whose plan is not too large wants nothing but memory.
+/// A wire for these nodes that is not too large, and has numbers left, wants nothing but memory.
 pub fn wire_that_fits(
     alloc: Global,
     plan: WirePlan,
     terms: WireTerms,
     nodes: &[u64],
-) -> Result<Wire, WordMapNewError>
+) -> Result<Wire, WireNewError>
     requires plan { IsPlan plan }
     requires whole { AreWhole plan terms }
-    requires fits { map_refusal plan ≡ None }
-    requires opens { (p : Setting) × (s : State) × OpensOn plan terms nodes.now p s }
-    ensures opened { (p : Setting) → (s : State) → OpensOn plan terms nodes.now p s
+    requires fits { new_refusal plan terms ≡ None }
+    requires opens { (p : Setting) × (s : State) × WireOpensOn plan terms nodes.now p s }
+    ensures opened { (p : Setting) → (s : State) → WireOpensOn plan terms nodes.now p s
         → IfOk result (ShowsOpened p s) }
-    ensures refused { IfErr result (λ error. error ≡ WantOfMemory) }
+    ensures refused { IfErr result (λ error. error ≡ new_errors.WantOfMemory) }
 {
     Wire::new(alloc, plan, terms, nodes, 0)
+}
+
+/// One of 2^63 words is refused by name, whatever memory there is.
+pub fn wire_of_too_many_words(
+    alloc: Global,
+    plan: WirePlan,
+    terms: WireTerms,
+    nodes: &[u64],
+) -> Result<Wire, WireNewError>
+    requires plan { IsPlan plan }
+    requires whole { AreWhole plan terms }
+    requires opens { (p : Setting) × (s : State) × WireOpensOn plan terms nodes.now p s }
+    requires many { total_words (sizes_of plan) ≡ 2 ^ 63 }
+    ensures refused { IfErr result (λ error. error ≡ new_errors.TooManyWords) }
+    ensures always { OnOk result ⊥ }
+{
+    Wire::new(alloc, plan, terms, nodes, 0)
+}
+
+/// So is one that would number its first handles 2^63.
+pub fn wire_without_numbers(
+    alloc: Global,
+    plan: WirePlan,
+    terms: WireTerms,
+    nodes: &[u64],
+) -> Result<Wire, WireNewError>
+    requires plan { IsPlan plan }
+    requires whole { AreWhole plan terms }
+    requires opens { (p : Setting) × (s : State) × WireOpensOn plan terms nodes.now p s }
+    requires few { total_words (sizes_of plan) ≡ 165 }
+    requires spent { terms.first_number ≡ 2 ^ 63 }
+    ensures refused { IfErr result (λ error. error ≡ new_errors.NumbersSpent) }
+    ensures always { OnOk result ⊥ }
+{
+    Wire::new(alloc, plan, terms, nodes, 0)
+}
+
+/// Where a wire may open with a plan, each message has a layout.
+pub fn messages_have_layouts(plan: &WirePlan, terms: &WireTerms, nodes: &[u64]) -> bool
+    requires plan { IsPlan plan.now }
+    requires opens { (p : Setting) × (s : State) × WireOpensOn plan.now terms.now nodes.now p s }
+    ensures { IsTrue result }
+{
+    have_layouts(plan)
 }
 
 /// A living node dies: no refusal is left, and what the wire showed goes on by that.
@@ -101,6 +150,18 @@ pub fn node_steps(wire: &mut Wire, node: u64) -> Result<Progress<NodeReply>, Wir
     wire.step(node)
 }
 
+/// The setting of each run that was shown stays: who joined and who lives, the ports, the limits,
+/// and whom the other nodes forgot.
+pub fn node_steps_in_its_setting(
+    wire: &mut Wire,
+    node: u64,
+) -> Result<Progress<NodeReply>, WireRefusal>
+    ensures { (p : Setting) → (r : Run) → Shows p wire.old r → OnOk result ((after : Run)
+        × SettingStays node r.last after.last × Shows p wire.new after) }
+{
+    wire.step(node)
+}
+
 /// Where there is room for what it records, it wants no memory.
 pub fn node_steps_in_room(wire: &mut Wire, node: u64) -> Result<Progress<NodeReply>, WireRefusal>
     requires goes { step_refusal wire.old node ≡ None }
@@ -113,7 +174,7 @@ pub fn node_steps_in_room(wire: &mut Wire, node: u64) -> Result<Progress<NodeRep
 
 /// A node begins to look for requests, and makes three steps: a run of the machine goes on so.
 pub fn node_looks(wire: &mut Wire, node: u64, number: u64) -> Result<(), WireRefusal>
-    ensures woven { OnOk result (IsPlayed wire.old
+    ensures woven { OnOk result (EntriesArePlayed wire.old
         (Begin node (calls.HasRequests number) ∷ Step node ∷ Step node ∷ Step node ∷ [])
         wire.new) }
     ensures refused { IfErr result (λ error. error ≡ refusals.WantOfMemory) }
@@ -179,7 +240,7 @@ pub fn client_asks(
 
 /// A server begins to receive, and makes two steps: a run of the machine goes on so.
 pub fn server_receives(wire: &mut Wire, node: u64, number: u64) -> Result<(), WireRefusal>
-    ensures woven { OnOk result (IsPlayed wire.old
+    ensures woven { OnOk result (EntriesArePlayed wire.old
         (Begin node (calls.Receive number) ∷ Step node ∷ Step node ∷ []) wire.new) }
 {
     wire.run(&[

@@ -1,23 +1,15 @@
 //! A wire: the words that nodes share, and the nodes.
 ghost use Rattle.std.specs.Prelude.{◌≡◌, IfOk, replicate};
-ghost use Rattle.iox_wire_weaves.specs.WordMapNewError.TheVariants as new_error;
 
 use crate::events::{WireEvent, note};
 use crate::finished::Replies;
 use crate::member::Member;
-use crate::opening::{longest_message, open_members};
+use crate::new_error::WireNewError;
+use crate::opening::{longest_message, new_refusal, open_members};
 use iox_steps::Progress;
-use iox_wire_weaves::{
-    Lists, NodeReply, WirePlan, WireRefusal, WireTerms, WordMap, WordMapNewError,
-};
+use iox_wire_weaves::{Lists, NodeReply, WirePlan, WireRefusal, WireTerms, WordMap};
 use std::alloc::{AllocError, Global};
 use std::marker::Model;
-
-/// As many words are more than any memory has.
-const MOST_WORDS: usize = 1 << 63;
-
-/// As many handles have no numbers.
-const MOST_NUMBERS: u64 = 1 << 63;
 
 /// A wire. Its nodes make one access of its words at a time, in any order, and each may die
 /// anywhere in its call.
@@ -37,7 +29,7 @@ pub struct Wire {
 
 impl Model for Wire {
     ghost use Rattle.std.specs.Prelude.{map, vec_capacity, vec_len};
-    ghost use Rattle.iox_wire_weaves.specs.ListRooms.{HasRoomFor};
+    ghost use Rattle.iox_wire_weaves.specs.ListRooms.{ListsHaveRoom};
     ghost use Rattle.iox_wire_weaves.specs.Wires.{WireData};
     ghost use Rattle.iox_wire.specs.Kept.{HasRoomToRecord, IsShown};
 
@@ -53,7 +45,7 @@ impl Model for Wire {
       room = w.room;
     } };
 
-    ghost invariant = { λ w. HasRoomFor w.places w.lists × IsShown (record {
+    ghost invariant = { λ w. ListsHaveRoom w.places w.lists × IsShown (record {
       plan = w.places;
       terms = w.terms;
       words = w.words.items;
@@ -69,49 +61,49 @@ impl Wire {
     ghost use Rattle.std.specs.Prelude.{OnOk, Some, length, max, position, ◌==◌, map};
     ghost use Rattle.iox_model.specs.States.{State};
     ghost use Rattle.iox_sets.specs.Refusals.{IsRefusal};
-    ghost use Rattle.iox_wire_weaves.specs.Laws.{IsFresh};
+    ghost use Rattle.iox_wire_weaves.specs.Laws.{IsNewWire};
     ghost use Rattle.iox_wire_weaves.specs.Plans.{IsPlan};
-    ghost use Rattle.iox_wire_weaves.specs.Refusals.{map_refusal};
     ghost use Rattle.iox_wire_weaves.specs.Tables.{Setting};
     ghost use Rattle.iox_wire_weaves.specs.declared.refusal.WireRefusal.TheVariants.{WantOfMemory};
     ghost use Rattle.iox_wire_weaves.specs.Steps.{DeathIsWoven, MakesItsAccess, StepIsWoven};
     ghost use Rattle.iox_wire_weaves.specs.Steps.{IsOwnAnswer, KeepsRead, step_refusal};
-    ghost use Rattle.iox_wire_weaves.specs.Wires.{AreWhole, OpensOn, ShowsOpened, living_refusal};
-    ghost use Rattle.iox_wire.specs.Kept.{HaveRoomFor, Loses};
+    ghost use Rattle.iox_wire_weaves.specs.Wires.{AreWhole, WireOpensOn, ShowsOpened, living_refusal};
+    ghost use Rattle.iox_wire.specs.Kept.{NodesHaveRoom, Loses};
+    ghost use Rattle.iox_wire.specs.NewRefusals.{new_refusal};
+    ghost use Rattle.iox_wire.specs.declared.new_error.WireNewError.TheVariants as new_errors;
 
     /// A wire of that plan, with these nodes alive, on which nothing happened yet. Each node has
     /// room for so many handles. The plan and the terms are to be those of a service on which a
-    /// wire may open.
+    /// wire may open. Want of memory is told only where `new_refusal` tells nothing.
     pub fn new(
         alloc: Global,
         plan: WirePlan,
         terms: WireTerms,
         nodes: &[u64],
         handles: usize,
-    ) -> Result<Wire, WordMapNewError>
+    ) -> Result<Wire, WireNewError>
         requires plan { IsPlan plan }
         requires whole { AreWhole plan terms }
-        requires opens { (p : Setting) × (s : State) × OpensOn plan terms nodes.now p s }
-        ensures opened { (p : Setting) → (s : State) → OpensOn plan terms nodes.now p s
+        requires opens { (p : Setting) × (s : State) × WireOpensOn plan terms nodes.now p s }
+        ensures opened { (p : Setting) → (s : State) → WireOpensOn plan terms nodes.now p s
             → IfOk result (ShowsOpened p s) }
-        ensures fresh { (p : Setting) → (s : State) → OpensOn plan terms nodes.now p s
-            → IfOk result (IsFresh p plan terms nodes.now) }
-        ensures room { IfOk result (λ wire. HaveRoomFor handles wire.nodes) }
-        ensures allowed { OnOk result (map_refusal plan ≡ None) }
-        ensures refused { IfErr result (IsRefusal new_error.WantOfMemory (map_refusal plan)) }
+        ensures fresh { (p : Setting) → (s : State) → WireOpensOn plan terms nodes.now p s
+            → IfOk result (IsNewWire p plan terms nodes.now) }
+        ensures room { IfOk result (λ wire. NodesHaveRoom handles wire.nodes) }
+        ensures allowed { OnOk result (new_refusal plan terms ≡ None) }
+        ensures refused { IfErr result
+            (IsRefusal new_errors.WantOfMemory (new_refusal plan terms)) }
     {
-        let places = WordMap::new(alloc, plan)?;
-        let total = places.total();
-        if total >= MOST_WORDS {
-            return Err(WordMapNewError::WantOfMemory);
+        if let Some(refusal) = new_refusal(&plan, &terms) {
+            return Err(refusal);
         }
-        if terms.first_number >= MOST_NUMBERS {
-            return Err(WordMapNewError::WantOfMemory);
-        }
-        let words = zeros(alloc, total)?;
-        let Some(ways) = places.most_ways() else {
-            return Err(WordMapNewError::WantOfMemory);
+        let Ok(places) = WordMap::new(alloc, plan) else {
+            return Err(WireNewError::WantOfMemory);
         };
+        let Some(ways) = places.most_ways() else {
+            unreachable!();
+        };
+        let words = zeros(alloc, places.total())?;
         let members = open_members(alloc, places.plan(), nodes, handles, ways)?;
         let lists = Lists::new(alloc, &places)?;
         let longest = longest_message(places.plan());

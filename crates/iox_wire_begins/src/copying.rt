@@ -3,7 +3,7 @@ ghost use Rattle.std.specs.Prelude.{ℕ, ◌≡◌, ◌*◌, ◌≤◌, Some, fa
 ghost use Rattle.iox_model.specs.declared.kind.Role.TheVariants.{Client};
 ghost use Rattle.iox_wire_handle_calls.specs.WayIndex.TheVariants.{Responses};
 ghost use Rattle.iox_wire_handle_calls.specs.Plans.{IsPortAt, IsWayAt, most_ways, number_at, way_at};
-ghost use Rattle.iox_wire_begins.specs.ListRooms.{HasRoomFor, HasRoomToCopy};
+ghost use Rattle.iox_wire_begins.specs.ListRooms.{ListsHaveRoom, HasRoomToCopy};
 ghost use Rattle.iox_wire_handle_calls.specs.CopyAims.{HasSameRooms};
 ghost use Rattle.iox_wire_begins.specs.WirePlans.{IsWirePlan};
 ghost use Rattle.iox_wire_handle_calls.specs.Copiers.{MayBeMade};
@@ -83,7 +83,7 @@ pub fn begin_request_copy(
     requires seat { is_busy seat.old.seat.local ≡ false }
     requires client { IsPortAt map.now Client client }
     requires plan { IsWirePlan map.now terms.now }
-    requires lists { HasRoomFor map.now lists.old }
+    requires lists { ListsHaveRoom map.now lists.old }
     requires whole { (k : ℕ) → elements ≡ Some k
         → length words.now ≡ k * element_words map.now client }
     requires rooms { HasRoomToCopy map.now copying.old.lends }
@@ -99,7 +99,7 @@ pub fn begin_request_copy(
     ensures may { (x : Placed) → MayLend x number (number_at map.now client)
         → MayBeMade x copying.new.at copying.new.lends.lending.order copying.new.sends.loan }
     ensures leaves { LeavesSeat seat.old seat.new }
-    ensures lists { HasRoomFor map.now lists.new }
+    ensures lists { ListsHaveRoom map.now lists.new }
     ensures rooms { HasSameRooms copying.old.lends copying.new.lends }
     ensures targets { copying.new.sends.room ≡ copying.old.sends.room }
 {

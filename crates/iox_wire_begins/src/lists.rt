@@ -14,11 +14,11 @@ pub struct Lists {
 
 impl Lists {
     ghost use Rattle.std.specs.Prelude.{◌≡◌, IfOk};
-    ghost use Rattle.iox_wire_begins.specs.ListRooms.{HasRoomFor};
+    ghost use Rattle.iox_wire_begins.specs.ListRooms.{ListsHaveRoom};
 
     /// Lists with room for all that a begin lists on such a wire.
     pub fn new(alloc: Global, map: &WordMap) -> Result<Lists, AllocError>
-        ensures { IfOk result (HasRoomFor map.now) }
+        ensures { IfOk result (ListsHaveRoom map.now) }
     {
         let Some(ways) = map.most_ways() else {
             return Err(AllocError);

@@ -64,7 +64,7 @@ use Rattle.iox_wire_steps.proofs.Readiness.{own_port}
 use Rattle.iox_wire_steps.proofs.Starts.{Starting, Starts, Takes, starts}
 use Rattle.iox_wire_steps.proofs.StepsKept.{shown_same}
 use Rattle.iox_wire_calls.specs.CallsStand.{BeginIsTold, CallStands, CallsMayBegin, CallsStand, moves_words}
-use Rattle.iox_wire_calls.specs.Places.{IsLoan, IsNext, OwnersAreSet, PlaceFits, SuitsPort}
+use Rattle.iox_wire_calls.specs.Places.{IsOfLoan, IsNext, OwnersAreSet, PlaceFits, SuitsPort}
 use Rattle.iox_wire_calls.proofs.EndsKnown.{lanes_fit_at_rest}
 use Rattle.iox_wire_calls.proofs.LanesTell.{port_there}
 use Rattle.iox_wire_calls.proofs.LoanSlots.{none_here, on_lane}
@@ -78,7 +78,7 @@ use Rattle.iox_wire_calls.proofs.PlaceBegins.{begins_fit, by_call}
 use Rattle.iox_wire_calls.proofs.PlaceCourses.{desks_stay, loans_told}
 
 -- a loan was not received
-loan_sent : (kind : Kind) → IsLoan kind → is_received kind ≡ false
+loan_sent : (kind : Kind) → IsOfLoan kind → is_received kind ≡ false
 loan_sent kinds.RequestMut loan = refl
 loan_sent kinds.RequestMutUninit loan = refl
 loan_sent kinds.ResponseMut loan = refl
@@ -102,7 +102,7 @@ still_busy p x local is busy = ap is_busy is ∙ busy
 
 -- what a call starts to send is of its own port
 module _ (p : Setting) (held : Pools) (s : State) (x y : Seat) (node : NodeStands p held s x) (new : Pools) where
-  sent_home : (e : Entry) (copied : Bool) → Starting p x (Sent e copied) → IsLoan e.kind → e.sender ≡ e.port
+  sent_home : (e : Entry) (copied : Bool) → Starting p x (Sent e copied) → IsOfLoan e.kind → e.sender ≡ e.port
   sent_home e true start loan = absurd (true≢false start.0)
   sent_home e false start loan = ((node.names.entries e start.1).own (loan_sent e.kind loan)).1
 

@@ -15,7 +15,7 @@ use Rattle.iox_wire_steps.specs.Tables.{Setting, entry_at, with_entry}
 use Rattle.iox_wire_steps.specs.Aside.{aside, shown_at, with_aside}
 use Rattle.iox_wire_steps.specs.SlotsKnown.{HasEntry, PlaceStands}
 use Rattle.iox_wire_steps.specs.Uses.{how_often}
-use Rattle.iox_wire_steps.specs.Following.{CallMessage, Dropped, Follows, IsReturning, Leaving, LeavesNothing, Lent, NoMessage, Sent, Taken, drops, keeps, lets_go, message_at, picks_slot, puts_aside, sends_loan, takes}
+use Rattle.iox_wire_steps.specs.Following.{CallMessage, Dropped, NodeContinues, IsReturning, Leaving, LeavesNothing, Lent, NoMessage, Sent, Taken, drops, keeps, lets_go, message_at, picks_slot, puts_aside, sends_loan, takes}
 use Rattle.iox_wire_steps.proofs.EndTables.{one_other}
 use Rattle.iox_wire_calls.specs.CallsStand.{CallStands}
 use Rattle.iox_wire_calls.specs.Lanes.{has_own_lane, lanes_in, lent_in}
@@ -84,7 +84,7 @@ module _ (p : Setting) (x : Seat) (seen : ℕ) (e : Entry) where
   not_leaving : (m : CallMessage) → message_at y.local ≡ m → (IsLeaving m → ⊥) → message_at y.local ≡ Leaving e → ⊥
   not_leaving m is never leaves = never (subst IsLeaving (sym leaves ∙ is) tt)
 
-  pub put_aside : Follows p (accessed x) x.local seen (advance p (accessed x) x.local seen) → message_at (advance p (accessed x) x.local seen).local ≡ Leaving e
+  pub put_aside : NodeContinues p (accessed x) x.local seen (advance p (accessed x) x.local seen) → message_at (advance p (accessed x) x.local seen).local ≡ Leaving e
       → LeavesNothing (message_at x.local) → IsReturning x.local e
   put_aside (keeps desks message) leaves nothing = absurd (subst LeavesNothing (sym message ∙ leaves) nothing)
   put_aside (lets_go desks still message may) leaves nothing = absurd (not_leaving NoMessage message (λ no_more. no_more) leaves)

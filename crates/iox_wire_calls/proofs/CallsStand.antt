@@ -20,7 +20,7 @@ use Rattle.iox_wire_steps.specs.Aside.{shown, shown_at}
 use Rattle.iox_wire_steps.specs.Holding.{held_after, held_from}
 use Rattle.iox_wire_steps.proofs.Aside.{shown_nodes_run_the_same}
 use Rattle.iox_wire_steps.proofs.CountsKept.{steps_keep_own}
-use Rattle.iox_wire_steps.specs.Laws.{IsMade}
+use Rattle.iox_wire_steps.specs.Laws.{AccessIsMade}
 use Rattle.iox_wire_steps.specs.Programs.{Program, program_access}
 use Rattle.iox_steps.specs.Accesses.{seen_by}
 use Rattle.iox_wire_steps.specs.Following.{Leaving, LeavesNothing, message_at}
@@ -93,7 +93,7 @@ module _ (p : Setting) (words words' : List ℕ) (players : ℕ → Player) (r :
   module _ (busy : is_busy (players n).seat.local ≡ true) (below : PushesBelow p (word_of words) (seats_of p players n).local)
       (few : (port : ℕ) → loans_at (seats_of p players n) port < 2 ^ 64)
       (words_told : WordsAreTold p stands.held r.last.state (seats_of p players n) (seen_at (seats_of p players n)) (seats_of p players n).local)
-      (made : IsMade (program_access p.layout (program_of p (seats_of p players n).local)) (word_of words) (word_of words')) where
+      (made : AccessIsMade (program_access p.layout (program_of p (seats_of p players n).local)) (word_of words) (word_of words')) where
     fits : CallFits p x
     fits = (calls n living).fits
 
@@ -212,8 +212,8 @@ stepped_calls_stand p words words' players r n payload stands calls living busy 
     let z : Seat = (players n).seat in
     let runs : program_of p q.local ≡ program_of p z.local = shown_nodes_run_the_same p z in
     let same = same_seen p words words' players r n payload stands calls living in
-    let made_too : IsMade (program_access p.layout (program_of p q.local)) (word_of words) (word_of words')
-    = subst (λ g. IsMade (program_access p.layout g) (word_of words) (word_of words')) (sym runs) made in
+    let made_too : AccessIsMade (program_access p.layout (program_of p q.local)) (word_of words) (word_of words')
+    = subst (λ g. AccessIsMade (program_access p.layout g) (word_of words) (word_of words')) (sym runs) made in
     let words_too = subst (λ k. WordsAreTold p stands.held r.last.state q k q.local) (sym same) told in
     let node = calls n living in
     let told_too

@@ -21,7 +21,7 @@ use Rattle.iox_wire_steps.specs.Tables.{Setting, sent_entry}
 use Rattle.iox_wire_steps.specs.Releases.{HasOwnStates}
 use Rattle.iox_wire_steps.specs.SentStates.{HasOpened}
 use Rattle.iox_wire_steps.proofs.SentStates.{sent_requests_have_states}
-use Rattle.iox_wire_calls.specs.Places.{IsLoan, PlaceFits}
+use Rattle.iox_wire_calls.specs.Places.{IsOfLoan, PlaceFits}
 
 module _ (p : Setting) (held : Pools) (s : State) (x : Seat) where
   -- a call is over at its end, or once all was delivered
@@ -37,14 +37,14 @@ module _ (p : Setting) (held : Pools) (s : State) (x : Seat) where
 
   module _ (fits : PlaceFits p x x.local) where
     abbrev Loaned : Ending → Type 0
-    Loaned (endings.Fills e words) = IsLoan e.kind
+    Loaned (endings.Fills e words) = IsOfLoan e.kind
     Loaned ending = Unit {0}
 
     loaned : (ending : Ending) → PlaceFits p x (Ends ending) → Loaned ending
     loaned (endings.Fills e words) is = is
     loaned ending is = tt
 
-    pub written : (e : Entry) (words : List ℕ) → ending_at x.local ≡ Some (endings.Fills e words) → IsLoan e.kind
+    pub written : (e : Entry) (words : List ℕ) → ending_at x.local ≡ Some (endings.Fills e words) → IsOfLoan e.kind
     written e words = at_end Loaned (λ ending at. loaned ending (subst (PlaceFits p x) at fits)) (λ d last count at. tt) (endings.Fills e words)
 
     abbrev Answered : Ending → Type 0

@@ -11,14 +11,14 @@ use Rattle.iox_model.specs.Handles.{filled_kind, is_request_loan, is_response_lo
 use Rattle.iox_model.specs.Loans.{kind_of_loan}
 use Rattle.iox_model.specs.Names.{suits}
 use Rattle.iox_model.specs.Settings.{is_client}
-use Rattle.iox_wire_calls.specs.Places.{IsLoan, is_kind_of}
+use Rattle.iox_wire_calls.specs.Places.{IsOfLoan, is_kind_of}
 
 never : {P : Type 0} → false ≡ true → P
 never is = absurd (true≢false (sym is))
 
 -- ---- handles
 
-pub loan_kind : (role : Role) → IsLoan (kind_of_loan role false)
+pub loan_kind : (role : Role) → IsOfLoan (kind_of_loan role false)
 loan_kind Client = refl
 loan_kind Server = refl
 
@@ -38,7 +38,7 @@ role_received Client = refl
 role_received Server = refl
 
 -- a loan is a filled one
-pub loans_are_filled : (role : Role) (kind : Kind) → is_kind_of role kind ≡ true → IsLoan kind → filled_kind kind ≡ kind
+pub loans_are_filled : (role : Role) (kind : Kind) → is_kind_of role kind ≡ true → IsOfLoan kind → filled_kind kind ≡ kind
 loans_are_filled Client kinds.RequestMut is loan = refl
 loans_are_filled Client kinds.PendingResponse is loan = never loan
 loans_are_filled Client kinds.Response is loan = never loan
@@ -50,12 +50,12 @@ loans_are_filled Server kind is loan = never is
 -- ---- calls
 
 -- what is sent is a loan
-pub sent_is : (n : ℕ) (kind : Kind) → suits true (Send n) kind ≡ true → IsLoan kind
+pub sent_is : (n : ℕ) (kind : Kind) → suits true (Send n) kind ≡ true → IsOfLoan kind
 sent_is n kinds.RequestMut suited = refl
 sent_is n kinds.ResponseMut suited = refl
 sent_is n kind suited = never suited
 
-pub loan_is : (b : Bool) (kind : Kind) → (if b then is_request_loan kind else is_response_loan kind) ≡ true → IsLoan kind
+pub loan_is : (b : Bool) (kind : Kind) → (if b then is_request_loan kind else is_response_loan kind) ≡ true → IsOfLoan kind
 loan_is true kinds.RequestMut is = refl
 loan_is true kinds.RequestMutUninit is = refl
 loan_is true kind is = never is

@@ -36,7 +36,7 @@ use Rattle.iox_wire_steps.specs.Following.{message_at, message_ended}
 use Rattle.iox_wire_steps.specs.Over.{CallIsOver}
 use Rattle.iox_wire_calls.specs.LaneLaws.{EndsKeepLanes}
 use Rattle.iox_wire_calls.specs.Lanes.{lane_count, AllLanesAreCounted, has_own_lane, lanes_in, lent_in}
-use Rattle.iox_wire_calls.specs.Places.{CallFits, IsLoan, PlaceFits}
+use Rattle.iox_wire_calls.specs.Places.{CallFits, IsOfLoan, PlaceFits}
 use Rattle.iox_wire_calls.proofs.LaneDesks.{all_changed, lanes_are, one_changed}
 use Rattle.iox_wire_calls.proofs.EndsTold.{at_end}
 use Rattle.iox_wire_calls.proofs.PlaceCourses.{desks_stay, lanes_told}
@@ -50,7 +50,7 @@ received_lane kinds.ActiveRequest is = refl
 received_lane kinds.Response is = refl
 received_lane kind is = absurd (true≢false (sym is))
 
-response_lane : (kind : Kind) → IsLoan kind → is_request_loan kind ≡ false → has_own_lane kind ≡ false
+response_lane : (kind : Kind) → IsOfLoan kind → is_request_loan kind ≡ false → has_own_lane kind ≡ false
 response_lane kinds.ResponseMut loan is = refl
 response_lane kinds.ResponseMutUninit loan is = refl
 response_lane kinds.RequestMut loan is = absurd (true≢false is)
@@ -205,14 +205,14 @@ module _ (p : Setting) (held : Pools) (s : State) (x : Seat) (fits : CallFits p 
 
   module _ (e : Entry) (count : ℕ) where
     abbrev Loaned : Ending → Type 0
-    Loaned (endings.Sends k copied number) = IsLoan k.kind
+    Loaned (endings.Sends k copied number) = IsOfLoan k.kind
     Loaned ending = Unit {0}
 
     loaned : (ending : Ending) → PlaceFits p x (Ends ending) → Loaned ending
     loaned (endings.Sends k copied number) is = is.0
     loaned ending is = tt
 
-    loan : (copied : Bool) → Over (endings.Sends e copied count) → IsLoan e.kind
+    loan : (copied : Bool) → Over (endings.Sends e copied count) → IsOfLoan e.kind
     loan copied over =
         at_end p held s x Loaned (λ ending at. loaned ending (subst (PlaceFits p x) at fits.place))
         (λ d last number at. (subst (PlaceFits p x) at fits.place).0) (endings.Sends e copied count) over.at_end

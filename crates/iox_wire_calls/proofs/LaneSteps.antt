@@ -38,7 +38,7 @@ use Rattle.iox_wire_steps.specs.SlotsKnown.{IsPortOfSeat}
 use Rattle.iox_wire_steps.proofs.CountsKept.{steps_keep_own}
 use Rattle.iox_wire_steps.specs.Uses.{AllUsesAreCounted, how_often}
 use Rattle.iox_wire_steps.proofs.Counting.{one_out}
-use Rattle.iox_wire_steps.specs.Following.{CallMessage, DeskChange, Delivered, Follows, GotBack, IsLending, IsOfEntry, IsReturning, Leaving, MayLetGo, OfEntry, Taken, TakesOn, Unchanged, changed, desk_change, drops, keeps, lets_go, message_at, picks_slot, puts_aside, sends_loan, takes}
+use Rattle.iox_wire_steps.specs.Following.{CallMessage, DeskChange, Delivered, NodeContinues, GotBack, IsLending, IsOfEntry, IsReturning, Leaving, MayLetGo, OfEntry, Taken, TakesOn, Unchanged, changed, desk_change, drops, keeps, lets_go, message_at, picks_slot, puts_aside, sends_loan, takes}
 use Rattle.iox_wire_steps.proofs.Follows.{accesses_follow}
 use Rattle.iox_wire_calls.specs.LaneLaws.{AccessesKeepLanes, HasLanesForSlots}
 use Rattle.iox_wire_calls.specs.Lanes.{lane_count, AllLanesAreCounted, has_own_lane, lanes_in, lanes_used, lent_in}
@@ -234,7 +234,7 @@ module _ (p : Setting) (x : Seat) (seen : ℕ) (fits : CallFits p x) (uses : All
       → lent_in (message_at (advance p (accessed x) x.local seen).local) ≡ lent_in (message_at x.local) → AllLanesAreCounted p (advance p (accessed x) x.local seen)
   same_desks desks lent = same_lanes p x y own (λ port. ap (lanes_at port) desks) lent all
 
-  by_follows : Follows p (accessed x) x.local seen (advance p (accessed x) x.local seen) → AllLanesAreCounted p (advance p (accessed x) x.local seen)
+  by_follows : NodeContinues p (accessed x) x.local seen (advance p (accessed x) x.local seen) → AllLanesAreCounted p (advance p (accessed x) x.local seen)
   by_follows (keeps desks message) =
       same_lanes p x y own (λ port. ap (lanes_at port) desks ∙ change_leaves (accessed x) (desk_change p x.local seen) port) (ap lent_in message) all
   by_follows (lets_go desks still message may) = same_desks desks (ap lent_in message ∙ sym (let_go (message_at x.local) may))

@@ -33,7 +33,7 @@ use Rattle.iox_wire_steps.specs.Nodes.{NodeStands}
 use Rattle.iox_wire_steps.specs.Stands.{AreNumbered}
 use Rattle.iox_wire_calls.specs.EndsTold.{SendsOpenElsewhere}
 use Rattle.iox_wire_calls.specs.Lanes.{AllLanesAreCounted, has_own_lane, lanes_in, lanes_used, lent_in}
-use Rattle.iox_wire_calls.specs.Places.{CallFits, IsLoan, PlaceFits, SuitsPort, is_kind_of}
+use Rattle.iox_wire_calls.specs.Places.{CallFits, IsOfLoan, PlaceFits, SuitsPort, is_kind_of}
 use Rattle.iox_wire_calls.proofs.LaneCounts.{of_clients}
 use Rattle.iox_wire_calls.proofs.LaneLists.{both, front, less, often, one}
 
@@ -205,7 +205,7 @@ module _ (p : Setting) (held : Pools) (s : State) (x : Seat) (e : Entry) (stands
     by_made false is lent sent = kept sent
 
   -- a response is no client's
-  not_response : (kind : Kind) (role : Role) → is_client role ≡ true → is_kind_of role kind ≡ true → IsLoan kind → is_request_loan kind ≡ true
+  not_response : (kind : Kind) (role : Role) → is_client role ≡ true → is_kind_of role kind ≡ true → IsOfLoan kind → is_request_loan kind ≡ true
   not_response kinds.RequestMut role at is loan = refl
   not_response kinds.RequestMutUninit role at is loan = refl
   not_response kinds.ResponseMut Client at is loan = is

@@ -27,7 +27,7 @@ use Rattle.iox_wire_steps.specs.SlotsKnown.{IsPortOfSeat}
 use Rattle.iox_wire_steps.proofs.CountsKept.{steps_keep_own}
 use Rattle.iox_wire_steps.proofs.OwnPorts.{both}
 use Rattle.iox_laws.proofs.WeaveLaws.MapLemmas.{eqb-refl}
-use Rattle.iox_wire_steps.specs.Following.{CallMessage, DeskChange, Delivered, Dropped, Follows, GotBack, IsOfEntry, IsReturning, Leaving, Lent, MayLetGo, NoMessage, OfEntry, Sent, Taken, TakesOn, Unchanged, changed, desk_change, drops, keeps, lets_go, message_at, picks_slot, puts_aside, sends_loan, takes}
+use Rattle.iox_wire_steps.specs.Following.{CallMessage, DeskChange, Delivered, Dropped, NodeContinues, GotBack, IsOfEntry, IsReturning, Leaving, Lent, MayLetGo, NoMessage, OfEntry, Sent, Taken, TakesOn, Unchanged, changed, desk_change, drops, keeps, lets_go, message_at, picks_slot, puts_aside, sends_loan, takes}
 use Rattle.iox_wire_steps.specs.FollowingLaws.{TakesNext}
 use Rattle.iox_wire_steps.specs.Nodes.{NodeStands}
 use Rattle.iox_wire_steps.proofs.Follows.{accesses_follow}
@@ -115,7 +115,7 @@ module _ (p : Setting) (x : Seat) (seen : ℕ) where
   y = advance p (accessed x) x.local seen
 
   -- an access makes none
-  pub loans_same : (port : ℕ) → Follows p (accessed x) x.local seen (advance p (accessed x) x.local seen)
+  pub loans_same : (port : ℕ) → NodeContinues p (accessed x) x.local seen (advance p (accessed x) x.local seen)
       → loans_at (advance p (accessed x) x.local seen) port ≡ loans_at x port
   loans_same port (keeps desks message) = ap (loans_of port) desks ∙ change_leaves (accessed x) (desk_change p x.local seen) port
   loans_same port (lets_go desks still message may) = ap (loans_of port) desks
@@ -205,7 +205,7 @@ module _ (p : Setting) (x : Seat) (seen : ℕ) (held : Pools) (stands : LoansSta
   stays : (m : CallMessage) → message_at (advance p (accessed x) x.local seen).local ≡ m → NotLent m → held_after p x seen held ≡ held
   stays m is none = held_not p held x.local next_seat.local (stores_not next_seat.local m is none)
 
-  pub by_follows : (s : State) → ReliesOn p (accessed x) s held x.local seen → Follows p (accessed x) x.local seen (advance p (accessed x) x.local seen)
+  pub by_follows : (s : State) → ReliesOn p (accessed x) s held x.local seen → NodeContinues p (accessed x) x.local seen (advance p (accessed x) x.local seen)
       → ((port : ℕ) → loans_at (advance p (accessed x) x.local seen) port ≡ loans_at x port)
       → LoansStand p (held_after p x seen held) (advance p (accessed x) x.local seen)
   by_follows s relies (keeps desks message) loans =

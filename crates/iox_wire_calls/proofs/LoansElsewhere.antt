@@ -33,7 +33,7 @@ use Rattle.iox_wire_steps.specs.Nodes.{LendsAtHome, NodeStands}
 use Rattle.iox_wire_steps.specs.Over.{CallIsOver}
 use Rattle.iox_wire_steps.specs.WholeSteps.{held_closed}
 use Rattle.iox_wire_calls.specs.LoanSlots.{HoldsLoan, HoldsSerial, LoansStand}
-use Rattle.iox_wire_calls.specs.Places.{CallFits, IsLoan, PlaceFits}
+use Rattle.iox_wire_calls.specs.Places.{CallFits, IsOfLoan, PlaceFits}
 use Rattle.iox_wire_calls.proofs.EndsTold.{at_end}
 use Rattle.iox_wire_calls.proofs.LoanSlots.{lent_slots, slots_by_message}
 
@@ -79,7 +79,7 @@ lent_in_pool p held s x node o slot is =
 -- ---- slots of other nodes
 
 -- a loan that was written is no received message
-loan_kept : (kind : Kind) → IsLoan kind → is_received kind ≡ false
+loan_kept : (kind : Kind) → IsOfLoan kind → is_received kind ≡ false
 loan_kept kinds.ActiveRequest is = sym is
 loan_kept kinds.Response is = sym is
 loan_kept kind is = refl
@@ -114,7 +114,7 @@ module _ (p : Setting) (y : Seat) (port : ℕ) (other : IsPortOfSeat p y port �
   module _ (held : Pools) (s : State) (payload : List ℕ) (fits : CallFits p y) where
     abbrev Fit : Ending → Type 0
     Fit (endings.Lends o slot) = IsPortOfSeat p y o.port
-    Fit (endings.Fills e words) = IsLoan e.kind
+    Fit (endings.Fills e words) = IsOfLoan e.kind
     Fit ending = Unit {0}
 
     fit : (ending : Ending) → PlaceFits p y (Ends ending) → Fit ending

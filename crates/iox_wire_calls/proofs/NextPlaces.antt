@@ -34,7 +34,7 @@ use Rattle.iox_wire_steps.specs.Tables.{Setting}
 use Rattle.iox_wire_steps.specs.OwnedCalls.{AsksOn, TellsLane}
 use Rattle.iox_wire_steps.specs.OwnedWords.{Owns}
 use Rattle.iox_wire_steps.specs.Holding.{held_at, held_from}
-use Rattle.iox_wire_steps.specs.Following.{CallMessage, Dropped, Follows, IsLending, Leaving, Lent, NoMessage, Sent, Taken, TakesOn, drops, keeps, lets_go, message_at, picks_slot, puts_aside, sends_loan, takes}
+use Rattle.iox_wire_steps.specs.Following.{CallMessage, Dropped, NodeContinues, IsLending, Leaving, Lent, NoMessage, Sent, Taken, TakesOn, drops, keeps, lets_go, message_at, picks_slot, puts_aside, sends_loan, takes}
 use Rattle.iox_wire_steps.specs.FollowingLaws.{TakesNext}
 use Rattle.iox_wire_steps.proofs.Follows.{accesses_follow}
 use Rattle.iox_wire_calls.specs.EndsTold.{HeaderIsTold}
@@ -88,7 +88,7 @@ module _ (p : Setting) (x : Seat) (seen : ℕ) where
   kept_plain local none = tt
 
   -- no such place follows any other
-  others_plain : (IsReceive x.local → ⊥) → Follows p (accessed x) x.local seen (advance p (accessed x) x.local seen) → IsPlain (advance p (accessed x) x.local seen).local
+  others_plain : (IsReceive x.local → ⊥) → NodeContinues p (accessed x) x.local seen (advance p (accessed x) x.local seen) → IsPlain (advance p (accessed x) x.local seen).local
   others_plain none (keeps desks message) = plain_by y.local (message_at x.local) message (kept_plain x.local none)
   others_plain none (lets_go desks still message may) = plain_by y.local NoMessage message tt
   others_plain none (takes w slot desks still message on) = absurd (not_taking x.local w slot none on)
@@ -221,7 +221,7 @@ module _ (p : Setting) (x : Seat) (seen : ℕ) where
     lending (LendEmpties o w place left) is lends told = subst (λ l. T NoMessage (advance p (accessed x) l seen).local) (sym is) told
     lending local is lends told = absurd lends
 
-    by_follows : MessageIsTold p held s x seen x.local → Follows p (accessed x) x.local seen (advance p (accessed x) x.local seen)
+    by_follows : MessageIsTold p held s x seen x.local → NodeContinues p (accessed x) x.local seen (advance p (accessed x) x.local seen)
         → T (message_at x.local) (advance p (accessed x) x.local seen).local
     by_follows told (keeps desks message) = any_message (message_at x.local) y.local (λ none. no_loan y.local NoMessage (message ∙ none) tt)
     by_follows told (lets_go desks still message may) = any_message (message_at x.local) y.local (λ none. no_loan y.local NoMessage message tt)

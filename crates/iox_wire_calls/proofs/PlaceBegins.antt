@@ -34,7 +34,7 @@ use Rattle.iox_wire_steps.proofs.Lookups.{find_map}
 use Rattle.iox_wire_steps.proofs.OwnPorts.{both, each_map}
 use Rattle.iox_wire_steps.specs.Stands.{AreNumbered}
 use Rattle.iox_wire_calls.specs.PlaceLaws.{BeginsFit}
-use Rattle.iox_wire_calls.specs.Places.{CallFits, OwnersAreSet, SuitsPort, VisitFits, Visits}
+use Rattle.iox_wire_calls.specs.Places.{CallFits, OwnersAreSet, SuitsPort, VisitFits, VisitsWay}
 use Rattle.iox_wire_calls.proofs.HandleKinds.{answers_is, asks_is, copies_is, loan_is, receives_is, sent_is}
 use Rattle.iox_wire_calls.proofs.PlaceCourses.{Fits, checking, copies_request, copies_response, hinting, loans_request, loans_response, reads, releasing, seeking, sends, visiting, writes}
 
@@ -88,18 +88,18 @@ module _ (p : Setting) (x : Seat) (numbered : AreNumbered p) (owners : OwnersAre
 
   -- ---- receives
 
-  server_each : (q : Port) → VisitFits p x (server_visit q) → Each (Visits p x (server_visit q)) (server_ways (known p x) q)
+  server_each : (q : Port) → VisitFits p x (server_visit q) → Each (VisitsWay p x (server_visit q)) (server_ways (known p x) q)
   server_each q set =
-      each_map (Visits p x (server_visit q)) (λ client. request_way client q.number) (clients_to_visit (known p x) q)
+      each_map (VisitsWay p x (server_visit q)) (λ client. request_way client q.number) (clients_to_visit (known p x) q)
       (λ client there.
-      either (λ (ks : List ℕ). IsAmong client ks → Visits p x (server_visit q) (request_way client q.number)) p.limits.fire_and_forget
+      either (λ (ks : List ℕ). IsAmong client ks → VisitsWay p x (server_visit q) (request_way client q.number)) p.limits.fire_and_forget
       (ports_of_role (known p x) Client) (others (known p x) x.node Client)
       (λ is among. (set, role_of Client client among, λ server asks. absurd (true≢false (sym is ∙ asks))))
       (λ is among. (set, other_role_of Client client among, λ server asks. other_unforgotten Client client among)) there)
 
-  pending_each : (e : Entry) → VisitFits p x (pending_visit e) → Each (Visits p x (pending_visit e)) (ways_for p x e)
+  pending_each : (e : Entry) → VisitFits p x (pending_visit e) → Each (VisitsWay p x (pending_visit e)) (ways_for p x e)
   pending_each e set =
-      each_map (Visits p x (pending_visit e)) (response_way e.port e.lane) (ports_of_role (known p x) Server)
+      each_map (VisitsWay p x (pending_visit e)) (response_way e.port e.lane) (ports_of_role (known p x) Server)
       (λ port there. (set, role_of Server port there, λ server asks. absurd (true≢false server)))
 
   -- ---- what a call names

@@ -43,7 +43,7 @@ use Rattle.iox_wire_steps.specs.ReceiveCourses as receives
 use Rattle.iox_wire_steps.specs.Tables.{Setting, way_in, words_to_read}
 use Rattle.iox_wire_steps.specs.OwnedCalls.{Each}
 use Rattle.iox_wire_steps.specs.SlotsKnown.{IsPortOfSeat}
-use Rattle.iox_wire_calls.specs.Places.{Opens, IsLoan, IsNext, PlaceFits, SendFits, SuitsPort, TakesFirst, Visits}
+use Rattle.iox_wire_calls.specs.Places.{Opens, IsOfLoan, IsNext, PlaceFits, SendFits, SuitsPort, TakesFirst, VisitsWay}
 use Rattle.iox_wire_steps.proofs.OwnPorts.{each_map}
 use Rattle.iox_wire_calls.proofs.HandleKinds.{loan_kind, role_lends}
 
@@ -102,9 +102,9 @@ first_stays p x q change o leaves first client =
 -- ---- kinds of loans
 
 -- a loan that its port lends is such
-pub lent_kind : (p : Setting) (x : Seat) (o : NewLoan) → IsNext p x o → IsLoan o.kind × SuitsPort p x o.port o.kind
+pub lent_kind : (p : Setting) (x : Seat) (o : NewLoan) → IsNext p x o → IsOfLoan o.kind × SuitsPort p x o.port o.kind
 lent_kind p x o next =
-    subst (λ kind. IsLoan kind × SuitsPort p x o.port kind) (sym next.1)
+    subst (λ kind. IsOfLoan kind × SuitsPort p x o.port kind) (sym next.1)
     (loan_kind (p.port o.port).role, (next.0, role_lends (p.port o.port).role))
 
 -- ---- sends
@@ -151,7 +151,7 @@ module _ (p : Setting) (x : Seat) where
       either (Fits p) (has_number d.loan.client (others (known p x) x.node Client)) (courses.placed x (SendAsks d))
       (courses.ended x (endings.Sends d.loan d.copied 0)) (λ is. (to, answers)) (λ is. (to.0, answers))
 
-  pub sends : (e : Entry) (copied : Bool) → IsLoan e.kind → SuitsPort p x e.port e.kind → Fits p (courses.sends p x e copied)
+  pub sends : (e : Entry) (copied : Bool) → IsOfLoan e.kind → SuitsPort p x e.port e.kind → Fits p (courses.sends p x e copied)
   sends e copied loan suits =
       let to_servers : Delivery = record { loan = e; copied = copied; to = others (known p x) x.node Server } in
       let to_client : Delivery = record { loan = e; copied = copied; to = e.client ∷ [] } in
@@ -216,11 +216,11 @@ module _ (p : Setting) (x : Seat) where
   copies_response e None words home server = tt
   copies_response e (Some k) words home server = lends_response e k words true home server
 
-  pub writing : (e : Entry) (words : List ℕ) → IsLoan e.kind → Fits p (begins.writing x e words)
+  pub writing : (e : Entry) (words : List ℕ) → IsOfLoan e.kind → Fits p (begins.writing x e words)
   writing e [] loan = loan
   writing e (word ∷ words) loan = loan
 
-  pub writes : (e : Entry) (k : Option ℕ) (words : List ℕ) → IsLoan e.kind → Fits p (begins.writes x e k words)
+  pub writes : (e : Entry) (k : Option ℕ) (words : List ℕ) → IsOfLoan e.kind → Fits p (begins.writes x e k words)
   writes e None words loan = tt
   writes e (Some k) words loan =
       either (Fits p) (k == e.elements) (begins.writing x e words) (courses.ended x (endings.Refuses WrongLength)) (λ is. writing e words loan) (λ is. tt)
@@ -232,7 +232,7 @@ module _ (p : Setting) (x : Seat) where
 
 module _ (p : Setting) (x : Seat) (v : Visit) where
   abbrev Ways : List Way → Type 0
-  Ways ways = Each (Visits p x v) ways
+  Ways ways = Each (VisitsWay p x v) ways
 
   pub visiting : (ways : List Way) (waiting : Bool) → Ways ways → Fits p (receives.visiting p x v ways waiting)
   visiting [] true each = tt

@@ -36,7 +36,7 @@ use Rattle.iox_wire_steps.specs.Tables.{Setting, entry_at, words_to_read}
 use Rattle.iox_wire_steps.specs.OwnedCalls.{Each}
 use Rattle.iox_wire_steps.proofs.CountsKept.{steps_keep_own}
 use Rattle.iox_wire_calls.specs.PlaceLaws.{AccessesFit}
-use Rattle.iox_wire_calls.specs.Places.{IsEmptyLook, IsEvicting, IsFullLook, IsLearning, IsLoan, IsNext, IsPop, PlaceFits, SendFits, TakesFirst, Visits}
+use Rattle.iox_wire_calls.specs.Places.{IsEmptyLook, IsEvicting, IsFullLook, IsLearning, IsOfLoan, IsNext, IsPop, PlaceFits, SendFits, TakesFirst, VisitsWay}
 use Rattle.iox_wire_calls.proofs.Parts.{PublishesNot, empty_looks_on, evicts_on, full_looks_on, pops_on, pushes_on}
 use Rattle.iox_wire_calls.proofs.PlaceCourses.{Fits, asked, checking, closing, delivering, emptying, first_stays, given_back, hinting, judged, lent, loaning, looking, next_stays, opening, seeking, took, visiting}
 
@@ -67,7 +67,7 @@ module _ (p : Setting) (x : Seat) (seen : ℕ) where
       either (Fits p) (next + 1 == length (loan_words p o)) (courses.lent p x o slot) (courses.placed x (LendStores o slot (next + 1)))
       (λ is. lent p x o slot fits) (λ is. fits)
 
-  word_written : (e : Entry) (words : List ℕ) (next : ℕ) → IsLoan e.kind → Fits p (findings.word_written x e words next)
+  word_written : (e : Entry) (words : List ℕ) (next : ℕ) → IsOfLoan e.kind → Fits p (findings.word_written x e words next)
   word_written e words next loan =
       either (Fits p) (next + 1 == length words) (courses.ended x (endings.Fills e words)) (courses.placed x (Writes e words (next + 1))) (λ is. loan) (λ is. loan)
 
@@ -124,7 +124,7 @@ module _ (p : Setting) (x : Seat) (seen : ℕ) where
 
   -- ---- receives
 
-  module _ (v : Visit) (w : Way) (left : List Way) (waiting : Bool) (each : Each (Visits p x v) (w ∷ left)) where
+  module _ (v : Visit) (w : Way) (left : List Way) (waiting : Bool) (each : Each (VisitsWay p x v) (w ∷ left)) where
     receive_looked : (place : Popping) → IsEmptyLook place → Fits p (advance p x (ReceiveLooks v w place left waiting) seen)
     receive_looked (popping.Looks place) is =
         empty_looks_on (λ after event. Fits p (found.receive_looked p x v w left waiting after event)) going (λ after. visiting p x v left waiting each.1)

@@ -13,7 +13,7 @@ use Rattle.iox_model.specs.States.{Fixed, State}
 use Rattle.iox_model.specs.WholeCalls.{MayHold, PayloadMayBe, is_uninit}
 use Rattle.iox_laws.proofs.WeaveLaws.WholeLemmas.{some-is}
 use Rattle.iox_steps.specs.Accesses.{seen_by}
-use Rattle.iox_wire_steps.specs.Laws.{IsMade}
+use Rattle.iox_wire_steps.specs.Laws.{AccessIsMade}
 use Rattle.iox_wire_steps.specs.Programs.{program_access}
 use Rattle.iox_wire_steps.specs.MomentsOf.{Pools}
 use Rattle.iox_wire_steps.specs.Ending.{Ending}
@@ -30,7 +30,7 @@ use Rattle.iox_wire_steps.specs.OwnedCalls.{state_after}
 use Rattle.iox_wire_steps.specs.SentStates.{HasOpened}
 use Rattle.iox_wire_steps.specs.Holding.{held_after, held_from}
 use Rattle.iox_wire_steps.proofs.SentStates.{accesses_leave_opened}
-use Rattle.iox_wire_steps.specs.NodeLaws.{IsTold}
+use Rattle.iox_wire_steps.specs.NodeLaws.{ToldWhatIsSo}
 use Rattle.iox_wire_steps.specs.Nodes.{NodeStands}
 use Rattle.iox_wire_steps.specs.Runs.{Run}
 use Rattle.iox_wire_steps.specs.Stands.{Player, Stands, seats_of, word_of}
@@ -106,8 +106,8 @@ module _ (p : Setting) (words words' : List ℕ) (players : ℕ → Player) (r :
   module _ (busy : is_busy (seats_of p players n).local ≡ true) (fits : CallFits p (seats_of p players n)) (all : AllLanesAreCounted p (seats_of p players n))
       (below : PushesBelow p (word_of words) (seats_of p players n).local)
       (told : MessageIsTold p stands.held r.last.state (seats_of p players n) seen (seats_of p players n).local)
-      (made : IsMade (program_access p.layout (program_of p (seats_of p players n).local)) (word_of words) (word_of words')) where
-    pub access_told : ending_at x.local ≡ None → IsTold p held s x seen
+      (made : AccessIsMade (program_access p.layout (program_of p (seats_of p players n).local)) (word_of words) (word_of words')) where
+    pub access_told : ending_at x.local ≡ None → ToldWhatIsSo p held s x seen
     access_told going = record {
       relies = relies_on p held (word_of words) stands.contents (seats_of p players) r.last n stands.shows living stands.owners stands.numbers mine fits x.local refl busy going
           fits.place mine.owns.owns told;

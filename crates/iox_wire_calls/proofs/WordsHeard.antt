@@ -16,7 +16,7 @@ use Rattle.iox_steps.specs.declared.side.Pushing.TheVariants as pushing
 use Rattle.iox_steps.specs.Accesses.{seen_by}
 use Rattle.iox_word_map.specs.WordMaps.{IsWay, MessageQueue, ReturningQueue, WireQueue}
 use Rattle.iox_wire_steps.specs.Fits.{WireContents}
-use Rattle.iox_wire_steps.specs.Laws.{IsMade}
+use Rattle.iox_wire_steps.specs.Laws.{AccessIsMade}
 use Rattle.iox_wire_steps.specs.Programs.{program_access}
 use Rattle.iox_wire_steps.specs.MomentsOf.{Pools}
 use Rattle.iox_wire_steps.specs.Local.{Local}
@@ -30,7 +30,7 @@ use Rattle.iox_wire_steps.specs.Stored.{header_length}
 use Rattle.iox_wire_steps.specs.Tables.{Setting, way_in}
 use Rattle.iox_wire_steps.specs.Shows.{OwnsPlace}
 use Rattle.iox_wire_steps.specs.OwnedCalls.{HasHeader, ReceivesOn, WordsTell}
-use Rattle.iox_wire_steps.specs.Pushes.{HasRoomFor, PushesInto}
+use Rattle.iox_wire_steps.specs.Pushes.{ReturnsHaveRoom, PushesInto}
 use Rattle.iox_wire_steps.specs.OwnedBegins.{LayoutFits}
 use Rattle.iox_wire_steps.specs.OwnedWords.{Owns}
 use Rattle.iox_wire_steps.specs.Regions.{HasRegion}
@@ -71,7 +71,7 @@ in_longest k h u m less = omega (arith, less)
 
 module _ (p : Setting) (held : Pools) (word word' : ℕ → ℕ) (c : WireContents) (seats : ℕ → Seat) (w : World) (n : ℕ)
     (whole : Whole p held word c seats w) (regions : (port : ℕ) → has_number port p.layout.sizes.ports ≡ true → HasRegion p port)
-    (living : not_living w.state n ≡ None) (numbered : AreNumbered p) (made : IsMade (program_access p.layout (program_of p (seats n).local)) word word') where
+    (living : not_living w.state n ≡ None) (numbered : AreNumbered p) (made : AccessIsMade (program_access p.layout (program_of p (seats n).local)) word word') where
   abbrev x : Seat
   x = seats n
 
@@ -107,7 +107,7 @@ module _ (p : Setting) (held : Pools) (word word' : ℕ → ℕ) (c : WireConten
   may = (owners_may_access p held w.state x stands.owns.owns stands.tells).0
 
   room : (y : Way) → ReceivesOn p (seats n).node w.state.fixed y → forgot_port (known p (seats n)) (seats n).node y.sender ≡ false
-      → HasRoomFor p w.state.fixed n (ReturningQueue y)
+      → ReturnsHaveRoom p w.state.fixed n (ReturningQueue y)
   room y on kept = (
     (
       linked p w.state.fixed y whole.layout on.way,
@@ -117,7 +117,7 @@ module _ (p : Setting) (held : Pools) (word word' : ℕ → ℕ) (c : WireConten
     whole.rooms y on.way,
   )
 
-  pushes : (local : Local) (q : WireQueue) → x.local ≡ local → PushesInto local q → HasRoomFor p w.state.fixed n q → PushesBelow p word local → WordsTell p local seen
+  pushes : (local : Local) (q : WireQueue) → x.local ≡ local → PushesInto local q → ReturnsHaveRoom p w.state.fixed n q → PushesBelow p word local → WordsTell p local seen
   pushes local q is into has below =
       subst (λ l. WordsTell p l seen) is
       (pushes_are_told p held word c seats w n q whole.shows living may (subst (λ l. PushesInto l q) (sym is) into) has (below q into))

@@ -8,7 +8,7 @@ use Rattle.iox_model.specs.Maps.{put_at}
 use Rattle.iox_model.specs.States.{State}
 use Rattle.iox_model.specs.Weaves.{Begins, Dies, World, IsBeat, begin_refusal}
 use Rattle.iox_steps.specs.Accesses.{seen_by}
-use Rattle.iox_wire_steps.specs.Laws.{IsMade}
+use Rattle.iox_wire_steps.specs.Laws.{AccessIsMade}
 use Rattle.iox_wire_steps.specs.Programs.{program_access}
 use Rattle.iox_wire_steps.specs.MomentsOf.{Pools}
 use Rattle.iox_wire_steps.specs.Seat.{Seat}
@@ -123,7 +123,7 @@ SteppedCallsStand =
     → ((port : ℕ) → loans_at q port < 2 ^ 64)
     → WordsAreTold p stands.held r.last.state q seen q.local
     → PayloadFits p payload (advance p (accessed q) q.local seen).local
-    → IsMade access (word_of words) (word_of words') → length words' ≡ length words
+    → AccessIsMade access (word_of words) (word_of words') → length words' ≡ length words
     → (after : Run)
     × GoesOnWith r
     (step_beats n payload (moment_at p stands.held x.local seen) (tells p x seen)) after

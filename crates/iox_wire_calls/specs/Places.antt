@@ -71,8 +71,8 @@ abbrev pub SuitsPort : Setting → Seat → (port : ℕ) → Kind → Type 0
 SuitsPort p x port kind = IsPortOfSeat p x port × (is_kind_of (p.port port).role kind ≡ true)
 
 -- the kind is that of a loan
-abbrev pub IsLoan : Kind → Type 0
-IsLoan kind = (is_request_loan kind || is_response_loan kind) ≡ true
+abbrev pub IsOfLoan : Kind → Type 0
+IsOfLoan kind = (is_request_loan kind || is_response_loan kind) ≡ true
 
 -- ---- calls
 
@@ -91,7 +91,7 @@ TakesFirst p x o =
 -- what is sent is a loan of the node's port, a request to all servers that the node did not forget
 abbrev pub SendFits : Setting → Seat → Delivery → Type 0
 SendFits p x d =
-    IsLoan d.loan.kind × SuitsPort p x d.loan.port d.loan.kind
+    IsOfLoan d.loan.kind × SuitsPort p x d.loan.port d.loan.kind
     × (is_request_loan d.loan.kind ≡ true → d.to ≡ others (known p x) x.node Server)
 
 -- a state that a send opens is on its lane
@@ -104,8 +104,8 @@ VisitFits p x v = IsPortOfSeat p x v.port × ((p.port v.port).role ≡ v.role)
 
 -- it does so on ways from ports of the other role; a server that asks for request states
 -- visits none of a client that its node forgot
-abbrev pub Visits : Setting → Seat → Visit → Way → Type 0
-Visits p x v y =
+abbrev pub VisitsWay : Setting → Seat → Visit → Way → Type 0
+VisitsWay p x v y =
     VisitFits p x v × ((p.port y.sender).role ≡ other_role v.role)
     × (is_client v.role ≡ false → p.limits.fire_and_forget ≡ false
     → forgot_port (known p x) x.node y.sender ≡ false)
@@ -116,9 +116,9 @@ Visits p x v y =
 -- what was sent at once is no request, and a response that is received answers its request.
 abbrev pub EndingFits : Setting → Seat → Ending → Type 0
 EndingFits p x (endings.Lends o slot) = IsNext p x o
-EndingFits p x (endings.Fills e words) = IsLoan e.kind
-EndingFits p x (endings.Sends e copied count) = IsLoan e.kind × (is_request_loan e.kind ≡ false)
-EndingFits p x (endings.FailsToSend e copied r) = IsLoan e.kind
+EndingFits p x (endings.Fills e words) = IsOfLoan e.kind
+EndingFits p x (endings.Sends e copied count) = IsOfLoan e.kind × (is_request_loan e.kind ≡ false)
+EndingFits p x (endings.FailsToSend e copied r) = IsOfLoan e.kind
 EndingFits p x (endings.Receives v w slot header) =
     VisitFits p x v × (is_client v.role ≡ true → request_in v header ≡ v.request)
 EndingFits p x ending = Unit {0}
@@ -130,7 +130,7 @@ abbrev pub PlaceFits : Setting → Seat → Local → Type 0
 PlaceFits p x (Ends ending) = EndingFits p x ending
 PlaceFits p x (LendEmpties o w place left) = IsPop place × IsNext p x o × TakesFirst p x o
 PlaceFits p x (LendStores o slot next) = IsNext p x o
-PlaceFits p x (Writes e words next) = IsLoan e.kind
+PlaceFits p x (Writes e words next) = IsOfLoan e.kind
 PlaceFits p x (SendAsks d) = SendFits p x d × (is_request_loan d.loan.kind ≡ false)
 PlaceFits p x (SendEmpties d w place left) = IsPop place × SendFits p x d
 PlaceFits p x (SendLooks d w place left full) = IsFullLook place × SendFits p x d
@@ -140,14 +140,14 @@ PlaceFits p x (SendEvicts d w place left count) = IsEvicting place × SendFits p
 PlaceFits p x (SendGetsBack d w place left count) = IsLearning place × SendFits p x d
 PlaceFits p x (SendEnds d last count) = SendFits p x d
 PlaceFits p x (ReceiveLooks v w place left waiting) =
-    IsEmptyLook place × Each (Visits p x v) (w ∷ left)
+    IsEmptyLook place × Each (VisitsWay p x v) (w ∷ left)
 PlaceFits p x (ReceivePops v w more place left waiting) =
-    IsPop place × Each (Visits p x v) (w ∷ left)
-PlaceFits p x (ReceiveLoads v w slot header left waiting) = Each (Visits p x v) (w ∷ left)
+    IsPop place × Each (VisitsWay p x v) (w ∷ left)
+PlaceFits p x (ReceiveLoads v w slot header left waiting) = Each (VisitsWay p x v) (w ∷ left)
 PlaceFits p x (ReceiveAsks v w slot header left waiting) =
-    (is_client v.role ≡ false) × (p.limits.fire_and_forget ≡ false) × Each (Visits p x v) (w ∷ left)
+    (is_client v.role ≡ false) × (p.limits.fire_and_forget ≡ false) × Each (VisitsWay p x v) (w ∷ left)
 PlaceFits p x (ReceiveReturns v w slot place left waiting) =
-    (forgot_port (known p x) x.node w.sender ≡ false) × Each (Visits p x v) (w ∷ left)
+    (forgot_port (known p x) x.node w.sender ≡ false) × Each (VisitsWay p x v) (w ∷ left)
 PlaceFits p x (ReleaseReturns e place) = forgot_port (known p x) x.node (way_in e).sender ≡ false
 PlaceFits p x (Seeks w place left) = IsEmptyLook place
 PlaceFits p x local = Unit {0}

@@ -9,7 +9,7 @@ use Rattle.iox_steps.specs.Accesses.{seen_by}
 use Rattle.iox_steps.specs.Fits.{write_of}
 use Rattle.iox_steps.specs.Sites.{last_position}
 use Rattle.iox_word_map.specs.WordMaps.{WireQueue}
-use Rattle.iox_wire_steps.specs.Laws.{IsMade}
+use Rattle.iox_wire_steps.specs.Laws.{AccessIsMade}
 use Rattle.iox_wire_steps.specs.Programs.{program_access, site_of}
 use Rattle.iox_wire_steps.specs.MomentsOf.{Pools}
 use Rattle.iox_wire_steps.specs.Ending.TheVariants.{Lends}
@@ -84,5 +84,5 @@ StepsAreTold =
     → PushesBelow p (word_of words) x.local
     → MessageIsTold p stands.held r.last.state x seen x.local
     → PayloadFits p payload (advance p (accessed x) x.local seen).local
-    → IsMade access (word_of words) (word_of words')
+    → AccessIsMade access (word_of words) (word_of words')
     → StepIsTold p stands.held r.last.state x seen payload

@@ -19,7 +19,7 @@ use Rattle.iox_wire_locals.specs.Lendings.{lends, lends_request, lends_response,
 use Rattle.iox_wire_locals.specs.NewLoans.{loan_in}
 use Rattle.iox_wire_locals.specs.Tables.{Setting}
 use Rattle.iox_wire_request_sends.specs.Lender.{Lender}
-use Rattle.iox_wire_request_sends.specs.Lenders.{IsClient, IsLender, IsServer}
+use Rattle.iox_wire_request_sends.specs.Lenders.{HasClientLimits, LenderIsTold, HasServerLimits}
 use Rattle.iox_wire_copies.specs.Copies.{copy_of}
 use Rattle.iox_wire_copies.specs.CopyAims.{HasSamePeers}
 use Rattle.iox_wire_copies.proofs.CopyLemmas.{copied}
@@ -67,20 +67,20 @@ refused_alike p x fits rest o payload is =
     ap (λ (b : Bool). lends p x (or_else (refused_if (not b) ExceedsMaxLoanSize) rest) (copy_of o payload)) is
     ∙ sym (ap (λ (b : Bool). lends p x (or_else (refused_if (not b) ExceedsMaxLoanSize) rest) (copy_of o [])) is)
 
-too_big : (p : Setting) (t : Lender) (shape : Shape) (k : ℕ) → IsLender p t → shape_of p.limits t.role ≡ shape → nat_le k t.longest ≡ false
+too_big : (p : Setting) (t : Lender) (shape : Shape) (k : ℕ) → LenderIsTold p t → shape_of p.limits t.role ≡ shape → nat_le k t.longest ≡ false
     → fits_size (p.port t.port) shape k ≡ false
 too_big p t shape k lender is long =
     ap (λ (s : Shape). fits_size (p.port t.port) s k) (sym (ap (shape_of p.limits) lender.role ∙ is))
     ∙ lender.longest k ∙ long
 
-pub too_long : (p : Setting) (x : Seat) (t : Lender) (k : ℕ) (payload : List ℕ) → IsLender p t → IsClient p t → nat_le k t.longest ≡ false
+pub too_long : (p : Setting) (x : Seat) (t : Lender) (k : ℕ) (payload : List ℕ) → LenderIsTold p t → HasClientLimits p t → nat_le k t.longest ≡ false
     → lends_request p x (p.port t.port) k payload true ≡ lends_request p x (p.port t.port) k [] true
 too_long p x t k payload lender client long =
     either_alike (is_count p.limits.request k) x _ _
     (refused_alike p x (fits_size (p.port t.port) p.limits.request k) _ (new_request p x (p.port t.port) k [] false) payload
     (too_big p t p.limits.request k lender (ap (shape_of p.limits) client.role) long))
 
-pub too_long_response : (p : Setting) (x : Seat) (t : Lender) (e : Entry) (k : ℕ) (payload : List ℕ) → IsLender p t → IsServer p t → e.port ≡ t.port
+pub too_long_response : (p : Setting) (x : Seat) (t : Lender) (e : Entry) (k : ℕ) (payload : List ℕ) → LenderIsTold p t → HasServerLimits p t → e.port ≡ t.port
     → nat_le k t.longest ≡ false → lends_response p x e k payload true ≡ lends_response p x e k [] true
 too_long_response p x t e k payload lender server port long =
     either_alike (is_count p.limits.response k) x _ _

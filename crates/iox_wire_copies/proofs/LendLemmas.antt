@@ -1,5 +1,6 @@
 -- What a step of a copy's loan does that stores no word.
 use Rattle.std.proofs.Common.{◌≡◌, ℕ, false, List, Some, None, refl, ap, sym, subst, true≢false, ◌∙◌}
+use Rattle.iox_wire_locals.specs.declared.local.CallRefusal.{CallRefusal}
 use Rattle.iox_wire_locals.specs.declared.local.Local.{Local}
 use Rattle.iox_wire_locals.specs.declared.local.Local.TheVariants.{Idle, LendEmpties, LendStores}
 use Rattle.iox_wire_locals.specs.declared.seat.Seat.{Seat}
@@ -10,7 +11,7 @@ use Rattle.iox_wire_locals.specs.Courses.{placed}
 use Rattle.iox_wire_locals.specs.Steps.{next, tells}
 use Rattle.iox_wire_locals.specs.Tables.{Setting}
 use Rattle.iox_wire_seats.specs.Seats.{Placed}
-use Rattle.iox_wire_request_sends.specs.LendReply.{LendReply}
+use Rattle.iox_wire_request_sends.specs.LendReply.TheVariants as lend_replies
 use Rattle.iox_wire_request_sends.specs.Order.{Order}
 use Rattle.iox_wire_request_sends.specs.SlotPlaces.{SlotPlaces}
 use Rattle.iox_wire_request_sends.specs.WireLoansAims.{GetsBackUsed, IsLoanAt, IsStoring, TellsOfSlot, is_storing}
@@ -87,10 +88,10 @@ lend_goes_on x y r s seen lends local loan before next_is over p aim = (
 )
 
 -- it is refused
-pub lend_refused : (x y : Placed) (r s : CopyLoan) (seen : ℕ) (reply : LendReply) → Lends r → s.local ≡ Idle → is_busy s.lending.local ≡ false
+pub lend_refused : (x y : Placed) (r s : CopyLoan) (seen : ℕ) (refusal : CallRefusal) → Lends r → s.local ≡ Idle → is_busy s.lending.local ≡ false
     → IsLoanAt r.lending.order r.lending.local → is_storing r.lending.local ≡ false
-    → loans.GoesOn x r.lending seen y s.lending → loans.Answers x r.lending seen (Some reply) → GoesOn x r seen y s (Some (lent.Refused reply))
-lend_refused x y r s seen reply lends local rests loan before next_is over p aim = (
+    → loans.GoesOn x r.lending seen y s.lending → loans.Answers x r.lending seen (Some (lend_replies.Refused refusal)) → GoesOn x r seen y s (Some (lent.Refused refusal))
+lend_refused x y r s seen refusal lends local rests loan before next_is over p aim = (
   ap (placed y.seat) local
       ∙ ap (λ (l : Local). placed y.seat (with_payload r.payload l)) (sym (it_rests s.lending.local rests))
       ∙ ap (copied r.payload) (next_is p (aimed_loan p x.seat r lends aim).0)

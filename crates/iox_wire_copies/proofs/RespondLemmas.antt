@@ -3,6 +3,7 @@ use Rattle.std.proofs.Common.{◌≡◌, ℕ, true, false, List, [], ◌∷◌, 
 use Rattle.std.specs.Prelude.{Option, None, Some, is_some, option_map}
 use Rattle.iox_model.specs.declared.way.Way.{Way}
 use Rattle.iox_wire_locals.specs.declared.local.Ending.{Ending}
+use Rattle.iox_wire_locals.specs.declared.local.CallRefusal.{CallRefusal}
 use Rattle.iox_wire_locals.specs.declared.local.Local.{Local}
 use Rattle.iox_wire_locals.specs.declared.local.Local.TheVariants.{Idle}
 use Rattle.iox_wire_locals.specs.declared.table.Desk.{Desk}
@@ -18,7 +19,6 @@ use Rattle.iox_wire_seats.specs.Desks.{IsUsed, MayGiveUp}
 use Rattle.iox_wire_seats.specs.Seats.{Placed}
 use Rattle.iox_wire_request_sends.specs.WireLoansAims.{TellsOfSlot, after, answered}
 use Rattle.iox_wire_request_sends.specs.Orders.{IsResponse, loan_of}
-use Rattle.iox_wire_request_sends.specs.LendReply.{LendReply}
 use Rattle.iox_wire_request_sends.specs.Order.{Order}
 use Rattle.iox_wire_sends.specs.declared.at.RespondReply.{RespondReply}
 use Rattle.iox_wire_sends.specs.declared.terms.ResponseTerms.{ResponseTerms}
@@ -30,7 +30,7 @@ use Rattle.iox_wire_copies.specs.declared.at.CopierAt.{CopierAt}
 use Rattle.iox_wire_copies.specs.declared.at.CopierAt.TheVariants as at
 use Rattle.iox_wire_copies.specs.declared.at.CopyLent.TheVariants as lent
 use Rattle.iox_wire_copies.specs.declared.at.ResponseCopyReply.{ResponseCopyReply}
-use Rattle.iox_wire_request_sends.specs.Loans as loans
+use Rattle.iox_wire_copies.specs.declared.at.ResponseCopyReply.TheVariants as copy_replies
 use Rattle.iox_wire_copies.specs.Copies.{CopyLoan}
 use Rattle.iox_wire_copies.specs.CopyAims as copies
 use Rattle.iox_wire_copies.specs.CopyAims.{IsSameCopy}
@@ -132,16 +132,16 @@ lends_aimed x y r s lends at' local told stays same p aim of_slot =
     )
 
 -- the loan is refused
-pub refused_next : (x y : Placed) (r s : ResponseCopy) (k : CopyLoan) (seen : ℕ) (reply : LendReply) → Lends r → s.local ≡ Idle → is_busy k.local ≡ false
-    → copies.GoesOn x r.lends seen y k (Some (lent.Refused reply)) → GoesOn x r seen y s
-refused_next x y r s k seen reply lends local rests led p aim =
+pub refused_next : (x y : Placed) (r s : ResponseCopy) (k : CopyLoan) (seen : ℕ) (refusal : CallRefusal) → Lends r → s.local ≡ Idle → is_busy k.local ≡ false
+    → copies.GoesOn x r.lends seen y k (Some (lent.Refused refusal)) → GoesOn x r seen y s
+refused_next x y r s k seen refusal lends local rests led p aim =
     ap (placed y.seat) (local ∙ sym (it_rests k.local rests))
     ∙ (led p (aimed_lends p x.seat r lends aim).0).0 ∙ ap (λ (l : Local). next p (placed x.seat l) seen) (sym lends.local)
 
-pub refused_over : (x y : Placed) (r : ResponseCopy) (k : CopyLoan) (seen : ℕ) (reply : LendReply) (told : ResponseCopyReply) → reply_in told ≡ loans.reply_in reply → Lends r
-    → copies.GoesOn x r.lends seen y k (Some (lent.Refused reply)) → Answers x r seen (Some told)
-refused_over x y r k seen reply told says lends led p aim =
-    ap (λ (l : Local). tells p (placed x.seat l) seen) lends.local ∙ (led p (aimed_lends p x.seat r lends aim).0).1 ∙ ap (λ a. Some a) (sym says)
+pub refused_over : (x y : Placed) (r : ResponseCopy) (k : CopyLoan) (seen : ℕ) (refusal : CallRefusal) → Lends r
+    → copies.GoesOn x r.lends seen y k (Some (lent.Refused refusal)) → Answers x r seen (Some (copy_replies.Refused refusal))
+refused_over x y r k seen refusal lends led p aim =
+    ap (λ (l : Local). tells p (placed x.seat l) seen) lends.local ∙ (led p (aimed_lends p x.seat r lends aim).0).1
 
 -- the loan is made, and sent
 made_way : (o : Order) (loan : Entry) → loan ≡ entry_in (loan_of o) loan.slot → state_in loan ≡ way_of o

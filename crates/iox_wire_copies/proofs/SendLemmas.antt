@@ -5,6 +5,7 @@ use Rattle.iox_model.specs.Handles.{is_request_loan}
 use Rattle.iox_model.specs.declared.kind.Kind.TheVariants.{RequestMut}
 use Rattle.iox_model.specs.declared.kind.Role.TheVariants.{Server}
 use Rattle.iox_model.specs.Peers.{others}
+use Rattle.iox_wire_locals.specs.declared.local.CallRefusal.{CallRefusal}
 use Rattle.iox_wire_locals.specs.declared.local.Local.{Local}
 use Rattle.iox_wire_locals.specs.declared.local.Local.TheVariants.{Idle, Ends, LendStores, SendEnds}
 use Rattle.iox_wire_locals.specs.declared.seat.Seat.{Seat}
@@ -19,7 +20,6 @@ use Rattle.iox_wire_locals.specs.Tables.{Setting}
 use Rattle.iox_wire_seats.specs.Seats.{Placed}
 use Rattle.iox_wire_request_sends.specs.WireLoansAims.{IsStoring, TellsOfSlot, after, answered}
 use Rattle.iox_wire_request_sends.specs.Orders.{loan_of}
-use Rattle.iox_wire_request_sends.specs.LendReply.{LendReply}
 use Rattle.iox_wire_request_sends.specs.Order.{Order}
 use Rattle.iox_wire_request_sends.specs.declared.at.RequestReply.{RequestReply}
 use Rattle.iox_wire_request_sends.specs.Aims as requests
@@ -29,7 +29,7 @@ use Rattle.iox_wire_copies.specs.declared.at.CopierAt.{CopierAt}
 use Rattle.iox_wire_copies.specs.declared.at.CopierAt.TheVariants as at
 use Rattle.iox_wire_copies.specs.declared.at.CopyLent.TheVariants as lent
 use Rattle.iox_wire_copies.specs.declared.at.CopyReply.{CopyReply}
-use Rattle.iox_wire_request_sends.specs.Loans as loans
+use Rattle.iox_wire_copies.specs.declared.at.CopyReply.TheVariants as copy_replies
 use Rattle.iox_wire_request_sends.specs.RequestDispatches as dispatches
 use Rattle.iox_wire_copies.specs.Copies.{CopyLoan, StoresOrder}
 use Rattle.iox_wire_copies.specs.CopyAims as copies
@@ -154,16 +154,16 @@ lends_aimed x y r s lends at' local told stays peers same kind stores p aim of_s
     )
 
 -- the loan is refused
-pub refused_next : (x y : Placed) (r s : CopyCall) (k : CopyLoan) (seen : ℕ) (reply : LendReply) → Lends r → s.local ≡ Idle → is_busy k.local ≡ false
-    → copies.GoesOn x r.lends seen y k (Some (lent.Refused reply)) → GoesOn x r seen y s
-refused_next x y r s k seen reply lends local rests led p aim =
+pub refused_next : (x y : Placed) (r s : CopyCall) (k : CopyLoan) (seen : ℕ) (refusal : CallRefusal) → Lends r → s.local ≡ Idle → is_busy k.local ≡ false
+    → copies.GoesOn x r.lends seen y k (Some (lent.Refused refusal)) → GoesOn x r seen y s
+refused_next x y r s k seen refusal lends local rests led p aim =
     ap (placed y.seat) (local ∙ sym (it_rests k.local rests))
     ∙ (led p (aimed_lends p x.seat r lends aim).0).0 ∙ ap (λ (l : Local). next p (placed x.seat l) seen) (sym lends.local)
 
-pub refused_over : (x y : Placed) (r : CopyCall) (k : CopyLoan) (seen : ℕ) (reply : LendReply) (told : CopyReply) → reply_in told ≡ loans.reply_in reply → Lends r
-    → copies.GoesOn x r.lends seen y k (Some (lent.Refused reply)) → Answers x r seen (Some told)
-refused_over x y r k seen reply told says lends led p aim =
-    ap (λ (l : Local). tells p (placed x.seat l) seen) lends.local ∙ (led p (aimed_lends p x.seat r lends aim).0).1 ∙ ap (λ a. Some a) (sym says)
+pub refused_over : (x y : Placed) (r : CopyCall) (k : CopyLoan) (seen : ℕ) (refusal : CallRefusal) → Lends r
+    → copies.GoesOn x r.lends seen y k (Some (lent.Refused refusal)) → Answers x r seen (Some (copy_replies.Refused refusal))
+refused_over x y r k seen refusal lends led p aim =
+    ap (λ (l : Local). tells p (placed x.seat l) seen) lends.local ∙ (led p (aimed_lends p x.seat r lends aim).0).1
 
 -- the loan is made, and sent
 pub made_leads : (p : Setting) (x y z : Placed) (r s : CopyCall) (k : CopyLoan) (seen : ℕ) (result : Option CopyReply) → Lends r

@@ -35,6 +35,11 @@ abbrev pub SendsLoan : CopierAt → Order → Entry → Type 0
 SendsLoan at.Sends order loan = loan ≡ entry_in (loan_of order) loan.slot
 SendsLoan name order loan = Unit {0}
 
+-- its own call made that
+abbrev pub SendsOwn : CopierAt → (copied : Bool) → Type 0
+SendsOwn at.Sends copied = copied ≡ true
+SendsOwn name copied = Unit {0}
+
 -- The loan of that order may become a handle, as long as the copy lends or sends; what it sends is
 -- that loan.
 abbrev pub MayBeMade : Placed → CopierAt → Order → Entry → Type 0

@@ -1,10 +1,12 @@
 -- Which places the loan of a copy knows of, and what a step of it does.
 use Rattle.std.specs.Prelude.{◌≡◌, ℕ, true, length, Option, Some, None}
+use Rattle.iox_model.specs.declared.reply.Reply.TheVariants.{Refused}
 use Rattle.iox_wire_locals.specs.declared.local.Local.{Local}
 use Rattle.iox_wire_locals.specs.declared.local.Local.TheVariants.{LendStores}
 use Rattle.iox_wire_locals.specs.declared.seat.Seat.{Seat}
 use Rattle.iox_wire_locals.specs.declared.table.Entry.{Entry}
 use Rattle.iox_wire_locals.specs.Courses.{placed, sends}
+use Rattle.iox_wire_locals.specs.Doings.{refusal_of}
 use Rattle.iox_wire_locals.specs.Lendings.{next_handle}
 use Rattle.iox_wire_locals.specs.NewLoans.{entry_in}
 use Rattle.iox_wire_locals.specs.Steps.{next, tells}
@@ -15,7 +17,6 @@ use Rattle.iox_wire_seats.specs.Lends.{MayLend}
 use Rattle.iox_wire_seats.specs.Seats.{Placed}
 use Rattle.iox_wire_request_sends.specs.WireLoansAims.{IsStoring, Knows, TellsOfSlot, after, answered}
 use Rattle.iox_wire_request_sends.specs.WireLoansAims as loans
-use Rattle.iox_wire_request_sends.specs.Loans.{reply_in}
 use Rattle.iox_wire_request_sends.specs.Orders.{loan_of}
 use Rattle.iox_wire_request_sends.specs.Order.{Order}
 use Rattle.iox_wire_copies.specs.declared.at.CopyAt.{CopyAt}
@@ -42,12 +43,13 @@ IsAimed p x r = AreAimed p x r.at r
 
 -- After its access the node is the next. With the last word the loan is made, and sent by the
 -- same call.
-abbrev pub LeadsOn : Setting → Seat → ℕ → Placed → CopyLoan → Option CopyLent → Type 0
-LeadsOn p before seen y s None =
+abbrev pub CopyLeadsOn : Setting → Seat → ℕ → Placed → CopyLoan → Option CopyLent → Type 0
+CopyLeadsOn p before seen y s None =
     (placed y.seat s.local ≡ next p before seen) × (tells p before seen ≡ None)
-LeadsOn p before seen y s (Some (lent.Refused reply)) =
-    (placed y.seat s.local ≡ next p before seen) × (tells p before seen ≡ Some (reply_in reply))
-LeadsOn p before seen y s (Some lent.Made) =
+CopyLeadsOn p before seen y s (Some (lent.Refused r)) =
+    (placed y.seat s.local ≡ next p before seen)
+    × (tells p before seen ≡ Some (Refused (refusal_of r)))
+CopyLeadsOn p before seen y s (Some lent.Made) =
     (next p before seen ≡ after p (sends p y.seat s.loan true))
     × (tells p before seen ≡ answered p (sends p y.seat s.loan true))
     × (s.loan.number ≡ next_handle p y.seat)
@@ -56,7 +58,7 @@ LeadsOn p before seen y s (Some lent.Made) =
 abbrev pub GoesOn : Placed → CopyLoan → ℕ → Placed → CopyLoan → Option CopyLent → Type 0
 GoesOn x r seen y s result =
     (p : Setting) → IsAimed p x.seat r
-    → LeadsOn p (placed x.seat r.local) seen y s result
+    → CopyLeadsOn p (placed x.seat r.local) seen y s result
 
 -- and it knows the places of what it accesses next.
 abbrev pub StaysAimed : Placed → CopyLoan → Placed → CopyLoan → Type 0
@@ -64,9 +66,9 @@ StaysAimed x r y s =
     (p : Setting) → IsAimed p x.seat r → TellsOfSlot p s.local → IsAimed p y.seat s
 
 -- the loan that is made is that of its order
-abbrev pub IsMade : CopyLoan → Option CopyLent → Type 0
-IsMade s (Some lent.Made) = s.loan ≡ entry_in (loan_of s.lending.order) s.loan.slot
-IsMade s result = Unit {0}
+abbrev pub IsLoanOfOrder : CopyLoan → Option CopyLent → Type 0
+IsLoanOfOrder s (Some lent.Made) = s.loan ≡ entry_in (loan_of s.lending.order) s.loan.slot
+IsLoanOfOrder s result = Unit {0}
 
 -- it is made with the last word that it stores
 abbrev pub IsMadeAt : Local → Option CopyLent → Type 0
@@ -89,9 +91,9 @@ pub record IsSameCopy (r s : CopyLoan) : Type 0 where
 -- ---- what the seat beside it keeps
 
 -- the message that it stores may be given up
-abbrev pub IsHeld : Seat → Local → Type 0
-IsHeld x (LendStores o slot next) = MayGiveUp (entry_in o slot) x.desks
-IsHeld x local = Unit {0}
+abbrev pub MayBeGivenUp : Seat → Local → Type 0
+MayBeGivenUp x (LendStores o slot next) = MayGiveUp (entry_in o slot) x.desks
+MayBeGivenUp x local = Unit {0}
 
 -- so may the message that it made
 abbrev pub IsHeldMade : Seat → Entry → Option CopyLent → Type 0
@@ -100,11 +102,11 @@ IsHeldMade x loan result = Unit {0}
 
 -- what might be given up may be so
 abbrev pub HoldsMade : Placed → CopyLoan → Placed → CopyLoan → Option CopyLent → Type 0
-HoldsMade x r y s result = IsHeld x.seat r.local → IsHeldMade y.seat s.loan result
+HoldsMade x r y s result = MayBeGivenUp x.seat r.local → IsHeldMade y.seat s.loan result
 
 -- unless it is refused, the loan may become a handle
 abbrev pub MayLendMade : Placed → Order → Option CopyLent → Type 0
-MayLendMade x order (Some (lent.Refused reply)) = Unit {0}
+MayLendMade x order (Some (lent.Refused r)) = Unit {0}
 MayLendMade x order result = MayLend x order.number order.port
 
 -- the node knows of the same nodes

@@ -33,7 +33,7 @@ use Rattle.iox_wire_copies.specs.declared.at.CopyReply.TheVariants as copy_repli
 use Rattle.iox_wire_copies.specs.Copies.{CopyLoan, IsLoanOf}
 use Rattle.iox_wire_copies.specs.Copiers.{SendsLoan}
 use Rattle.iox_wire_copies.specs.CopyAims as copies
-use Rattle.iox_wire_copies.specs.CopyAims.{IsHeld, IsSameCopy}
+use Rattle.iox_wire_copies.specs.CopyAims.{MayBeGivenUp, IsSameCopy}
 
 -- ---- what it stands for
 
@@ -47,7 +47,6 @@ pub record CopyCall : Type 0 where
 -- the machine's name of a reply
 abbrev pub reply_in : CopyReply → Reply
 reply_in (copy_replies.Handle number) = replies.Handle number
-reply_in (copy_replies.Sent count) = replies.Sent count
 reply_in (copy_replies.Refused r) = replies.Refused (refusal_of r)
 
 -- ---- what it keeps to
@@ -117,15 +116,15 @@ CopiesItsRequest r = HasItsPlace r.at r
 -- ---- what the seat beside it keeps
 
 -- What it lends may become a handle, and may be given up as long as its send may be refused.
-abbrev pub MayEnd : Placed → CopierAt → CopyCall → Type 0
-MayEnd x at.Lends r =
-    MayLend x r.lends.lending.order.number r.lends.lending.order.port × IsHeld x.seat r.local
-MayEnd x at.Sends r = requests.MayEnd x r.sends
-MayEnd x name r = Unit {0}
+abbrev pub LoanMayEnd : Placed → CopierAt → CopyCall → Type 0
+LoanMayEnd x at.Lends r =
+    MayLend x r.lends.lending.order.number r.lends.lending.order.port × MayBeGivenUp x.seat r.local
+LoanMayEnd x at.Sends r = requests.LoanMayEnd x r.sends
+LoanMayEnd x name r = Unit {0}
 
 -- so it is of a call
 abbrev pub MayEndCall : Placed → CopyCall → Type 0
-MayEndCall x r = MayEnd x r.at r
+MayEndCall x r = LoanMayEnd x r.at r
 
 -- what the access gets back is in use, and what it delivers may be delivered
 abbrev pub FindsUsed : Placed → CopyCall → ℕ → Type 0

@@ -14,6 +14,6 @@ abbrev pub payload_at : SlotPlaces → PayloadPlaces → ℕ → ℕ
 payload_at t q slot = t.region + payload_in t q slot
 
 -- Each slot has room for both headers and for so many words, wherever the payload begins.
-pub record HasRoom (t : SlotPlaces) (q : PayloadPlaces) : Type 0 where
+pub record SlotsHold (t : SlotPlaces) (q : PayloadPlaces) : Type 0 where
   pub step : 0 < q.step
   pub room : t.header + (t.step - 1) + t.user + (q.step - 1) + q.room ≤ t.slot_words

@@ -31,7 +31,7 @@ use Rattle.iox_wire_copies.specs.declared.at.ResponseCopyReply.TheVariants as co
 use Rattle.iox_wire_copies.specs.Copies.{CopyLoan, IsLoanOf}
 use Rattle.iox_wire_copies.specs.Copiers.{SendsLoan}
 use Rattle.iox_wire_copies.specs.CopyAims as copies
-use Rattle.iox_wire_copies.specs.CopyAims.{IsHeld, IsSameCopy}
+use Rattle.iox_wire_copies.specs.CopyAims.{MayBeGivenUp, IsSameCopy}
 
 -- ---- what it stands for
 
@@ -45,7 +45,6 @@ pub record ResponseCopy : Type 0 where
 -- the machine's name of a reply
 abbrev pub reply_in : ResponseCopyReply → Reply
 reply_in copy_replies.Done = replies.Done
-reply_in (copy_replies.Handle number) = replies.Handle number
 reply_in (copy_replies.Refused r) = replies.Refused (refusal_of r)
 
 -- ---- what it keeps to
@@ -94,16 +93,16 @@ CopiesItsResponse r = HasItsPlace r.at r
 
 -- What it lends may be counted as a handle would be, and may be given up; what it sends is in use,
 -- and may be counted.
-abbrev pub MayEnd : Placed → CopierAt → ResponseCopy → Type 0
-MayEnd x at.Lends r =
-    MayLend x r.lends.lending.order.number r.lends.lending.order.port × IsHeld x.seat r.local
-MayEnd x at.Sends r =
+abbrev pub LoanMayEnd : Placed → CopierAt → ResponseCopy → Type 0
+LoanMayEnd x at.Lends r =
+    MayLend x r.lends.lending.order.number r.lends.lending.order.port × MayBeGivenUp x.seat r.local
+LoanMayEnd x at.Sends r =
     IsUsed r.sends.loan.port r.sends.loan.slot x.seat.desks × MayCountMade x r.sends
-MayEnd x name r = Unit {0}
+LoanMayEnd x name r = Unit {0}
 
 -- so it is of a call
 abbrev pub MayEndCall : Placed → ResponseCopy → Type 0
-MayEndCall x r = MayEnd x r.at r
+MayEndCall x r = LoanMayEnd x r.at r
 
 -- what the access gets back is in use, and what it delivers may be delivered
 abbrev pub FindsUsed : Placed → ResponseCopy → ℕ → Type 0

@@ -1,6 +1,5 @@
 //! Where a copy is, and what it answers as it is over.
 use iox_wire_locals::CallRefusal;
-use iox_wire_request_sends::LendReply;
 
 /// Where the loan of a copy is, without what belongs to it.
 #[derive(Clone, Copy)]
@@ -15,8 +14,8 @@ pub enum CopyAt {
 /// How the loan of a copy is over.
 #[derive(Clone, Copy)]
 pub enum CopyLent {
-    /// It is refused, which is told so.
-    Refused(LendReply),
+    /// It is refused, and told why.
+    Refused(CallRefusal),
     /// It is made, and is no handle: it is to be sent. `CopyLending::loan` tells it.
     Made,
 }
@@ -36,8 +35,6 @@ pub enum CopierAt {
 pub enum CopyReply {
     /// The request is sent: its pending response has that number.
     Handle(u64),
-    /// The request is sent to so many servers. That is the answer of a send alone: no copy gives it.
-    Sent(u64),
     Refused(CallRefusal),
 }
 
@@ -46,7 +43,5 @@ pub enum CopyReply {
 pub enum ResponseCopyReply {
     /// It is sent, or nobody waits for it.
     Done,
-    /// The loan has that number. That is the answer of a loan alone: no copy gives it.
-    Handle(u64),
     Refused(CallRefusal),
 }

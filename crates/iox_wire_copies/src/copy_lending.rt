@@ -68,7 +68,7 @@ impl Model for CopyLending {
     ghost use Rattle.iox_wire_request_sends.specs.Lenders.{IsWithin};
     ghost use Rattle.iox_wire_copies.specs.Copies.{CopyLoan, HasMade, HasSlots, HasWordsLeft};
     ghost use Rattle.iox_wire_copies.specs.Copies.{lends_at, local_of};
-    ghost use Rattle.iox_wire_copies.specs.Payloads.{HasRoom};
+    ghost use Rattle.iox_wire_copies.specs.Payloads.{SlotsHold};
 
     ghost Value = { CopyLoan };
 
@@ -85,7 +85,7 @@ impl Model for CopyLending {
     } };
 
     ghost invariant = { λ l.
-        IsWithin l.slots × HasRoom l.slots l.places
+        IsWithin l.slots × SlotsHold l.slots l.places
         × (length l.payload.items ≤ l.places.room)
         × (is_busy l.lending.local ≡ lends_at l.at)
         × HasSlots l.at l.slots l.lending
@@ -105,7 +105,7 @@ impl CopyLending {
     ghost use Rattle.iox_wire_seats.specs.Aims.{KeepsRoom};
     ghost use Rattle.iox_wire_seats.specs.Lends.{MayLend};
     ghost use Rattle.iox_wire_request_sends.specs.WireLoansAims.{GetsBackUsed};
-    ghost use Rattle.iox_wire_copies.specs.CopyAims.{GoesOn, HoldsMade, IsAimed, IsMade, IsMadeAt};
+    ghost use Rattle.iox_wire_copies.specs.CopyAims.{GoesOn, HoldsMade, IsAimed, IsLoanOfOrder, IsMadeAt};
     ghost use Rattle.iox_wire_copies.specs.CopyAims.{IsSameCopy, KeepsPeers, MayLendMade, StaysAimed};
 
     /// No loan is under way, and there is room for so many ways, and for so many words of a message.
@@ -171,7 +171,7 @@ impl CopyLending {
         requires used { GetsBackUsed seat.old.seat self.old.local }
         ensures next { GoesOn seat.old self.old seen seat.new self.new result }
         ensures aimed { StaysAimed seat.old self.old seat.new self.new }
-        ensures made { IsMade self.new result }
+        ensures made { IsLoanOfOrder self.new result }
         ensures stored { IsMadeAt self.old.local result }
         ensures held { HoldsMade seat.old self.old seat.new self.new result }
         ensures busy { is_busy self.new.local ≡ is_none result }

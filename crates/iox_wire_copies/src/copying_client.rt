@@ -27,7 +27,7 @@ pub struct CopyingClient {
 impl Model for CopyingClient {
     ghost use Rattle.std.specs.Prelude.{◌≡◌};
     ghost use Rattle.iox_wire_locals.specs.Begins.{is_busy};
-    ghost use Rattle.iox_wire_copies.specs.Copiers.{SendsLoan, lends_at, local_of, sends_at};
+    ghost use Rattle.iox_wire_copies.specs.Copiers.{SendsLoan, SendsOwn, lends_at, local_of, sends_at};
     ghost use Rattle.iox_wire_copies.specs.CopyCalls.{CopyCall, LendsRequest};
 
     ghost Value = { CopyCall };
@@ -42,7 +42,7 @@ impl Model for CopyingClient {
     ghost invariant = { λ c.
         (is_busy c.lends.local ≡ lends_at c.at) × (is_busy c.sends.local ≡ sends_at c.at)
         × LendsRequest c.at c.lends.lending.order
-        × SendsLoan c.at c.lends.lending.order c.sends.loan };
+        × SendsLoan c.at c.lends.lending.order c.sends.loan × SendsOwn c.at c.sends.copied };
 }
 
 impl CopyingClient {

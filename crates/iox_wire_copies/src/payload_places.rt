@@ -15,13 +15,13 @@ pub struct PayloadPlaces {
 impl PayloadPlaces {
     ghost use Rattle.std.specs.Prelude.{◌≡◌, ◌+◌, ◌*◌, ◌<◌, ◌≤◌, ◌^◌};
     ghost use Rattle.iox_wire_request_sends.specs.Lenders.{IsWithin};
-    ghost use Rattle.iox_wire_copies.specs.Payloads.{HasRoom, payload_at};
+    ghost use Rattle.iox_wire_copies.specs.Payloads.{SlotsHold, payload_at};
 
     /// Where it stands in that slot.
     #[inline(always)]
     pub fn place(self, slots: SlotPlaces, slot: u64) -> usize
         requires within { IsWithin slots }
-        requires room { HasRoom slots self }
+        requires room { SlotsHold slots self }
         ensures there { slot < slots.slots → result ≡ payload_at slots self slot }
         ensures within { result + self.room < 2 ^ 64 }
     {

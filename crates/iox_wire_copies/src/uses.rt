@@ -18,11 +18,11 @@ ghost use Rattle.iox_wire_locals.specs.Tables.{Setting, state_in};
 ghost use Rattle.iox_wire_seats.specs.Aims.{IsInMemory, QueuesInMemory};
 ghost use Rattle.iox_wire_seats.specs.Seats.{ways_of};
 ghost use Rattle.iox_wire_request_sends.specs.WireLoansAims.{TellsOfSlot};
-ghost use Rattle.iox_wire_request_sends.specs.Lenders.{AreReturning, IsClient, IsLender, IsServer, IsWhole};
+ghost use Rattle.iox_wire_request_sends.specs.Lenders.{AreReturning, HasClientLimits, LenderIsTold, HasServerLimits, IsWhole};
 ghost use Rattle.iox_wire_request_sends.specs.Targets.{AreWithin};
 ghost use Rattle.iox_wire_copies.specs.CopyCalls.{FindsUsed, IsAimed, MayEndCall};
 ghost use Rattle.iox_wire_copies.specs.Copies.{ArePayloads};
-ghost use Rattle.iox_wire_copies.specs.Payloads.{HasRoom};
+ghost use Rattle.iox_wire_copies.specs.Payloads.{SlotsHold};
 ghost use Rattle.iox_wire_copies.specs.ResponseCopies as responses;
 
 use crate::at::{CopyReply, ResponseCopyReply};
@@ -50,14 +50,14 @@ pub fn copy_begins(
     requires seat { is_busy seat.old.seat.local ≡ false }
     requires whole { IsWhole lender.now }
     requires within { QueuesInMemory Index lender.now.room stops.now }
-    requires room { HasRoom lender.now.places places }
+    requires room { SlotsHold lender.now.places places }
     requires fits { (k : ℕ) → elements ≡ Some k → k ≤ lender.now.longest
         → length words.now ≤ places.room }
     requires ways { length stops.now ≤ copying.old.lends.lending.ways_room }
     requires words { lender.now.places.slot_words ≤ copying.old.lends.lending.words_room }
     requires payload { lender.now.places.slot_words ≤ copying.old.lends.payload_room }
     ensures begun { (p : Setting) → (n : ℕ) → (y : Payload) → (q : Port)
-        → q ≡ p.port lender.now.port → IsLender p lender.now → IsClient p lender.now
+        → q ≡ p.port lender.now.port → LenderIsTold p lender.now → HasClientLimits p lender.now
         → number ≡ next_handle p seat.old.seat
         → ways_of stops.now
         ≡ request_ways (known p seat.old.seat) (p.port lender.now.port).node lender.now.port
@@ -129,7 +129,7 @@ pub fn response_copy_begins(
     requires seat { is_busy seat.old.seat.local ≡ false }
     requires whole { IsWhole lender.now }
     requires within { QueuesInMemory Index lender.now.room stops.now }
-    requires room { HasRoom lender.now.places places }
+    requires room { SlotsHold lender.now.places places }
     requires fits { (k : ℕ) → elements ≡ Some k → k ≤ lender.now.longest
         → length words.now ≤ places.room }
     requires messages { IsInMemory terms.messages }
@@ -138,14 +138,14 @@ pub fn response_copy_begins(
     requires words { lender.now.places.slot_words ≤ copying.old.lends.lending.words_room }
     requires payload { lender.now.places.slot_words ≤ copying.old.lends.payload_room }
     ensures begun { (p : Setting) → (n : ℕ) → (y : Payload)
-        → IsLender p lender.now → IsServer p lender.now
+        → LenderIsTold p lender.now → HasServerLimits p lender.now
         → request.port ≡ lender.now.port → number ≡ next_handle p seat.old.seat
         → ways_of stops.now
         ≡ response_ways (known p seat.old.seat) (p.port lender.now.port).node lender.now.port
         → placed seat.new.seat copying.new.local
         ≡ begins_at_entry p seat.old.seat
         (SendCopy n (record y { elements = elements; words = words.now })) request }
-    ensures aimed { (p : Setting) → IsLender p lender.now → IsServer p lender.now
+    ensures aimed { (p : Setting) → LenderIsTold p lender.now → HasServerLimits p lender.now
         → request.port ≡ lender.now.port → number ≡ next_handle p seat.old.seat
         → AreReturning p lender.now.room stops.now
         → ArePayloads p lender.now.port lender.now.places places

@@ -5,7 +5,7 @@ use Rattle.iox_wire_keeps.proofs.Kept.{slot_itself, named_sent, loan_lane}
 use Rattle.iox_steps.specs.Events.{rest, IsTrueOf}
 use Rattle.iox_wire_calls.specs.Courses as courses
 use Rattle.iox_wire_calls.specs.Ending.TheVariants as endings
-use Rattle.iox_wire_calls.specs.Following.{CallMessage, Follows, Sent, Taken, lets_go, message_at, picks_slot, puts_aside, sends_loan, keeps, takes, drops, Lent, OfEntry, TakesOn}
+use Rattle.iox_wire_calls.specs.Following.{CallMessage, NodeContinues, Sent, Taken, lets_go, message_at, picks_slot, puts_aside, sends_loan, keeps, takes, drops, Lent, OfEntry, TakesOn}
 use Rattle.iox_wire_calls.specs.Local.TheVariants.{Ends, LendStores, Writes, ReceivePops}
 use Rattle.iox_wire_calls.specs.NewLoans.{entry_in, loan_words, message_in}
 use Rattle.std.specs.Prelude.{Bool, List, None, false, if◌then◌else◌, length, refl, true, ℕ, ◌+◌, ◌<◌, ◌==◌, ◌∷◌, ◌≡◌, ◌⊎◌, ◌*◌, ◌≤◌}
@@ -41,7 +41,7 @@ use Rattle.iox_wire_calls.specs.FarSlots.{IsInPool}
 use Rattle.iox_wire_keeps.specs.Alone.{IsAlone}
 use Rattle.iox_wire_keeps.proofs.Kept.{Stays, named_entry, stays}
 use Rattle.iox_wire_calls.specs.Regions.{HasRegion}
-use Rattle.iox_wire_calls.specs.Laws.{IsMade, Finds}
+use Rattle.iox_wire_calls.specs.Laws.{AccessIsMade, Finds}
 use Rattle.iox_wire_calls.specs.Named.{place_names}
 use Rattle.iox_wire_calls.specs.Seat.{Seat}
 use Rattle.iox_wire_calls.specs.OwnedBegins.{LayoutFits}
@@ -78,7 +78,7 @@ module _ (p : Setting) (held : Pools) (word word' : ℕ → ℕ) (c : WireConten
     (calls : (k : ℕ) → not_living w.state k ≡ None → CallStands p held (seats k))
     (regions : (port : ℕ) → has_number port p.layout.sizes.ports ≡ true → HasRegion p port) (living : not_living w.state n ≡ None)
     (relies : ReliesOn p (accessed (seats n)) w.state held (seats n).local (seen_by (program_access p.layout (program_of p (seats n).local)) word))
-    (made : IsMade (program_access p.layout (program_of p (seats n).local)) word word') (has : SlotsHoldMessages p held c seats w.state) where
+    (made : AccessIsMade (program_access p.layout (program_of p (seats n).local)) word word') (has : SlotsHoldMessages p held c seats w.state) where
   abbrev seen : ℕ
   seen = seen_by (program_access p.layout (program_of p (seats n).local)) word
 
@@ -274,7 +274,7 @@ module _ (p : Setting) (held : Pools) (word word' : ℕ → ℕ) (c : WireConten
   lending_place (Ends ending) o slot is relies lent = absurd relies
   lending_place local o slot is relies lent = absurd (subst IsLent (sym lent) tt)
 
-  call_goes : Follows p (accessed (seats n)) (seats n).local seen y → CallIsStored p new after (message_at y.local)
+  call_goes : NodeContinues p (accessed (seats n)) (seats n).local seen y → CallIsStored p new after (message_at y.local)
   call_goes (keeps desks message) =
       subst (CallIsStored p new after) (sym message) (kept_call (message_at (seats n).local) refl (has.nodes n living).call)
   call_goes (lets_go desks still message may) = subst (CallIsStored p new after) (sym message) tt

@@ -17,7 +17,7 @@ use Rattle.iox_laws.proofs.WeaveLedger.LedgerHolds.{record_is_what_is_out}
 use Rattle.iox_model.specs.Handles.{is_own, is_received}
 use Rattle.iox_wire_calls.specs.Named.{place_names}
 use Rattle.iox_wire_calls.specs.SlotsKnown.{HasEntry, IsPortOfSeat, NamesStand, PlaceStands}
-use Rattle.iox_wire_calls.specs.Places.{CallFits, IsLoan, IsNext, PlaceFits}
+use Rattle.iox_wire_calls.specs.Places.{CallFits, IsOfLoan, IsNext, PlaceFits}
 use Rattle.iox_wire_calls.proofs.OwnMessages.{own_messages_are_apart, own_messages_are_lent}
 use Rattle.iox_wire_calls.specs.UsedSlots.{CallHolds, slots_in_call, slots_used}
 use Rattle.std.specs.List.{list_any}
@@ -60,7 +60,7 @@ none_if true e = sym e
 none_if false e = refl
 
 -- a loan that was written is no received message
-loan_kept : (kind : Kind) → IsLoan kind → is_received kind ≡ false
+loan_kept : (kind : Kind) → IsOfLoan kind → is_received kind ≡ false
 loan_kept kinds.ActiveRequest is = sym is
 loan_kept kinds.Response is = sym is
 loan_kept kind is = refl
@@ -225,7 +225,7 @@ module _ (p : Setting) (held : Pools) (word : ℕ → ℕ) (c : WireContents) (s
       by_part (inr leaves) = absurd (subst LeavesNothing leaves nothing)
 
   module _ (e : Entry) (words : List ℕ) (has : HasEntry (seats n) e) (doing : w.doing n ≡ Some (Ended (Fills (written (handle_of held n e) words))))
-      (loan : IsLoan e.kind) (nothing : LeavesNothing (message_at (seats n).local)) (writes : (k : Entry) → e ≡ k → IsWritten (seats n).local k) where
+      (loan : IsOfLoan e.kind) (nothing : LeavesNothing (message_at (seats n).local)) (writes : (k : Entry) → e ≡ k → IsWritten (seats n).local k) where
     filled : IsAlone p c seats w.state n e.port e.slot
     filled =
         let own = ((names n living).entries e has).own (loan_kept e.kind loan) in

@@ -16,7 +16,7 @@ use Rattle.iox_wire_calls.specs.Aside.{shown}
 use Rattle.std.specs.Prelude.{Bool, List, None, Some, [], false, if◌then◌else◌, length, refl, true, ℕ, ◌*◌, ◌++◌, ◌+◌, ◌-◌, ◌<◌, ◌==◌, ◌^◌, ◌∷◌, ◌≡◌, ◌≤◌, ◌⊎◌, Option, ◌||◌}
 use Rattle.iox_wire_calls.specs.Stands.{Player, Stands, seats_of, word_of}
 use Rattle.std.proofs.Common.{ap, arith, eqb-true, inl, inr, subst, sym, ◌∙◌, suc}
-use Rattle.iox_wire_calls.specs.Places.{CallFits, IsLoan, OwnersAreSet}
+use Rattle.iox_wire_calls.specs.Places.{CallFits, IsOfLoan, OwnersAreSet}
 use Rattle.iox_wire_calls.specs.Runs.{Asked, GoesOnBy, Run}
 use Rattle.iox_wire_calls.proofs.CallsBegin.{owners_are_set, rested, named, rests, alive}
 use Rattle.iox_wire_calls.proofs.PlaceBegins.{begins_fit}
@@ -143,7 +143,7 @@ module _ (p : Setting) (words : List ℕ) (players : ℕ → Player) (r : Run) (
   reads_owned e there fits =
       (writes_and_reads_begin_as_owners p (players n).seat r.last.state.fixed r.last.state.request_state e [] (has_slot e there)).1
 
-  loan_of : (role : Role) (kind : Kind) → (if is_client role then is_request_loan kind else is_response_loan kind) ≡ true → IsLoan kind
+  loan_of : (role : Role) (kind : Kind) → (if is_client role then is_request_loan kind else is_response_loan kind) ≡ true → IsOfLoan kind
   loan_of Client kind is = ap (λ b. b || is_response_loan kind) is
   loan_of Server kind is = either_is (is_request_loan kind) (is_response_loan kind) is
     where
@@ -151,7 +151,7 @@ module _ (p : Setting) (words : List ℕ) (players : ℕ → Player) (r : Run) (
       either_is true b is = refl
       either_is false b is = is
 
-  writing_owned : (e : Entry) (list : List ℕ) → HasEntry (players n).seat e → IsLoan e.kind → First (begins.writing (players n).seat e list)
+  writing_owned : (e : Entry) (list : List ℕ) → HasEntry (players n).seat e → IsOfLoan e.kind → First (begins.writing (players n).seat e list)
   writing_owned e [] there loan fits = tt
   writing_owned e (word ∷ list) there loan fits =
       (writes_and_reads_begin_as_owners p (players n).seat r.last.state.fixed r.last.state.request_state e (word ∷ list) (has_slot e there)).0 own
@@ -163,7 +163,7 @@ module _ (p : Setting) (words : List ℕ) (players : ℕ → Player) (r : Run) (
       at_most : (a b : ℕ) → a ≡ b → a ≤ b
       at_most a b is = omega (arith, is)
 
-  writes_owned : (e : Entry) (k : Option ℕ) (list : List ℕ) → HasEntry (players n).seat e → IsLoan e.kind → First (begins.writes (players n).seat e k list)
+  writes_owned : (e : Entry) (k : Option ℕ) (list : List ℕ) → HasEntry (players n).seat e → IsOfLoan e.kind → First (begins.writes (players n).seat e k list)
   writes_owned e None list there loan = λ fits. tt
   writes_owned e (Some k) list there loan =
       either First (k == e.elements) (begins.writing (players n).seat e list) (courses.ended (players n).seat (endings.Refuses WrongLength))

@@ -55,7 +55,7 @@ use Rattle.iox_wire_calls.proofs.NodesFollow.{free_pools}
 use Rattle.iox_wire_calls.specs.CallsStand.{moves_words}
 use Rattle.iox_wire_calls.specs.LaneLaws.{HasLanesForSlots}
 use Rattle.iox_wire_calls.specs.Lanes.{AllLanesAreCounted, lanes_in, lanes_used, lent_in}
-use Rattle.iox_wire_calls.specs.Places.{IsLoan, OwnersAreSet, SuitsPort, TakesFirst, is_kind_of}
+use Rattle.iox_wire_calls.specs.Places.{IsOfLoan, OwnersAreSet, SuitsPort, TakesFirst, is_kind_of}
 use Rattle.iox_wire_calls.proofs.HandleKinds.{sent_is}
 use Rattle.iox_wire_calls.proofs.LanesSet.{client_is, is_of_role, lanes_are_set}
 use Rattle.iox_wire_calls.proofs.LanesTell.{in_table, lane_of_client, lanes_are_the_pools, low, request_has, there_is}
@@ -81,7 +81,7 @@ response_of Client kind is response = absurd (true≢false (sym (ap is_request_l
 response_of Server kind is response = (refl, ap is_response_loan is)
 
 -- a loan of no request is one of a response, of a server
-loan_of_server : (role : Role) (kind : Kind) → IsLoan kind → is_request_loan kind ≡ false → is_response_loan kind ≡ true
+loan_of_server : (role : Role) (kind : Kind) → IsOfLoan kind → is_request_loan kind ≡ false → is_response_loan kind ≡ true
 loan_of_server role kind loan not = subst (λ b. (b || is_response_loan kind) ≡ true) not loan
 
 response_server : (role : Role) (kind : Kind) → is_kind_of role kind ≡ true → is_response_loan kind ≡ true → role ≡ Server
@@ -214,7 +214,7 @@ module _ (p : Setting) (words : List ℕ) (players : ℕ → Player) (r : Run) (
 
   -- ---- sends and hints
 
-  sends : (e : Entry) → HasEntry x e → SuitsPort p x e.port e.kind → IsLoan e.kind → First (courses.sends p x e false)
+  sends : (e : Entry) → HasEntry x e → SuitsPort p x e.port e.kind → IsOfLoan e.kind → First (courses.sends p x e false)
   sends e there its loan =
       sends_begin_as_owners p x f stands.held r.last.state.request_state e false stands.layout knows (record {
         own = ((node.names.entries e there).own (loan_kept e.kind loan)).1;

@@ -27,7 +27,7 @@ use Rattle.iox_steps.specs.Sites.{size}
 use Rattle.iox_wire_calls.specs.Tables.{Setting, entry_at, port_shape, words_before_payload}
 use Rattle.iox_model.specs.Maps.{has_number, put_at}
 use Rattle.iox_wire_keeps.proofs.Kept.{Stays, named_entry, node_stays, stays}
-use Rattle.iox_wire_calls.specs.Places.{CallFits, IsLoan, PlaceFits}
+use Rattle.iox_wire_calls.specs.Places.{CallFits, IsOfLoan, PlaceFits}
 use Rattle.iox_wire_calls.specs.Fits.{WireContents}
 use Rattle.iox_wire_calls.proofs.Counting.{used}
 use Rattle.iox_wire_calls.specs.NewLoan.{NewLoan}
@@ -133,7 +133,7 @@ module _ (p : Setting) (held : Pools) (word : ℕ → ℕ) (c : WireContents) (s
       by_part (inr leaves) = absurd (subst LeavesNothing leaves (subst (λ l. LeavesNothing (message_at l)) (sym idle) tt))
 
   -- the words of the entry's message before its payload stand there
-  written_now : (e : Entry) (words : List ℕ) (count : ℕ) → IsLoan e.kind → HasEntry y e → count ≡ 0 → length words ≡ e.elements * (port_shape p e.port).width
+  written_now : (e : Entry) (words : List ℕ) (count : ℕ) → IsOfLoan e.kind → HasEntry y e → count ≡ 0 → length words ≡ e.elements * (port_shape p e.port).width
       → StandsWritten p new c e words count
   written_now e words count loan there none long =
       let its : HasEntry (seats n) e = has_before e there in

@@ -31,7 +31,7 @@ use Rattle.iox_wire_calls.specs.FarSlots.{IsInPool, TakesFromPool}
 use Rattle.iox_wire_calls.specs.Fits.{MayRun}
 use Rattle.iox_wire_calls.specs.Following.{LeavesNothing, Leaving, message_at}
 use Rattle.iox_wire_calls.specs.Known.{loans_at}
-use Rattle.iox_wire_calls.specs.Laws.{Finds, IsMade}
+use Rattle.iox_wire_calls.specs.Laws.{Finds, AccessIsMade}
 use Rattle.iox_wire_calls.specs.Local.{Local}
 use Rattle.iox_wire_calls.specs.Local.TheVariants.{Ends, LendEmpties, ReceiveLooks, ReceivePops, ReceiveReturns, ReleaseReturns, Seeks, SendEmpties, SendEnds, SendEvicts, SendGetsBack, SendLooks, SendPushes}
 use Rattle.iox_wire_calls.specs.Locals.{program_of}
@@ -100,7 +100,7 @@ no_call p local ending seen y slot is names = none-some ending is
 
 module _ (p : Setting) (words words' : List ℕ) (players : ℕ → Player) (r : Run) (n : ℕ) (wire : WireStands p words players r)
     (living : not_living r.last.state n ≡ None) (busy : is_busy (players n).seat.local ≡ true) (few : (players n).seat.accesses < last_position)
-    (made : IsMade (program_access p.layout (program_of p (players n).seat.local)) (word_of words) (word_of words')) (len : length words' ≡ length words) where
+    (made : AccessIsMade (program_access p.layout (program_of p (players n).seat.local)) (word_of words) (word_of words')) (len : length words' ≡ length words) where
   abbrev H : Way → ℕ → Type 0
   H y slot = HoldsLent p wire.stands.held y.sender slot
 
@@ -160,7 +160,7 @@ module _ (p : Setting) (words words' : List ℕ) (players : ℕ → Player) (r :
 
   -- ---- what a program finds
 
-  made_too : IsMade (program_access p.layout (program_of p (seats_of p players n).local)) (word_of words) (word_of words')
+  made_too : AccessIsMade (program_access p.layout (program_of p (seats_of p players n).local)) (word_of words) (word_of words')
   made_too = messages.made_too p words words' players r n wire living busy few made len
 
   may_run : MayRun p.layout n (program_of p (seats_of p players n).local)

@@ -9,7 +9,7 @@ use Rattle.iox_wire_keeps.specs.Stored.{IsWritten}
 use Rattle.iox_wire_calls.specs.Tables.{Setting}
 use Rattle.iox_wire_calls.specs.MomentsOf.{Pools}
 use Rattle.iox_wire_calls.specs.SlotsKnown.{HasEntry, PlaceStands}
-use Rattle.iox_wire_calls.specs.Places.{IsLoan, PlaceFits}
+use Rattle.iox_wire_calls.specs.Places.{IsOfLoan, PlaceFits}
 use Rattle.iox_wire_calls.specs.Ending.{Ending}
 use Rattle.iox_wire_calls.specs.Seat.{Seat}
 use Rattle.iox_wire_calls.specs.Entry.{Entry}
@@ -22,7 +22,7 @@ use Rattle.iox_wire_calls.specs.Steps.{next}
 use Rattle.iox_wire_calls.specs.Places.{CallFits}
 
 -- a loan that was written is no received message
-pub loan_kept : (kind : Kind) → IsLoan kind → is_received kind ≡ false
+pub loan_kept : (kind : Kind) → IsOfLoan kind → is_received kind ≡ false
 loan_kept kinds.ActiveRequest is = sym is
 loan_kept kinds.Response is = sym is
 loan_kept kind is = refl
@@ -31,7 +31,7 @@ loan_kept kind is = refl
 pub written_own : (p : Setting) (held : Pools) (s : State) (x : Seat) → NodeStands p held s x → CallFits p x → (e : Entry) → IsWritten x.local e → e.sender ≡ e.port
 written_own p held s x stands fits e its = by_place x.local its fits.place stands.names.place
   where
-    of_entry : (i : Entry) → i ≡ e → IsLoan i.kind → HasEntry x i → e.sender ≡ e.port
+    of_entry : (i : Entry) → i ≡ e → IsOfLoan i.kind → HasEntry x i → e.sender ≡ e.port
     of_entry i same loan there = subst (λ (q : Entry). q.sender ≡ q.port) same ((stands.names.entries i there).own (loan_kept i.kind loan)).1
 
     by_ending : (ending : Ending) → IsWritten (Ends ending) e → PlaceFits p x (Ends ending) → PlaceStands p s.fixed x (Ends ending) → e.sender ≡ e.port

@@ -35,7 +35,8 @@ use Rattle.iox_steps.specs.declared.side.Popping.{Popping}
 use Rattle.iox_model.specs.declared.way.Way.{Way}
 use Rattle.iox_wire_calls.specs.Visit.{Visit}
 
--- the place lends, writes and reads nothing, loaded no word of a header, and tells none of a read
+-- the place lends, writes and reads nothing, loaded no word of a header, tells none of a read, and is not
+-- that of a Forget
 abbrev pub IsQuiet : Local → Type 0
 IsQuiet (LendEmpties o w place left) = ⊥
 IsQuiet (LendStores o slot next) = ⊥
@@ -47,6 +48,7 @@ IsQuiet (Ends (endings.Lends o slot)) = ⊥
 IsQuiet (Ends (endings.Fills e words)) = ⊥
 IsQuiet (Ends (endings.Words words)) = ⊥
 IsQuiet (Ends (endings.Receives v w slot header)) = ⊥
+IsQuiet (Ends (endings.Forgets dead)) = ⊥
 IsQuiet local = Unit {0}
 
 module _ (p : Setting) (x : Seat) where

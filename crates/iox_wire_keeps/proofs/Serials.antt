@@ -20,7 +20,7 @@ use Rattle.iox_wire_calls.specs.Ending.{Ending}
 use Rattle.iox_wire_calls.specs.Ending.TheVariants as endings
 use Rattle.iox_wire_calls.specs.Entry.{Entry}
 use Rattle.iox_wire_calls.specs.FarSlots.{IsInPool}
-use Rattle.iox_wire_calls.specs.Following.{CallMessage, DeskChange, Delivered, Follows, GotBack, IsLending, Lent, NoMessage, Unchanged, changed, desk_change, drops, keeps, lets_go, message_at, message_ended, picks_slot, puts_aside, sends_loan, takes}
+use Rattle.iox_wire_calls.specs.Following.{CallMessage, DeskChange, Delivered, NodeContinues, GotBack, IsLending, Lent, NoMessage, Unchanged, changed, desk_change, drops, keeps, lets_go, message_at, message_ended, picks_slot, puts_aside, sends_loan, takes}
 use Rattle.iox_wire_calls.specs.Holding.{held_after, held_at, held_from, held_with}
 use Rattle.iox_wire_calls.specs.Known.{known}
 use Rattle.iox_wire_calls.specs.Local.{Local}
@@ -268,7 +268,7 @@ module _ (p : Setting) (x : Seat) (seen : ℕ) (held : Pools) (payload : List �
   lists_of : y.desks ≡ x.desks → (port : ℕ) → serials_at (advance p (accessed x) x.local seen) port ≡ serials_at x port
   lists_of desks port = ap (serials_in port) desks
 
-  by_follows : Follows p (accessed x) x.local seen (advance p (accessed x) x.local seen)
+  by_follows : NodeContinues p (accessed x) x.local seen (advance p (accessed x) x.local seen)
       → Same x (next p x seen) held (held_next p x seen payload held)
       ⊎ (Took x (next p x seen) held (held_next p x seen payload held) (next p x seen).local × IsLending x.local)
   by_follows (keeps desks message) =

@@ -1,7 +1,7 @@
 -- What an access leaves in the slots: only a free slot gets another message, only the slot that it
 -- stores into gets other words, and what other nodes hold stays.
 use Rattle.iox_wire_calls.specs.Ending.TheVariants as endings
-use Rattle.iox_wire_calls.specs.Following.{CallMessage, Dropped, Follows, Leaving, NoMessage, Sent, Taken, lets_go, message_at, picks_slot, puts_aside, sends_loan, keeps, takes, drops}
+use Rattle.iox_wire_calls.specs.Following.{CallMessage, Dropped, NodeContinues, Leaving, NoMessage, Sent, Taken, lets_go, message_at, picks_slot, puts_aside, sends_loan, keeps, takes, drops}
 use Rattle.iox_wire_calls.specs.Local.TheVariants.{Ends, LendStores, Writes}
 use Rattle.iox_wire_calls.specs.NewLoans.{entry_in, message_in}
 use Rattle.std.specs.Prelude.{None, false, refl, true, ℕ, ◌==◌, ◌≡◌, ◌⊎◌}
@@ -82,7 +82,7 @@ module _ (p : Setting) (held : Pools) (word : ℕ → ℕ) (c : WireContents) (s
   not_held : (message : CallMessage) → message_at y.local ≡ message → NotLent message → (new ≡ held) ⊎ Took
   not_held message is not = inl (held_not p held (seats n).local y.local (not_stores y.local message is not))
 
-  held_now : Follows p (accessed (seats n)) (seats n).local seen y → (new ≡ held) ⊎ Took
+  held_now : NodeContinues p (accessed (seats n)) (seats n).local seen y → (new ≡ held) ⊎ Took
   held_now (keeps desks message) = inl (held_stays p held w.state (accessed (seats n)) seen (seats n).local y.local relies message)
   held_now (lets_go desks still message may) = not_held NoMessage message tt
   held_now (takes way slot desks still message took) = not_held (Taken way slot) message tt

@@ -38,7 +38,7 @@ use Rattle.iox_wire_calls.specs.Shows.{OwnsPlace}
 use Rattle.iox_wire_calls.specs.Known.{loans_at}
 use Rattle.iox_laws.proofs.WeaveLedger.Truths.{none-some}
 use Rattle.std.specs.List.{list_any}
-use Rattle.iox_wire_calls.specs.Laws.{IsMade}
+use Rattle.iox_wire_calls.specs.Laws.{AccessIsMade}
 use Rattle.iox_wire_calls.proofs.Aside.{shown_nodes_run_the_same}
 use Rattle.iox_model.specs.Maps.{has_number, put_at}
 use Rattle.iox_steps.specs.Accesses.{seen_by}
@@ -46,7 +46,7 @@ use Rattle.iox_wire_calls.specs.Locals.{program_of}
 use Rattle.iox_wire_calls.specs.LoanSlots.{LoansStand, WordsAreTold}
 use Rattle.iox_wire_keeps.proofs.MessageEnds.{ends_leave_messages}
 use Rattle.iox_wire_calls.specs.StateMoments.{moment_at}
-use Rattle.iox_wire_calls.specs.Places.{IsLoan, PlaceFits}
+use Rattle.iox_wire_calls.specs.Places.{IsOfLoan, PlaceFits}
 use Rattle.iox_wire_calls.specs.Local.{Local}
 use Rattle.iox_wire_calls.specs.OwnedCalls.{state_after}
 use Rattle.iox_wire_calls.specs.StepLaws.{ReliesOn}
@@ -68,7 +68,7 @@ use Rattle.iox_wire_keeps.proofs.OwnWrites.{loan_kept, written_own}
 
 module _ (p : Setting) (words words' : List ℕ) (players : ℕ → Player) (r : Run) (n : ℕ) (wire : WireStands p words players r)
     (living : not_living r.last.state n ≡ None) (busy : is_busy (players n).seat.local ≡ true) (few : (players n).seat.accesses < last_position)
-    (made : IsMade (program_access p.layout (program_of p (players n).seat.local)) (word_of words) (word_of words')) (len : length words' ≡ length words) where
+    (made : AccessIsMade (program_access p.layout (program_of p (players n).seat.local)) (word_of words) (word_of words')) (len : length words' ≡ length words) where
   abbrev k : ℕ
   k = seen_by (program_access p.layout (program_of p (seats_of p players n).local)) (word_of words)
 
@@ -87,8 +87,8 @@ module _ (p : Setting) (words words' : List ℕ) (players : ℕ → Player) (r :
   pub same_seen : k ≡ j
   same_seen = ap (λ (g : Program). seen_by (program_access p.layout g) (word_of words)) runs
 
-  pub made_too : IsMade (program_access p.layout (program_of p (seats_of p players n).local)) (word_of words) (word_of words')
-  made_too = subst (λ g. IsMade (program_access p.layout g) (word_of words) (word_of words')) (sym runs) made
+  pub made_too : AccessIsMade (program_access p.layout (program_of p (seats_of p players n).local)) (word_of words) (word_of words')
+  made_too = subst (λ g. AccessIsMade (program_access p.layout g) (word_of words) (word_of words')) (sym runs) made
 
   pub owns_place : OwnsPlace p wire.stands.held r.last.state (seats_of p players n)
   owns_place = (owners_may_access p wire.stands.held r.last.state (seats_of p players n) node.owns.owns node.tells).0
@@ -212,7 +212,7 @@ module _ (p : Setting) (words words' : List ℕ) (players : ℕ → Player) (r :
     own_then : (i : ℕ) → not_living r.last.state i ≡ None → (e : Entry) → IsWritten (put_at (seats_of p players) n y i).local e → e.sender ≡ e.port
     own_then i lives e its = by_node (i == n) refl its
       where
-        of_entry : (q : Entry) → q ≡ e → IsLoan q.kind → HasEntry y q → e.sender ≡ e.port
+        of_entry : (q : Entry) → q ≡ e → IsOfLoan q.kind → HasEntry y q → e.sender ≡ e.port
         of_entry q same loan there = subst (λ (d : Entry). d.sender ≡ d.port) same ((is_over.entries q there).own (loan_kept q.kind loan)).1
 
         by_ending : (e' : Ending) → e' ≡ ending → IsWritten (Ends e') e → PlaceFits p y (Ends e') → e.sender ≡ e.port

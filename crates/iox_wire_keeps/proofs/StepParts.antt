@@ -16,7 +16,7 @@ use Rattle.iox_wire_calls.specs.Stored.{header_words, message_words}
 use Rattle.iox_wire_calls.specs.Fits.{WireContents, contents_after}
 use Rattle.iox_wire_calls.specs.Aside.{aside, shown_at, with_aside, shown}
 use Rattle.iox_wire_calls.specs.NewLoans.{entry_in, loan_words}
-use Rattle.iox_wire_calls.specs.Following.{CallMessage, Dropped, Follows, LeavesNothing, Leaving, Lent, NoMessage, OfEntry, Sent, Taken, lets_go, message_at, picks_slot, puts_aside, sends_loan}
+use Rattle.iox_wire_calls.specs.Following.{CallMessage, Dropped, NodeContinues, LeavesNothing, Leaving, Lent, NoMessage, OfEntry, Sent, Taken, lets_go, message_at, picks_slot, puts_aside, sends_loan}
 use Rattle.iox_laws.proofs.WeaveLaws.MapLemmas.{either}
 use Rattle.iox_wire_calls.specs.Courses.{placed}
 use Rattle.iox_wire_keeps.specs.MessageEnds.{PayloadStands}
@@ -282,7 +282,7 @@ module _ (p : Setting) (x : Seat) (seen : ℕ) where
   by_message : (m : CallMessage) → message_at y.local ≡ m → NoWords m → NoFill y.local
   by_message m is none = no_fill y.local (subst NoWords (sym is) none)
 
-  pub follows_none : NoWords (message_at x.local) → Follows p (accessed x) x.local seen (advance p (accessed x) x.local seen) → NoFill (advance p (accessed x) x.local seen).local
+  pub follows_none : NoWords (message_at x.local) → NodeContinues p (accessed x) x.local seen (advance p (accessed x) x.local seen) → NoFill (advance p (accessed x) x.local seen).local
   follows_none none (keeps desks message) = by_message (message_at x.local) message none
   follows_none none (lets_go desks still message may) = by_message NoMessage message tt
   follows_none none (takes w slot desks still message took) = by_message (Taken w slot) message tt

@@ -25,7 +25,7 @@ use Rattle.iox_wire_calls.specs.Programs.{program_access}
 use Rattle.std.proofs.Common.{ap, subst, sym, true≢false, ◌∙◌, eqb-true, inl, inr}
 use Rattle.iox_wire_calls.specs.Shows.{OwnsPlace}
 use Rattle.iox_wire_calls.specs.Known.{loans_at}
-use Rattle.iox_wire_calls.specs.Laws.{IsMade}
+use Rattle.iox_wire_calls.specs.Laws.{AccessIsMade}
 use Rattle.iox_model.specs.Maps.{has_number, put_at}
 use Rattle.iox_steps.specs.Accesses.{seen_by}
 use Rattle.iox_wire_calls.specs.Locals.{program_of}
@@ -55,7 +55,7 @@ use Rattle.iox_wire_keeps.proofs.WireSerials.{stepped_serials}
 
 module _ (p : Setting) (words words' : List ℕ) (players : ℕ → Player) (r : Run) (n : ℕ) (wire : WireStands p words players r)
     (living : not_living r.last.state n ≡ None) (busy : is_busy (players n).seat.local ≡ true) (few : (players n).seat.accesses < last_position)
-    (made : IsMade (program_access p.layout (program_of p (players n).seat.local)) (word_of words) (word_of words')) (len : length words' ≡ length words) where
+    (made : AccessIsMade (program_access p.layout (program_of p (players n).seat.local)) (word_of words) (word_of words')) (len : length words' ≡ length words) where
   abbrev k : ℕ
   k = seen_by (program_access p.layout (program_of p (seats_of p players n).local)) (word_of words)
 

@@ -10,7 +10,7 @@ use Rattle.iox_wire_calls.specs.StepLaws.{ReliesOn}
 use Rattle.iox_wire_calls.specs.Holding.{held_after}
 use Rattle.iox_wire_calls.specs.Programs.{program_access}
 use Rattle.iox_model.specs.Maps.{has_number, put_at}
-use Rattle.iox_wire_calls.specs.Laws.{IsMade}
+use Rattle.iox_wire_calls.specs.Laws.{AccessIsMade}
 use Rattle.iox_wire_calls.specs.Tables.{Setting}
 use Rattle.iox_wire_calls.specs.Regions.{HasRegion}
 use Rattle.iox_wire_keeps.specs.Stored.{SlotsHoldMessages}
@@ -36,7 +36,7 @@ AccessesLeaveMessages =
     → not_living w.state n ≡ None
     → let x = seats n in let access = program_access p.layout (program_of p x.local) in
     let seen = seen_by access word in
-    ReliesOn p (accessed x) w.state held x.local seen → IsMade access word word'
+    ReliesOn p (accessed x) w.state held x.local seen → AccessIsMade access word word'
     → SlotsHoldMessages p held c seats w.state
     → SlotsHoldMessages p (held_after p x seen held)
     (contents_after p.layout (program_of p x.local) seen c)

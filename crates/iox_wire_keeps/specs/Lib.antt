@@ -21,6 +21,7 @@ pub use Rattle.iox_wire_calls.specs.Courses
 pub use Rattle.iox_wire_calls.specs.Delivery
 pub use Rattle.iox_wire_calls.specs.Desk
 pub use Rattle.iox_wire_calls.specs.Desks as LocalsDesks
+pub use Rattle.iox_wire_calls.specs.Doings
 pub use Rattle.iox_wire_calls.specs.Ending
 pub use Rattle.iox_wire_calls.specs.Entry
 pub use Rattle.iox_wire_calls.specs.Findings
@@ -55,6 +56,7 @@ pub use Rattle.iox_wire_calls.specs.Settlements
 pub use Rattle.iox_wire_calls.specs.Shows
 pub use Rattle.iox_wire_calls.specs.SlotsKnown
 pub use Rattle.iox_wire_calls.specs.Stands
+pub use Rattle.iox_wire_calls.specs.StateMoments
 pub use Rattle.iox_wire_calls.specs.Steps
 pub use Rattle.iox_wire_calls.specs.Tables
 pub use Rattle.iox_wire_calls.specs.UsedSlots

@@ -14,7 +14,7 @@ use Rattle.iox_steps.specs.declared.side.QueueEvent.TheVariants.{HandOut, Learn,
 use Rattle.iox_word_map.specs.WordMaps.{MessageQueue, ReturningQueue}
 use Rattle.iox_wire_calls.specs.Begins.{is_busy}
 use Rattle.iox_wire_calls.specs.FarSlots.{IsInPool}
-use Rattle.iox_wire_calls.specs.Laws.{IsMade}
+use Rattle.iox_wire_calls.specs.Laws.{AccessIsMade}
 use Rattle.iox_wire_calls.specs.Locals.{program_of}
 use Rattle.iox_wire_calls.specs.MomentsOf.{Pools}
 use Rattle.iox_wire_calls.specs.Programs.{Pops, Program, Pushes, WireLayout, program_access, site_of}
@@ -51,7 +51,7 @@ NamedSlotsHoldLent =
     → not_living r.last.state n ≡ None
     → let x = (players n).seat in let access = program_access p.layout (program_of p x.local) in
     is_busy x.local ≡ true → x.accesses < last_position
-    → IsMade access (word_of words) (word_of words') → length words' ≡ length words
+    → AccessIsMade access (word_of words) (word_of words') → length words' ≡ length words
     → (y : Way) (slot : ℕ)
     → Names p.layout (program_of p x.local) (seen_by access (word_of words)) y slot
     → HoldsLent p wire.stands.held y.sender slot

@@ -21,7 +21,7 @@ use Rattle.iox_wire_calls.specs.Openings.{AgreesWith, OverflowsWithRoom, opened_
 use Rattle.iox_wire_calls.specs.Runs.{GoesOnBy, Run}
 use Rattle.iox_wire_calls.specs.Begins.{is_busy}
 use Rattle.iox_steps.specs.Sites.{last_position}
-use Rattle.iox_wire_calls.specs.Laws.{IsMade}
+use Rattle.iox_wire_calls.specs.Laws.{AccessIsMade}
 use Rattle.iox_wire_calls.specs.CallsStand.{CallsStand}
 use Rattle.iox_wire_calls.specs.Programs.{program_access}
 use Rattle.iox_model.specs.Runs.{IsReachableState}
@@ -70,7 +70,7 @@ SteppedWiresStand =
     → let x = (players n).seat in let access = program_access p.layout (program_of p x.local) in
     let seen = seen_by access (word_of words) in
     is_busy x.local ≡ true → x.accesses < last_position
-    → IsMade access (word_of words) (word_of words') → length words' ≡ length words
+    → AccessIsMade access (word_of words) (word_of words') → length words' ≡ length words
     → (payload : List ℕ) × (after : Run)
     × GoesOnWith r
     (step_beats n payload (moment_at p wire.stands.held x.local seen) (tells p x seen)) after

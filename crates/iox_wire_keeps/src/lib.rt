@@ -11,7 +11,8 @@ ghost use Rattle.iox_wire_keeps.specs.MessageEnds.{EndsLeaveMessages};
 ghost use Rattle.iox_wire_keeps.specs.NamedSlots.{NamedSlotsHoldLent};
 ghost use Rattle.iox_wire_keeps.specs.Stored.{DeathsLeaveSlots, OpenedSlotsHoldMessages};
 ghost use Rattle.iox_wire_keeps.specs.Stored.{StoredWordsAreTold};
-ghost use Rattle.iox_wire_keeps.specs.WireStands.{OpenedWiresStand, SteppedWiresStand, WiresStandAfterDeaths};
+ghost use Rattle.iox_wire_keeps.specs.WireStands.{OpenedWiresStand, SteppedWiresStand};
+ghost use Rattle.iox_wire_keeps.specs.WireStands.{WiresStandAfterDeaths};
 
 /// The accesses of a node bound its queues and its loans as a wire opens, as calls begin, and after
 /// each step.
@@ -48,15 +49,13 @@ pub fn ends_leave_messages()
     ensures { EndsLeaveMessages }
 {}
 
-/// A wire stands as it opens, and after deaths.
+/// A wire stands as it opens, as a call begins that is not refused, after each step of a living
+/// node with a call, and after deaths.
 pub fn wires_stand()
     ensures opened { OpenedWiresStand }
+    ensures begun { BegunWiresStand }
+    ensures stepped { SteppedWiresStand }
     ensures dead { WiresStandAfterDeaths }
-{}
-
-/// And it stands after each step of a living node with a call.
-pub fn steps_keep()
-    ensures { SteppedWiresStand }
 {}
 
 /// The slots that an access names hold messages of loans.
@@ -67,9 +66,4 @@ pub fn named_slots_hold_lent()
 /// As a call begins slots hold their messages.
 pub fn begins_leave_messages()
     ensures { BeginsLeaveMessages }
-{}
-
-/// A wire stands as a call begins that is not refused.
-pub fn begins_keep()
-    ensures { BegunWiresStand }
 {}

@@ -16,7 +16,7 @@ use Rattle.iox_wire_lenders.specs.declared.terms.PortTerms.{PortTerms}
 use Rattle.iox_wire_lenders.specs.declared.terms.WireTerms.{WireTerms}
 use Rattle.iox_wire_lenders.specs.Terms.{IsPortWith, IsSettingWith, messages_of}
 use Rattle.iox_wire_ways.specs.Lender.{Lender}
-use Rattle.iox_wire_ways.specs.Lenders.{AreSlots, IsClient, IsLender, IsServer}
+use Rattle.iox_wire_ways.specs.Lenders.{AreSlots, HasClientLimits, LenderIsTold, HasServerLimits}
 use Rattle.iox_wire_ways.specs.Tables.{Setting, port_shape}
 
 -- no message that fits lacks a layout
@@ -47,7 +47,7 @@ module _ (plan : WirePlan) (is : IsPlan plan) (i : ℕ) (q : PlanPort) (low : i 
 
   module _ (t2 : Lender) (number : t2.port ≡ q.number) (role : t2.role ≡ q.role) where
     pub is_lender : t2.many ≡ (messages_of t q.role).many → t2.longest ≡ q.longest → t2.ids.now ≡ own.ids.items
-        → t2.user.now ≡ (messages_of t q.role).user.items → AreSlots p (number_at plan i) t2.places → IsLender p t2
+        → t2.user.now ≡ (messages_of t q.role).user.items → AreSlots p (number_at plan i) t2.places → LenderIsTold p t2
     is_lender many longest ids user slots = record {
       number = ap (λ n. (p.port n).number) number ∙ planned.number ∙ sym number;
       role = ap (λ n. (p.port n).role) number ∙ planned.role ∙ sym role;
@@ -61,14 +61,14 @@ module _ (plan : WirePlan) (is : IsPlan plan) (i : ℕ) (q : PlanPort) (low : i 
       slots = subst (λ (n : ℕ). AreSlots p n t2.places) (number_there ∙ sym number) slots;
     }
 
-    pub is_client : q.role ≡ Client → t2.limit ≡ t.loaned_requests → t2.pool ≡ q.pool → IsClient p t2
+    pub is_client : q.role ≡ Client → t2.limit ≡ t.loaned_requests → t2.pool ≡ q.pool → HasClientLimits p t2
     is_client kind limit pool = record {
       role = role ∙ kind;
       limit = with.loaned_requests ∙ sym limit;
       pool = ap (λ n. (p.port n).pool) number ∙ planned.pool ∙ sym pool;
     }
 
-    pub is_server : q.role ≡ Server → t2.each ≡ own.loaned_responses → t2.limit ≡ own.loaned_responses * plan.limits.active_requests * t.clients → IsServer p t2
+    pub is_server : q.role ≡ Server → t2.each ≡ own.loaned_responses → t2.limit ≡ own.loaned_responses * plan.limits.active_requests * t.clients → HasServerLimits p t2
     is_server kind each limit = record {
       role = role ∙ kind;
       each = ap (λ n. (p.port n).loaned_responses) number ∙ port_with.loaned_responses ∙ sym each;

@@ -3,7 +3,7 @@ ghost use Rattle.std.specs.Prelude.{◌≡◌};
 ghost use Rattle.iox_model.specs.declared.kind.Role.TheVariants.{Client, Server};
 ghost use Rattle.iox_wire_ways.specs.Plans.{IsPortAt, IsSlotAt, number_at};
 ghost use Rattle.iox_wire_lenders.specs.Terms.{FitsPlan, IsSettingWith};
-ghost use Rattle.iox_wire_ways.specs.Lenders.{IsClient, IsLender, IsServer, IsWhole};
+ghost use Rattle.iox_wire_ways.specs.Lenders.{HasClientLimits, LenderIsTold, HasServerLimits, IsWhole};
 ghost use Rattle.iox_wire_ways.specs.Tables.{Setting};
 ghost use Rattle.iox_wire_ways.specs.PlannedSlots.{HasHeader, longest_of, planned_slots};
 ghost use Rattle.iox_wire_ways.specs.Visits.{pool_of};
@@ -20,11 +20,11 @@ pub fn make_lender<'a>(map: &WordMap, terms: &'a WireTerms, port: usize, room: u
     requires header { HasHeader map.now port }
     requires fits { FitsPlan map.now terms.now }
     ensures lender { (p : Setting) → IsSettingWith map.now terms.now p
-        → IsLender p result }
+        → LenderIsTold p result }
     ensures client { (p : Setting) → IsSettingWith map.now terms.now p
-        → IsPortAt map.now Client port → IsClient p result }
+        → IsPortAt map.now Client port → HasClientLimits p result }
     ensures server { (p : Setting) → IsSettingWith map.now terms.now p
-        → IsPortAt map.now Server port → IsServer p result }
+        → IsPortAt map.now Server port → HasServerLimits p result }
     ensures whole { IsWhole result }
     ensures number { result.port ≡ number_at map.now port }
     ensures room { result.room ≡ room }

@@ -14,7 +14,7 @@ use Rattle.iox_wire_locals.specs.declared.table.Entry.{Entry}
 use Rattle.iox_wire_locals.specs.Known.{told_handle, known}
 use Rattle.iox_wire_locals.specs.Tables.{Setting, port_shape}
 use Rattle.iox_wire_loans.specs.declared.lender.Lender.{Lender}
-use Rattle.iox_wire_loans.specs.Lenders.{IsLender, IsClient, IsServer}
+use Rattle.iox_wire_loans.specs.Lenders.{LenderIsTold, HasClientLimits, HasServerLimits}
 use Rattle.iox_wire_loans.specs.Loans.{length_refused, request_refused, response_refused}
 
 -- ---- the handles of a port, counted in the node's own table
@@ -55,7 +55,7 @@ joined (Some r) b c = refl
 joined None b c = refl
 
 -- a client's tests
-pub request_refused_is : (p : Setting) (x : Seat) (t : Lender) (k : ℕ) → IsLender p t → IsClient p t
+pub request_refused_is : (p : Setting) (x : Seat) (t : Lender) (k : ℕ) → LenderIsTold p t → HasClientLimits p t
     → request_refused p x (p.port t.port) k
     ≡ or_else (length_refused t.many t.longest k)
     (refused_if (nat_le t.limit (length (filter (λ e. (e.port == t.port) && is_request_loan e.kind) x.table))) ExceedsMaxLoans)
@@ -73,7 +73,7 @@ request_refused_is p x t k lender client =
     ∙ joined (refused_if (not (t.many || (k == 1))) WrongLength) (refused_if (not (nat_le k t.longest)) ExceedsMaxLoanSize) _
 
 -- a server's tests
-pub response_refused_is : (p : Setting) (x : Seat) (t : Lender) (e : Entry) (k : ℕ) → IsLender p t → IsServer p t → e.port ≡ t.port
+pub response_refused_is : (p : Setting) (x : Seat) (t : Lender) (e : Entry) (k : ℕ) → LenderIsTold p t → HasServerLimits p t → e.port ≡ t.port
     → response_refused p x e k
     ≡ or_else (length_refused t.many t.longest k)
     (or_else

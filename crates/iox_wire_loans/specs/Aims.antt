@@ -26,6 +26,7 @@ use Rattle.iox_wire_seats.specs.declared.stops.Stop.{Stop}
 use Rattle.iox_wire_loans.specs.declared.at.LendAt.{LendAt}
 use Rattle.iox_wire_loans.specs.declared.at.LendAt.TheVariants as at
 use Rattle.iox_wire_loans.specs.declared.at.LendReply.{LendReply}
+use Rattle.iox_wire_loans.specs.declared.at.LendReply.TheVariants as lend_replies
 use Rattle.iox_wire_loans.specs.declared.order.Order.{Order}
 use Rattle.iox_wire_loans.specs.declared.slot_places.SlotPlaces.{SlotPlaces}
 use Rattle.iox_wire_loans.specs.Lenders.{AreReturning, AreSlots, IsWithin, word_at}
@@ -117,6 +118,11 @@ abbrev pub Answers : Placed → Loaned → ℕ → Option LendReply → Type 0
 Answers x r seen reply =
     (p : Setting) → IsAimed p x.seat r
     → tells p (placed x.seat r.local) seen ≡ option_map reply_in reply
+
+-- if it is over it is refused
+abbrev pub IsNoHandle : Option LendReply → Type 0
+IsNoHandle (Some (lend_replies.Handle number)) = ⊥
+IsNoHandle reply = Unit {0}
 
 -- and it knows the places of what it accesses next.
 abbrev pub StaysAimed : Placed → Loaned → Placed → Loaned → Type 0

@@ -56,7 +56,7 @@ pub record IsWhole (t : Lender) : Type 0 where
   pub within : IsWithin t.places
 
 -- What is told of the port is so on the wire, as far as all loans ask it.
-pub record IsLender (p : Setting) (t : Lender) : Type 0 where
+pub record LenderIsTold (p : Setting) (t : Lender) : Type 0 where
   pub number : (p.port t.port).number ≡ t.port
   pub role : (p.port t.port).role ≡ t.role
   -- how many elements a message may have
@@ -68,13 +68,13 @@ pub record IsLender (p : Setting) (t : Lender) : Type 0 where
   pub slots : AreSlots p t.port t.places
 
 -- So many loans a client may have, and that number is no lane of it.
-pub record IsClient (p : Setting) (t : Lender) : Type 0 where
+pub record HasClientLimits (p : Setting) (t : Lender) : Type 0 where
   pub role : t.role ≡ Client
   pub limit : p.limits.loaned_requests ≡ t.limit
   pub pool : (p.port t.port).pool ≡ t.pool
 
 -- So many loans a server may have for one request, and so many in all.
-pub record IsServer (p : Setting) (t : Lender) : Type 0 where
+pub record HasServerLimits (p : Setting) (t : Lender) : Type 0 where
   pub role : t.role ≡ Server
   pub each : (p.port t.port).loaned_responses ≡ t.each
   pub limit :

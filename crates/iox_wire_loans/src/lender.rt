@@ -31,7 +31,7 @@ pub struct Lender<'a> {
 impl<'a> Lender<'a> {
     ghost use Rattle.std.specs.Prelude.{◌≡◌};
     ghost use Rattle.iox_wire_locals.specs.Tables.{Setting};
-    ghost use Rattle.iox_wire_loans.specs.Lenders.{IsClient, IsLender, IsServer};
+    ghost use Rattle.iox_wire_loans.specs.Lenders.{HasClientLimits, LenderIsTold, HasServerLimits};
     ghost use Rattle.iox_wire_loans.specs.Loans.{length_refused, request_refused, response_refused};
 
     /// Why the length of a message is refused.
@@ -50,7 +50,7 @@ impl<'a> Lender<'a> {
     /// Why the client does not lend a request of so many elements: its length, then the loans that
     /// it has.
     pub fn request_refusal(&self, seat: &StoredSeat, elements: u64) -> Option<CallRefusal>
-        ensures { (p : Setting) → IsLender p self.now → IsClient p self.now → result
+        ensures { (p : Setting) → LenderIsTold p self.now → HasClientLimits p self.now → result
             ≡ request_refused p seat.now.seat (p.port self.now.port) elements }
     {
         if let Some(refusal) = self.length_refusal(elements) {
@@ -70,7 +70,7 @@ impl<'a> Lender<'a> {
         request: Entry,
         elements: u64,
     ) -> Option<CallRefusal>
-        ensures { (p : Setting) → IsLender p self.now → IsServer p self.now
+        ensures { (p : Setting) → LenderIsTold p self.now → HasServerLimits p self.now
             → request.port ≡ self.now.port → result
             ≡ response_refused p seat.now.seat request elements }
     {

@@ -121,7 +121,7 @@ impl Lending {
     ghost use Rattle.iox_wire_seats.specs.Aims.{KeepsRoom};
     ghost use Rattle.iox_wire_seats.specs.Lends.{MayLend};
     ghost use Rattle.iox_wire_loans.specs.Aims.{Answers, GetsBackUsed, GoesOn, IsAimed};
-    ghost use Rattle.iox_wire_loans.specs.Aims.{IsSameLoan, StaysAimed};
+    ghost use Rattle.iox_wire_loans.specs.Aims.{IsNoHandle, IsSameLoan, StaysAimed, is_storing};
 
     /// No loan is under way, and there is room for so many ways, and for so many words of a message
     /// in front of its payload.
@@ -177,7 +177,8 @@ impl Lending {
         }
     }
 
-    /// Goes on after its access, which found `seen`. If it is over it says what that answers.
+    /// Goes on after its access, which found `seen`. If it is over it says what that answers: where
+    /// it stored nothing, a refusal.
     #[inline(always)]
     pub fn go_on(&mut self, seat: &mut StoredSeat, seen: u64) -> Option<LendReply>
         requires busy { is_busy self.old.local ≡ true }
@@ -193,6 +194,7 @@ impl Lending {
         ensures room { KeepsRoom seat.old seat.new }
         ensures rests { is_busy seat.new.seat.local ≡ false }
         ensures may { result ≡ None → MayLend seat.new self.new.order.number self.new.order.port }
+        ensures stored { is_storing self.old.local ≡ false → IsNoHandle result }
         ensures same { IsSameLoan self.old self.new }
     {
         match self.at {

@@ -53,7 +53,7 @@ use Rattle.iox_wire_locals.specs.Findings as findings
 use Rattle.iox_wire_locals.specs.ReceiveFindings as findings_back
 use Rattle.iox_wire_locals.specs.Knowing.{Knows, StandsFor}
 use Rattle.iox_wire_locals.specs.StateMoments.{looked}
-use Rattle.iox_wire_locals.specs.StepLaws.{GoesOn, StepsGoOn}
+use Rattle.iox_wire_locals.specs.StepLaws.{StandsAfter, StepsGoOn}
 use Rattle.iox_wire_locals.proofs.CourseProofs as course
 
 -- the way that is visited is the first of those left
@@ -65,7 +65,7 @@ module _ (p : Setting) (x : Seat) (s : State) (held : Pools) (k : Knows p x s.fi
   Stands y d = StandsFor p s.fixed held x.node y d
 
   abbrev Goes : Doing → Option Moment → Seat → Type 0
-  Goes d m y = GoesOn p s held x.node d m y
+  Goes d m y = StandsAfter p s held x.node d m y
 
   -- ---- loans
 

@@ -76,14 +76,14 @@ ReliesOn p x s held (Seeks w place left) seen = ⊥
 ReliesOn p x s held local seen = Unit {0}
 
 -- the node stands for what there is to do after that moment, or for the same if there was none
-abbrev pub GoesOn : Setting → State → Pools → ℕ → Doing → Option Moment → Seat → Type 0
-GoesOn p s held node d None y = StandsFor p s.fixed held node y d
-GoesOn p s held node d (Some m) y =
+abbrev pub StandsAfter : Setting → State → Pools → ℕ → Doing → Option Moment → Seat → Type 0
+StandsAfter p s held node d None y = StandsFor p s.fixed held node y d
+StandsAfter p s held node d (Some m) y =
     StandsFor p s.fixed held node y (transitions.next s node d m).after
 
 -- the same, where there is something to do
 abbrev pub GoesOnFrom : Setting → State → Pools → ℕ → Option Doing → Option Moment → Seat → Type 0
-GoesOnFrom p s held node (Some d) m y = GoesOn p s held node d m y
+GoesOnFrom p s held node (Some d) m y = StandsAfter p s held node d m y
 GoesOnFrom p s held node None m y = ⊥
 
 -- Whatever an access finds, the node is then where the machine is after the moment of that access.

@@ -9,6 +9,8 @@ pub mod Copying
 pub mod ReadWords
 pub mod Handles
 pub mod SettingsStay
+pub mod Forgetting
+pub mod WireSteps
 pub mod OwnBegins
 pub mod PlaceBounds
 -- what the crates above cite of those below

@@ -1,6 +1,6 @@
 -- A node's own tables refuse a call of a port or a handle exactly where the machine does; so a call begins
 -- by the node's own data.
-use Rattle.std.proofs.Common.{◌≡◌, ℕ, ◌<◌, List, Option, None, Some, refl, ap, sym, ◌∙◌}
+use Rattle.std.proofs.Common.{◌≡◌, ℕ, List, Option, None, Some, refl, ap, sym, ◌∙◌}
 use Rattle.iox_model.specs.declared.call.WireCall.TheVariants.{Port}
 use Rattle.iox_model.specs.declared.reply.Refusal.TheVariants as refusals
 use Rattle.iox_model.specs.Commands.{Call, WireCall}
@@ -40,6 +40,6 @@ refused_by_tables p words players r n call wire lives =
     ∙ ap (λ o. or_else o (or_else (refusal_at p z (Port call)) None)) (ap (not_living r.last.state) (wire.stands.shows.node n) ∙ lives)
     ∙ or_none (refusal_at p z (Port call)) ∙ refused_alike p (players n).seat (Port call) (players n).seat.local refl
 
-pub calls_begin_by_own_data : CallsBeginByOwnData
-calls_begin_by_own_data p words players r n call wire lives free few whole =
+pub begin_keeps : CallsBeginByOwnData
+begin_keeps p words players r n call wire lives free few whole =
     begun_wires_stand p words players r n (Port call) wire few whole (refused_by_tables p words players r n call wire lives ∙ free)

@@ -21,7 +21,7 @@ use Rattle.iox_steps.specs.declared.site.QueueKind.TheVariants.{Index, Overflowi
 use Rattle.iox_steps.specs.declared.site.Site.{Site}
 use Rattle.iox_steps.specs.Accesses.{IsWithin}
 use Rattle.iox_steps.specs.Fits.{PoppingKnows, PushingKnows, write_of}
-use Rattle.iox_steps.specs.Pops.{is_taken, pop_next, take_access}
+use Rattle.iox_steps.specs.Pops.{is_taken, take_access}
 use Rattle.iox_steps.specs.Pushes.{full_at, full_look_next, is_refused, once_published}
 use Rattle.iox_steps.specs.Pops.{empty_look_next}
 use Rattle.iox_steps.specs.Sides.{in_empty_look, in_full_look, in_pop, in_push, popping_access, popping_after, pushing_access, pushing_after}

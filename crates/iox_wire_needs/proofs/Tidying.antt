@@ -16,7 +16,7 @@ use Rattle.iox_wire_keeps.specs.Desks.{AreOfDifferentPorts, AreOfOtherPorts}
 use Rattle.iox_wire_keeps.specs.Ending.{Ending}
 use Rattle.iox_wire_keeps.specs.Ending.TheVariants as endings
 use Rattle.iox_wire_keeps.specs.Entry.{Entry}
-use Rattle.iox_wire_keeps.specs.Following.{DeskChange, Delivered, Follows, GotBack, Unchanged, changed, desk_change, drops, keeps, lets_go, picks_slot, puts_aside, sends_loan, takes}
+use Rattle.iox_wire_keeps.specs.Following.{DeskChange, Delivered, NodeContinues, GotBack, Unchanged, changed, desk_change, drops, keeps, lets_go, picks_slot, puts_aside, sends_loan, takes}
 use Rattle.iox_wire_keeps.specs.Local.TheVariants.{Idle}
 use Rattle.iox_wire_keeps.specs.LocalsDesks.{all_less, at_count, at_desk, counts_loan, delivers, forgets_ports, gets_back, gives_up, on_desk, picks, slots_to, uses_less, with_count}
 use Rattle.iox_wire_keeps.specs.Seat.{Seat}
@@ -144,7 +144,7 @@ module _ (p : Setting) (x : Seat) (seen : ℕ) (tidy : IsTidy x) where
   same : y.desks ≡ x.desks → AreOfDifferentPorts (advance p (accessed x) x.local seen).desks
   same desks = subst AreOfDifferentPorts (sym desks) tidy.desks
 
-  by_follows : Follows p (accessed x) x.local seen (advance p (accessed x) x.local seen) → AreOfDifferentPorts (advance p (accessed x) x.local seen).desks
+  by_follows : NodeContinues p (accessed x) x.local seen (advance p (accessed x) x.local seen) → AreOfDifferentPorts (advance p (accessed x) x.local seen).desks
   by_follows (keeps desks message) = subst AreOfDifferentPorts (sym desks) (change_tidy (accessed x) (desk_change p x.local seen) tidy.desks)
   by_follows (lets_go desks still message may) = same desks
   by_follows (takes w slot desks still message on) = same desks

@@ -5,7 +5,7 @@ use Rattle.iox_steps.specs.declared.site.QueueKind.TheVariants.{Index}
 use Rattle.iox_steps.specs.declared.pop.Pop.TheVariants as pop
 use Rattle.iox_steps.specs.declared.side.Popping.TheVariants as popping
 use Rattle.iox_wire_keeps.specs.Delivery.{Delivery}
-use Rattle.iox_wire_keeps.specs.FollowingLaws.{IsFresh}
+use Rattle.iox_wire_keeps.specs.FollowingLaws.{DeliversNew}
 use Rattle.iox_wire_needs.proofs.Delivers.{may_deliver_at}
 use Rattle.iox_model.specs.declared.way.Way.{Way}
 use Rattle.iox_steps.specs.declared.side.Pushing.{Pushing}
@@ -26,7 +26,7 @@ use Rattle.iox_model.specs.Maps.{AreDistinct, has_number}
 use Rattle.iox_model.specs.States.{Fixed}
 use Rattle.iox_steps.specs.Accesses.{seen_by}
 use Rattle.iox_steps.specs.Sites.{last_position}
-use Rattle.iox_wire_keeps.specs.Laws.{IsMade}
+use Rattle.iox_wire_keeps.specs.Laws.{AccessIsMade}
 use Rattle.iox_wire_keeps.specs.Programs.{program_access}
 use Rattle.iox_wire_keeps.specs.Ending.{Ending}
 use Rattle.iox_wire_keeps.specs.Ending.TheVariants as endings
@@ -48,14 +48,14 @@ use Rattle.iox_wire_keeps.proofs.FoundUses.{sent_is_used, what_is_out_is_used}
 use Rattle.iox_wire_keeps.specs.Uses.{AllUsesAreCounted, how_often, uses_of}
 use Rattle.iox_wire_keeps.specs.UsesLaws.{FindsUsed}
 use Rattle.iox_wire_keeps.specs.Desks.{AreOfDifferentPorts, IsUsed, MayDeliverAt}
-use Rattle.iox_wire_keeps.specs.Following.{CallMessage, LeavesNothing, Sent, desk_change, message_at, published}
+use Rattle.iox_wire_keeps.specs.Following.{CallMessage, LeavesNothing, Sent, desk_change, message_at, delivers_published}
 use Rattle.iox_wire_keeps.specs.Nodes.{NodeStands}
 use Rattle.iox_wire_keeps.specs.Runs.{Run}
 use Rattle.iox_wire_keeps.specs.Stands.{Player, seats_of, word_of}
 use Rattle.iox_wire_keeps.proofs.NodesFollow.{records}
 use Rattle.iox_wire_keeps.proofs.SendsFollow.{slots_are_found_in_pools}
 use Rattle.iox_wire_keeps.proofs.StepsKept.{shown_same}
-use Rattle.iox_wire_keeps.specs.Places.{CallFits, EndingFits, IsLoan, PlaceFits}
+use Rattle.iox_wire_keeps.specs.Places.{CallFits, EndingFits, IsOfLoan, PlaceFits}
 use Rattle.iox_wire_keeps.proofs.LoanSlots.{lent_slots, slots_by_message}
 use Rattle.iox_wire_keeps.specs.Stored.{CallIsStored}
 use Rattle.iox_wire_keeps.specs.WireStands.{WireStands}
@@ -92,7 +92,7 @@ SentBy f x other = Unit {0}
 
 -- and a loan
 abbrev LoanBy : CallMessage → Type 0
-LoanBy (Sent e copied) = IsLoan e.kind
+LoanBy (Sent e copied) = IsOfLoan e.kind
 LoanBy other = Unit {0}
 
 ended_by : (p : Setting) (f : Fixed) (x : Seat) (ending : Ending) → EndingStands p f x ending → SentBy f x (message_at (Ends ending))
@@ -151,7 +151,7 @@ module _ (p : Setting) (words : List ℕ) (players : ℕ → Player) (r : Run) (
     pub sent : HasSent r.last.state.fixed (players n).seat e copied
     sent = subst (SentBy r.last.state.fixed (players n).seat) is (sent_by p r.last.state.fixed (players n).seat (players n).seat.local mine.names.place)
 
-    loan : IsLoan e.kind
+    loan : IsOfLoan e.kind
     loan = subst LoanBy is (loan_by p (players n).seat (players n).seat.local fits.place)
 
     -- it is a loan of the node's port
@@ -227,7 +227,7 @@ module _ (p : Setting) (words : List ℕ) (players : ℕ → Player) (r : Run) (
 
 module _ (p : Setting) (words words' : List ℕ) (players : ℕ → Player) (r : Run) (n : ℕ) (wire : WireStands p words players r)
     (living : not_living r.last.state n ≡ None) (busy : is_busy (players n).seat.local ≡ true) (few : (players n).seat.accesses < last_position)
-    (made : IsMade (program_access p.layout (program_of p (players n).seat.local)) (word_of words) (word_of words')) (len : length words' ≡ length words)
+    (made : AccessIsMade (program_access p.layout (program_of p (players n).seat.local)) (word_of words) (word_of words')) (len : length words' ≡ length words)
     (tidy : IsTidy (players n).seat) (ways : HaveFewWays (players n).seat.desks) where
   abbrev seen_at : Seat → ℕ
   seen_at q = seen_by (program_access p.layout (program_of p q.local)) (word_of words)
@@ -246,7 +246,7 @@ module _ (p : Setting) (words words' : List ℕ) (players : ℕ → Player) (r :
 
   -- what it delivers is outstanding nowhere on the way
   new_there : ending_at (seats_of p players n).local ≡ None
-      → IsFresh wire.stands.held r.last.state (desk_change p (seats_of p players n).local (seen_at (seats_of p players n)))
+      → DeliversNew wire.stands.held r.last.state (desk_change p (seats_of p players n).local (seen_at (seats_of p players n)))
   new_there going =
       let q = seats_of p players n in
       let stands = wire.stands.nodes n living in
@@ -274,10 +274,10 @@ module _ (p : Setting) (words words' : List ℕ) (players : ℕ → Player) (r :
     stood : NodeStands p wire.stands.held r.last.state (players n).seat
     stood = subst (NodeStands p wire.stands.held r.last.state) same (wire.stands.nodes n living)
 
-    new_here : IsFresh wire.stands.held r.last.state (desk_change p local (seen_at (players n).seat))
+    new_here : DeliversNew wire.stands.held r.last.state (desk_change p local (seen_at (players n).seat))
     new_here =
-        subst (λ l. IsFresh wire.stands.held r.last.state (desk_change p l (seen_at (players n).seat))) is
-        (subst (λ (q : Seat). IsFresh wire.stands.held r.last.state (desk_change p q.local (seen_at q))) same
+        subst (λ l. DeliversNew wire.stands.held r.last.state (desk_change p l (seen_at (players n).seat))) is
+        (subst (λ (q : Seat). DeliversNew wire.stands.held r.last.state (desk_change p q.local (seen_at q))) same
         (new_there (ap (λ (q : Seat). ending_at q.local) same ∙ ap ending_at is ∙ going)))
 
     held_here : (port : ℕ) → AreDistinct (slots_held (players n).seat port)
@@ -311,7 +311,7 @@ module _ (p : Setting) (words words' : List ℕ) (players : ℕ → Player) (r :
       at_desk (MayDeliverAt w slot) d.loan.port (players n).seat.desks tidy.desks (λ k found.
       may_deliver_at p wire.stands.held r.last.state (players n).seat (stood l is tt refl) d.loan.port home (held_here l is tt refl d.loan.port) slot
       (subst (λ i. how_often slot (slots_in_call d.loan.port i) ≤ 1) (sym is) (one_slot slot d.loan.slot (d.copied && (d.loan.port == d.loan.port)))) w out.0 out.2
-      (subst (λ e. IsFresh wire.stands.held r.last.state (published d.loan.port w e)) event (new_here l is tt refl))
+      (subst (λ e. DeliversNew wire.stands.held r.last.state (delivers_published d.loan.port w e)) event (new_here l is tt refl))
       (subst (λ i. is_some (record_of w (recorded_of (players n).seat i)) ≡ true) (sym out.0) out.1) k found
       (used_here p (players n).seat (uses l is tt refl) tidy.desks d.loan.port slot home (used slot (slots_used (players n).seat d.loan.port) out.2) k found)
       (few_found d.loan.port (players n).seat.desks ways k found))

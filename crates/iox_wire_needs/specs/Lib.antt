@@ -1,9 +1,10 @@
--- In reading order: what no step changes, that calls begin by their node's own data, and that a place
--- bounds its access; what a node may count, and that it stays tidy; slots and lanes that its place names;
--- which slots are in use; that a copy goes on; which words a read tells; and what it may do with its
--- handles.
-pub mod SettingsStay
+-- In reading order: the two laws of a wire, that calls begin by their node's own data, and that steps
+-- keep what stands and the setting; that a place bounds its access; what a node may count, and that it
+-- stays tidy; slots and lanes that its place names; which slots are in use; that a copy goes on; which
+-- words a read tells; and what it may do with its handles.
 pub mod OwnBegins
+pub mod SettingsStay
+pub mod WireSteps
 pub mod PlaceBounds
 pub mod Counts
 pub mod Tidying

@@ -5,12 +5,10 @@ use Rattle.std.specs.Prelude.{Bool, List, None, [], false, length, true, ℕ, �
 use Rattle.iox_model.specs.Joins.{not_living}
 use Rattle.iox_steps.specs.Accesses.{seen_by}
 use Rattle.iox_steps.specs.Sites.{last_position}
-use Rattle.iox_steps.specs.declared.pop.Pop.TheVariants as pop
-use Rattle.iox_steps.specs.declared.side.Popping.TheVariants as popping
 use Rattle.iox_steps.specs.declared.side.QueueEvent.TheVariants.{HandOut, Learn, Publish}
 use Rattle.iox_word_map.specs.WordMaps.{MessageQueue, ReturningQueue}
 use Rattle.iox_wire_loans.specs.Aims.{GetsBackUsed}
-use Rattle.iox_wire_keeps.specs.Laws.{IsMade}
+use Rattle.iox_wire_keeps.specs.Laws.{AccessIsMade}
 use Rattle.iox_wire_keeps.specs.Programs.{program_access}
 use Rattle.iox_wire_keeps.specs.Local.{Local}
 use Rattle.iox_wire_keeps.specs.Local.TheVariants.{LendEmpties, SendEmpties, SendGetsBack, SendPushes}
@@ -62,7 +60,7 @@ AccessesFindInUse =
     → WireStands p words players r → not_living r.last.state n ≡ None
     → let x = (players n).seat in let access = program_access p.layout (program_of p x.local) in
     is_busy x.local ≡ true → x.accesses < last_position
-    → IsMade access (word_of words) (word_of words') → length words' ≡ length words → IsTidy x
+    → AccessIsMade access (word_of words) (word_of words') → length words' ≡ length words → IsTidy x
     → HaveFewWays x.desks → FindsInUse p x x.local (seen_by access (word_of words))
 
 -- The slot that a loan gets back with its next access is in use, whatever its access finds, where returning

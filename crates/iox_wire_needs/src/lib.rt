@@ -1,4 +1,4 @@
-//! What the code of a wire's node asks of what the node keeps, where that follows from what stands.
+//! Two laws, of begins and of steps; and what a node's code asks that follows from what stands.
 //! The functions have nothing to do: each is there for its contract.
 #![tactic(auto)]
 
@@ -15,6 +15,18 @@ ghost use Rattle.iox_wire_needs.specs.Tidying.{BegunNodesAreTidy, SteppedNodesAr
 ghost use Rattle.iox_wire_needs.specs.Uses.{AccessesFindInUse, RequestsMayBeGivenUp};
 ghost use Rattle.iox_wire_needs.specs.Uses.{LoansGetBackInUse, NewLoansMayBeGivenUp};
 ghost use Rattle.iox_wire_needs.specs.Uses.{WhatIsSentIsInUse};
+ghost use Rattle.iox_wire_needs.specs.WireSteps.{StepsKeepWireAndSetting};
+
+/// A living node's own data decides whether a call of a port or a handle begins, and then what
+/// stands stands.
+pub fn begin_keeps()
+    ensures { CallsBeginByOwnData }
+{}
+
+/// A step of a living node with a call leads from what stands to what stands, in the same setting.
+pub fn step_keeps()
+    ensures { StepsKeepWireAndSetting }
+{}
 
 /// A living node may have one handle more, count one loan more, and borrow one message more.
 pub fn nodes_may_count_more()
@@ -65,15 +77,9 @@ pub fn nodes_stay_tidy()
     ensures steps { SteppedNodesAreTidy }
 {}
 
-/// A step leaves the members, the ports, the limits, and whom other nodes forgot.
+/// The beats of a step leave the members, the ports, the limits, and whom other nodes forgot.
 pub fn steps_leave_settings()
     ensures { StepsLeaveSettings }
-{}
-
-/// A living node's own data decides whether a call of a port or a handle begins, and then what
-/// stands stands.
-pub fn calls_begin_by_own_data()
-    ensures { CallsBeginByOwnData }
 {}
 
 /// The place of a node bounds the access that comes next, whatever the words are.

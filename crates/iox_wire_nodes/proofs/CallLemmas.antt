@@ -18,7 +18,7 @@ use Rattle.iox_wire_nodes.specs.declared.handle_call.HandleCall.TheVariants as h
 use Rattle.iox_wire_nodes.specs.declared.node_call.NodeCall.{NodeCall}
 use Rattle.iox_wire_nodes.specs.declared.node_call.NodeCall.TheVariants as node_calls
 use Rattle.iox_wire_nodes.specs.Calls.{IsKeptAt, asked_by, asked_in, call_in, number_in, of_handle, payload_of}
-use Rattle.iox_wire_nodes.specs.Nodes.{Node, seat_in}
+use Rattle.iox_wire_nodes.specs.Nodes.{NodeView, seat_in}
 use Rattle.iox_wire_nodes.proofs.BesideLemmas.{handles_in}
 
 -- no payload is asked
@@ -84,6 +84,6 @@ module _ (p : Setting) (x : Seat) (call : NodeCall) (asked : Asked) (number : �
   has_its_role = subst (λ a. HasRole a (payload_in p x call)) (sym asks) (its_role p x call)
 
 -- the number of the node's next handle
-pub next_is : (plan : WirePlan) (t : WireTerms) (p : Setting) (n : Node) (next : ℕ) → IsSettingWith plan t p → next ≡ t.first_number + n.seat.seat.handles_made
+pub next_is : (plan : WirePlan) (t : WireTerms) (p : Setting) (n : NodeView) (next : ℕ) → IsSettingWith plan t p → next ≡ t.first_number + n.seat.seat.handles_made
     → next ≡ next_handle p (seat_in n)
 next_is plan t p n next with is = is ∙ ap₂ (λ a b. a + b) (sym with.first_number) (sym (handles_in n.at n))

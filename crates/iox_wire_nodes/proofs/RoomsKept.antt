@@ -16,7 +16,7 @@ use Rattle.iox_wire_begins.specs.ResponseCopies.{ResponseCopy}
 use Rattle.iox_wire_begins.specs.Seats.{Placed}
 use Rattle.iox_wire_nodes.specs.declared.call_at.CallAt.{CallAt}
 use Rattle.iox_wire_nodes.specs.declared.call_at.CallAt.TheVariants as at
-use Rattle.iox_wire_nodes.specs.Nodes.{Node}
+use Rattle.iox_wire_nodes.specs.Nodes.{NodeView}
 use Rattle.iox_wire_nodes.specs.Rooms.{HasRoomToBegin, KeepsRooms, RoomSuffices}
 
 -- ---- as much room
@@ -34,9 +34,9 @@ same_response : (y : ResponseCopy) → copies.HasSameRooms y.lends y.lends
 same_response y = record { lending = same_loan y.lends.lending; payload = refl }
 
 -- the node, as its own code has it
-module _ {n old : Node} (same : n ≡ old) where
-  all : (m : Node) → KeepsRooms n m → KeepsRooms old m
-  all m keeps = subst (λ (o : Node). KeepsRooms o m) same keeps
+module _ {n old : NodeView} (same : n ≡ old) where
+  all : (m : NodeView) → KeepsRooms n m → KeepsRooms old m
+  all m keeps = subst (λ (o : NodeView). KeepsRooms o m) same keeps
 
   pub keeps_seat : (s : Placed) → HasSameRooms n.seat s → KeepsRooms old (record n { at = at.Seats; seat = s })
   keeps_seat s seat = all _ (record {

@@ -16,15 +16,15 @@ use Rattle.iox_wire_begins.specs.Tables.{Setting}
 use Rattle.iox_wire_nodes.specs.declared.call_at.CallAt.{CallAt}
 use Rattle.iox_wire_nodes.specs.declared.call_at.NodeReply.{NodeReply}
 use Rattle.iox_wire_nodes.specs.Aims.{AreAimed, IsAimed, MayAdd, StaysReady}
-use Rattle.iox_wire_nodes.specs.Nodes.{Node}
+use Rattle.iox_wire_nodes.specs.Nodes.{NodeView}
 
 -- by the call that is under way
-pub stays_ready : (reply : Option NodeReply) {n m : Node} (call : CallAt) (new : Node) → n ≡ m → n.at ≡ call → new.at ≡ n.at
+pub stays_ready : (reply : Option NodeReply) {n m : NodeView} (call : CallAt) (new : NodeView) → n ≡ m → n.at ≡ call → new.at ≡ n.at
     → ((p : Setting) → AreAimed p call n → reply ≡ None → MayAdd call n → MayAdd call new) → StaysReady m reply new
 stays_ready reply {n} call new same at stays ready p aim none may =
     subst (λ (a : CallAt). MayAdd a new) (sym (stays ∙ at)) (
     ready p (subst (λ (a : CallAt). AreAimed p a n) at (subst (IsAimed p) (sym same) aim)) none
-    (subst (λ (a : CallAt). MayAdd a n) at (subst (λ (o : Node). MayAdd o.at o) (sym same) may))
+    (subst (λ (a : CallAt). MayAdd a n) at (subst (λ (o : NodeView). MayAdd o.at o) (sym same) may))
     )
 
 module _ (p : Setting) (x y : Placed) (l k : Local) (seen : ℕ) (led : placed y.seat k ≡ next p (placed x.seat l) seen) (none : tells p (placed x.seat l) seen ≡ None) where

@@ -26,7 +26,7 @@ use Rattle.iox_wire_nodes.specs.declared.node_error.NodeError.TheVariants as err
 use Rattle.iox_wire_nodes.specs.declared.handle_call.HandleCall.{HandleCall}
 use Rattle.iox_wire_nodes.specs.Calls.{of_handle}
 use Rattle.iox_wire_nodes.specs.Aims.{IsAimed, MayAdd, TellsOfPools}
-use Rattle.iox_wire_nodes.specs.Nodes.{Node, seat_in}
+use Rattle.iox_wire_nodes.specs.Nodes.{NodeView, seat_in}
 
 -- the call of that number
 abbrev pub called : HandleCall → ℕ → WireCall
@@ -41,32 +41,32 @@ AddsHandle call = Unit {0}
 
 -- With a begin the node makes no access, and gets no handle. If it may have one handle more, with
 -- its next number, where the call adds one, it may add what the call adds at its end.
-pub record IsReady (p : Setting) (old new : Node) : Type 0 where
+pub record BeginKeepsHandles (p : Setting) (old new : NodeView) : Type 0 where
   pub accesses : new.seat.seat.accesses ≡ old.seat.seat.accesses
   pub room : KeepsRoom old.seat new.seat
   pub may : (AddsHandle new.at → (port : ℕ)
       → MayLend old.seat (next_handle p old.seat.seat) port) → MayAdd new.at new
 
 -- The call is not refused: the node begins it, and knows the places of the words that it accesses.
-pub record IsBegun (p : Setting) (old : Node) (call : WireCall) (new : Node) : Type 0 where
+pub record IsBegun (p : Setting) (old : NodeView) (call : WireCall) (new : NodeView) : Type 0 where
   pub allowed : refusal_at p (seat_in old) call ≡ None
   pub begun : seat_in new ≡ begin p (seat_in old) call
   pub aimed : IsAimed p new
-  pub ready : IsReady p old new
+  pub ready : BeginKeepsHandles p old new
 
 -- The same, where the call may have taken a slot already: if that is one of a pool, it knows the
 -- places.
-pub record IsUnderWay (p : Setting) (old : Node) (call : WireCall) (new : Node) : Type 0 where
+pub record IsUnderWay (p : Setting) (old : NodeView) (call : WireCall) (new : NodeView) : Type 0 where
   pub allowed : refusal_at p (seat_in old) call ≡ None
   pub begun : seat_in new ≡ begin p (seat_in old) call
   pub aimed : TellsOfPools p new.at (seat_in new).local → IsAimed p new
-  pub ready : IsReady p old new
+  pub ready : BeginKeepsHandles p old new
 
 -- The node begins at that place of its call, and knows the places of the words that it accesses.
-pub record IsAtOnce (p : Setting) (old : Node) (there : Seat) (new : Node) : Type 0 where
+pub record IsAtOnce (p : Setting) (old : NodeView) (there : Seat) (new : NodeView) : Type 0 where
   pub begun : seat_in new ≡ there
   pub aimed : IsAimed p new
-  pub ready : IsReady p old new
+  pub ready : BeginKeepsHandles p old new
 
 -- the call by which a loan of that kind is sent
 abbrev pub send_at : Kind → CallAt

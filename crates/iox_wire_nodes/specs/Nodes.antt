@@ -12,6 +12,7 @@ use Rattle.iox_wire_begins.specs.Loans as loans
 use Rattle.iox_wire_begins.specs.Loans.{Loaned}
 use Rattle.iox_wire_begins.specs.RequestDispatches as requests
 use Rattle.iox_wire_begins.specs.RequestDispatches.{RequestDispatch}
+use Rattle.iox_wire_begins.specs.RequestReply.TheVariants as request_replies
 use Rattle.iox_wire_begins.specs.Dispatches as responses
 use Rattle.iox_wire_begins.specs.Dispatches.{Dispatch}
 use Rattle.iox_wire_begins.specs.CopyCalls as request_copies
@@ -24,7 +25,7 @@ use Rattle.iox_wire_nodes.specs.declared.call_at.NodeReply.{NodeReply}
 use Rattle.iox_wire_nodes.specs.declared.call_at.NodeReply.TheVariants as node_replies
 
 -- A node: which call began last, its seat, and the calls that are kept beside that.
-pub record Node : Type 0 where
+pub record NodeView : Type 0 where
   pub at : CallAt
   pub seat : Placed
   pub receives : Receipt
@@ -35,7 +36,7 @@ pub record Node : Type 0 where
   pub copies_response : ResponseCopy
 
 -- its own part of the wire, at the place of that call
-abbrev pub seat_at : CallAt → Node → Seat
+abbrev pub seat_at : CallAt → NodeView → Seat
 seat_at at.Seats n = n.seat.seat
 seat_at at.Receives n = placed n.seat.seat n.receives.local
 seat_at at.Lends n = placed n.seat.seat n.lends.local
@@ -45,7 +46,7 @@ seat_at at.CopiesRequest n = placed n.seat.seat n.copies_request.local
 seat_at at.CopiesResponse n = placed n.seat.seat n.copies_response.local
 
 -- so it is of the node
-abbrev pub seat_in : Node → Seat
+abbrev pub seat_in : NodeView → Seat
 seat_in n = seat_at n.at n
 
 -- the machine's name of a reply, with the words loaded last
@@ -58,11 +59,12 @@ reply_in words (node_replies.OfResponse reply) = responses.reply_in reply
 reply_in words (node_replies.OfRequestCopy reply) = request_copies.reply_in reply
 reply_in words (node_replies.OfResponseCopy reply) = response_copies.reply_in reply
 
--- which call answers so
+-- which call answers so: a sent request is told by a handle where its own call made the loan, a copy
 abbrev pub answered_at : NodeReply → CallAt
 answered_at (node_replies.OfSeat reply) = at.Seats
 answered_at (node_replies.OfReceive reply) = at.Receives
 answered_at (node_replies.OfLoan reply) = at.Lends
+answered_at (node_replies.OfRequest (request_replies.Handle number)) = at.CopiesRequest
 answered_at (node_replies.OfRequest reply) = at.SendsRequest
 answered_at (node_replies.OfResponse reply) = at.SendsResponse
 answered_at (node_replies.OfRequestCopy reply) = at.CopiesRequest

@@ -6,25 +6,25 @@ use Rattle.iox_wire_begins.specs.Aims.{HasSameRooms}
 use Rattle.iox_wire_begins.specs.CopyAims as copies
 use Rattle.iox_wire_begins.specs.LoansAims as loans
 use Rattle.iox_wire_begins.specs.ListRooms.{HasRoomToAsk, HasRoomToCopy, HasRoomToLend}
-use Rattle.iox_wire_nodes.specs.Nodes.{Node}
+use Rattle.iox_wire_nodes.specs.Nodes.{NodeView}
 
 -- the handles that it has, and those for which it has room, are so many together
-abbrev pub HasItsRoom : ℕ → Node → Type 0
+abbrev pub HasItsRoom : ℕ → NodeView → Type 0
 HasItsRoom most n = n.seat.room + length n.seat.seat.table ≡ most
 
 -- Where room for handles is neither made nor lost, it stays so.
 abbrev pub RoomStays : Type 0
 RoomStays =
-    (most : ℕ) (old new : Node)
+    (most : ℕ) (old new : NodeView)
     → new.seat.room + length new.seat.seat.table ≡ old.seat.room + length old.seat.seat.table
     → HasItsRoom most old → HasItsRoom most new
 
 -- A node that has fewer handles has room for one more.
 abbrev pub RoomIsLeft : Type 0
-RoomIsLeft = (most : ℕ) (n : Node) → HasItsRoom most n → length n.seat.seat.table < most → 0 < n.seat.room
+RoomIsLeft = (most : ℕ) (n : NodeView) → HasItsRoom most n → length n.seat.seat.table < most → 0 < n.seat.room
 
 -- There is room for whatever a call keeps on the wire of that plan.
-pub record HasRoomToBegin (plan : WirePlan) (n : Node) : Type 0 where
+pub record HasRoomToBegin (plan : WirePlan) (n : NodeView) : Type 0 where
   pub asks : HasRoomToAsk plan n.seat
   pub receives : most_ways plan ≤ n.receives.room
   pub lends : HasRoomToLend plan n.lends
@@ -34,7 +34,7 @@ pub record HasRoomToBegin (plan : WirePlan) (n : Node) : Type 0 where
   pub copies_response : HasRoomToCopy plan n.copies_response.lends
 
 -- Beside the seat there is room for so many ways, and for so many words.
-pub record HasRoomOf (ways words : ℕ) (n : Node) : Type 0 where
+pub record HasRoomOf (ways words : ℕ) (n : NodeView) : Type 0 where
   pub receives : n.receives.room ≡ ways
   pub lends : n.lends.ways_room ≡ ways
   pub lends_words : n.lends.words_room ≡ words
@@ -48,7 +48,7 @@ pub record HasRoomOf (ways words : ℕ) (n : Node) : Type 0 where
   pub copies_response_payload : n.copies_response.lends.payload_room ≡ words
 
 -- There is as much room as before for whatever a call keeps.
-pub record KeepsRooms (old new : Node) : Type 0 where
+pub record KeepsRooms (old new : NodeView) : Type 0 where
   pub asks : HasSameRooms old.seat new.seat
   pub receives : new.receives.room ≡ old.receives.room
   pub lends : loans.HasSameRooms old.lends new.lends
@@ -60,5 +60,5 @@ pub record KeepsRooms (old new : Node) : Type 0 where
 -- With as much room there is room for whatever a call keeps.
 abbrev pub RoomSuffices : Type 0
 RoomSuffices =
-    (plan : WirePlan) (old new : Node) → KeepsRooms old new → HasRoomToBegin plan old
+    (plan : WirePlan) (old new : NodeView) → KeepsRooms old new → HasRoomToBegin plan old
     → HasRoomToBegin plan new

@@ -41,15 +41,16 @@ pub struct StoredNode {
 }
 
 impl Model for StoredNode {
+    ghost use Rattle.std.specs.Prelude.{◌≡◌, false};
     ghost use Rattle.iox_wire_nodes.specs.declared.call_at.CallAt.TheVariants.{CopiesRequest};
     ghost use Rattle.iox_wire_nodes.specs.declared.call_at.CallAt.TheVariants.{CopiesResponse};
     ghost use Rattle.iox_wire_nodes.specs.declared.call_at.CallAt.TheVariants.{Lends, Receives};
     ghost use Rattle.iox_wire_nodes.specs.declared.call_at.CallAt.TheVariants.{Seats};
     ghost use Rattle.iox_wire_nodes.specs.declared.call_at.CallAt.TheVariants.{SendsRequest};
     ghost use Rattle.iox_wire_nodes.specs.declared.call_at.CallAt.TheVariants.{SendsResponse};
-    ghost use Rattle.iox_wire_nodes.specs.Nodes.{Node, RestsUnless, same_call};
+    ghost use Rattle.iox_wire_nodes.specs.Nodes.{NodeView, RestsUnless, same_call};
 
-    ghost Value = { Node };
+    ghost Value = { NodeView };
 
     ghost view = { λ n. record {
       at = n.at;
@@ -69,7 +70,8 @@ impl Model for StoredNode {
         × RestsUnless (same_call SendsRequest n.at) n.requesting.local
         × RestsUnless (same_call SendsResponse n.at) n.responding.local
         × RestsUnless (same_call CopiesRequest n.at) n.copying_client.local
-        × RestsUnless (same_call CopiesResponse n.at) n.copying_server.local };
+        × RestsUnless (same_call CopiesResponse n.at) n.copying_server.local
+        × (n.requesting.copied ≡ false) };
 }
 
 impl StoredNode {

@@ -95,12 +95,12 @@ pub record MayReceive (x : Placed) (number : ℕ) : Type 0 where
   pub handles : x.seat.handles_made + 1 < 2 ^ 64
 
 -- of the way from which it takes, one message more may be a handle
-abbrev pub HasRoomFor : Seat → Local → Type 0
-HasRoomFor x (ReceivePops v w again place left waiting) = IsBelow (2 ^ 64 - 1) w x.borrowed
-HasRoomFor x (ReceiveLoads v w slot header left waiting) = IsBelow (2 ^ 64 - 1) w x.borrowed
-HasRoomFor x (ReceiveAsks v w slot header left waiting) = IsBelow (2 ^ 64 - 1) w x.borrowed
-HasRoomFor x (ReceiveReturns v w slot place left waiting) = IsBelow (2 ^ 64 - 1) w x.borrowed
-HasRoomFor x local = Unit {0}
+abbrev pub MayTakeOneMore : Seat → Local → Type 0
+MayTakeOneMore x (ReceivePops v w again place left waiting) = IsBelow (2 ^ 64 - 1) w x.borrowed
+MayTakeOneMore x (ReceiveLoads v w slot header left waiting) = IsBelow (2 ^ 64 - 1) w x.borrowed
+MayTakeOneMore x (ReceiveAsks v w slot header left waiting) = IsBelow (2 ^ 64 - 1) w x.borrowed
+MayTakeOneMore x (ReceiveReturns v w slot place left waiting) = IsBelow (2 ^ 64 - 1) w x.borrowed
+MayTakeOneMore x local = Unit {0}
 
 -- ---- a step
 

@@ -131,7 +131,7 @@ impl Receiving {
     ghost use Rattle.iox_wire_locals.specs.Locals.{program_of};
     ghost use Rattle.iox_wire_locals.specs.Tables.{Setting};
     ghost use Rattle.iox_wire_seats.specs.Aims.{KeepsRoom};
-    ghost use Rattle.iox_wire_receives.specs.Aims.{Answers, GoesOn, HasRoomFor, IsAimed};
+    ghost use Rattle.iox_wire_receives.specs.Aims.{Answers, GoesOn, MayTakeOneMore, IsAimed};
     ghost use Rattle.iox_wire_receives.specs.Aims.{MayReceive, StaysAimed};
 
     /// No receive is under way, and there is room for so many ways.
@@ -184,7 +184,7 @@ impl Receiving {
         requires busy { is_busy self.old.local ≡ true }
         requires accesses { seat.old.seat.accesses + 1 < 2 ^ 64 }
         requires may { MayReceive seat.old self.old.terms.number }
-        requires counts { HasRoomFor seat.old.seat self.old.local }
+        requires counts { MayTakeOneMore seat.old.seat self.old.local }
         ensures next { GoesOn seat.old self.old seen seat.new self.new }
         ensures over { Answers seat.old self.old seen result }
         ensures aimed { StaysAimed seat.old self.old seat.new self.new }
@@ -192,7 +192,7 @@ impl Receiving {
         ensures room { KeepsRoom seat.old seat.new }
         ensures rests { seat.new.seat.local ≡ seat.old.seat.local }
         ensures may { result ≡ None → MayReceive seat.new self.new.terms.number }
-        ensures counts { HasRoomFor seat.new.seat self.new.local }
+        ensures counts { MayTakeOneMore seat.new.seat self.new.local }
         ensures terms { self.new.terms ≡ self.old.terms }
         ensures ways { self.new.room ≡ self.old.room }
     {

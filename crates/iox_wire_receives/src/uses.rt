@@ -13,7 +13,7 @@ ghost use Rattle.iox_wire_locals.specs.Locals.{program_of};
 ghost use Rattle.iox_wire_locals.specs.NewLoans.{received_length};
 ghost use Rattle.iox_wire_locals.specs.Steps.{next};
 ghost use Rattle.iox_wire_locals.specs.Tables.{Setting};
-ghost use Rattle.iox_wire_receives.specs.Aims.{HasRoomFor, IsAimed, MayReceive};
+ghost use Rattle.iox_wire_receives.specs.Aims.{MayTakeOneMore, IsAimed, MayReceive};
 ghost use Rattle.iox_wire_receives.specs.Sources.{AreSources, AreWithin, ways_of};
 
 use crate::at::ReceiveReply;
@@ -80,7 +80,7 @@ pub fn received_by_one_step(
     requires busy { is_busy receiving.old.local ≡ true }
     requires accesses { seat.old.seat.accesses + 1 < 2 ^ 64 }
     requires may { MayReceive seat.old receiving.old.terms.number }
-    requires counts { HasRoomFor seat.old.seat receiving.old.local }
+    requires counts { MayTakeOneMore seat.old.seat receiving.old.local }
     ensures { (p : Setting) → IsAimed p seat.old.seat receiving.old
         → placed seat.new.seat receiving.new.local
         ≡ next p (placed seat.old.seat receiving.old.local) seen }

@@ -7,7 +7,7 @@ use Rattle.iox_word_places.specs.Plans.{IsPlan, layout_of}
 use Rattle.iox_wire_locals.specs.declared.seat.Seat.{Seat}
 use Rattle.iox_wire_locals.specs.declared.table.Entry.{Entry}
 use Rattle.iox_wire_locals.specs.Tables.{Setting}
-use Rattle.iox_wire_laws.specs.WireOwners.Releases.{IsReleased}
+use Rattle.iox_wire_laws.specs.WireOwners.Releases.{ReleasesOwnHandle}
 use Rattle.iox_wire_laws.specs.WireRegions.OwnedBegins.{LayoutFits}
 use Rattle.iox_wire_seats.specs.Desks.{MayGiveUp}
 use Rattle.iox_wire_releases.specs.Released.{MayRelease}
@@ -17,5 +17,5 @@ use Rattle.iox_wire_releases.specs.Released.{MayRelease}
 abbrev pub HandlesMayBeReleased : Type 0
 HandlesMayBeReleased =
     (plan : WirePlan) (p : Setting) (f : Fixed) (x : Seat) (e : Entry)
-    → IsPlan plan → p.layout ≡ layout_of plan → LayoutFits p f → IsReleased f x.node e
+    → IsPlan plan → p.layout ≡ layout_of plan → LayoutFits p f → ReleasesOwnHandle f x.node e
     → (is_received e.kind ≡ false → MayGiveUp e x.desks) → MayRelease plan e x.desks

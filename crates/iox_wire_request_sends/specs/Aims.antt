@@ -1,7 +1,7 @@
 -- What the send of a request is told of the wire, what its accesses find, and what a step of it
 -- does.
 use Rattle.std.specs.Prelude.{◌≡◌, ◌+◌, ◌<◌, ◌≤◌, ℕ, Bool, true, false, List, Option, option_map}
-use Rattle.std.specs.Prelude.{is_none}
+use Rattle.std.specs.Prelude.{IfSome, is_none}
 use Rattle.iox_model.specs.Commands.{Reply}
 use Rattle.iox_model.specs.Handles.{is_request_loan}
 use Rattle.iox_model.specs.Messages.{request_way}
@@ -33,6 +33,7 @@ use Rattle.iox_wire_seats.specs.Seats.{Placed}
 use Rattle.iox_wire_request_sends.specs.declared.at.RequestAt.{RequestAt}
 use Rattle.iox_wire_request_sends.specs.declared.at.RequestAt.TheVariants as at
 use Rattle.iox_wire_request_sends.specs.declared.at.RequestReply.{RequestReply}
+use Rattle.iox_wire_request_sends.specs.declared.at.RequestReply.TheVariants as request_replies
 use Rattle.iox_wire_request_sends.specs.declared.target.RequestTerms.{RequestTerms}
 use Rattle.iox_wire_request_sends.specs.RequestDispatches.{RequestDispatch, reply_in}
 use Rattle.iox_wire_request_sends.specs.Targets.{AreTargets}
@@ -116,7 +117,7 @@ IsHeldIn (SendLooks d w place left full) loan desks = MayGiveUp loan desks
 IsHeldIn local loan desks = Unit {0}
 
 -- A loan of the same call may become a handle, and one that may be refused may be given up.
-pub record MayEnd (x : Placed) (r : RequestDispatch) : Type 0 where
+pub record LoanMayEnd (x : Placed) (r : RequestDispatch) : Type 0 where
   pub made : r.copied ≡ true → MayLend x r.loan.number r.loan.port
   pub held : IsHeldIn r.local r.loan x.seat.desks
 
@@ -157,6 +158,12 @@ Answers x r seen reply =
     (p : Setting) → IsAimed p x.seat r
     → tells p (placed x.seat r.local) seen ≡ option_map reply_in reply
 
+-- so it answers by whether its own call made the loan,
+abbrev pub IsToldBy : (copied : Bool) → RequestReply → Type 0
+IsToldBy copied (request_replies.Sent count) = copied ≡ false
+IsToldBy copied (request_replies.Handle number) = copied ≡ true
+IsToldBy copied reply = Unit {0}
+
 -- and it knows the places of what it accesses next.
 abbrev pub StaysAimed : Placed → RequestDispatch → Placed → RequestDispatch → Type 0
 StaysAimed x r y s = (p : Setting) → IsAimed p x.seat r → IsAimed p y.seat s
@@ -193,10 +200,11 @@ pub record LeadsTo
   pub over : answered p there ≡ option_map reply_in reply
   pub aimed : IsAimed p y.seat s
 
--- The seat is as it was unless the send is over, and that is told.
+-- The seat is as it was unless the send is over, and that is told, by who made the loan.
 pub record LeavesSeat
     (x y : Placed) (s : RequestDispatch) (reply : Option RequestReply) : Type 0 where
   pub busy : is_busy s.local ≡ is_none reply
+  pub told : IfSome reply (IsToldBy s.copied)
   pub accesses : y.seat.accesses ≡ x.seat.accesses
   pub rests : is_busy y.seat.local ≡ false
   pub room : KeepsRoom x y

@@ -127,7 +127,7 @@ impl Model for Requesting {
 }
 
 impl Requesting {
-    ghost use Rattle.std.specs.Prelude.{◌≡◌, ◌+◌, ◌<◌, ◌^◌, IfOk, false, is_none, true};
+    ghost use Rattle.std.specs.Prelude.{◌≡◌, ◌+◌, ◌<◌, ◌^◌, IfOk, IfSome, false, is_none, true};
     ghost use Rattle.iox_model.specs.Messages.{request_way};
     ghost use Rattle.iox_wire_words.specs.Programs.{program_access};
     ghost use Rattle.iox_wire_locals.specs.declared.local.Local.TheVariants.{Idle};
@@ -136,11 +136,13 @@ impl Requesting {
     ghost use Rattle.iox_wire_locals.specs.Locals.{program_of};
     ghost use Rattle.iox_wire_locals.specs.Tables.{Setting};
     ghost use Rattle.iox_wire_request_sends.specs.Aims.{Answers, FindsUsed, GoesOn, IsAimed};
-    ghost use Rattle.iox_wire_request_sends.specs.Aims.{IsOneStep, IsSameSend, MayEnd, StaysAimed};
+    ghost use Rattle.iox_wire_request_sends.specs.Aims.{IsOneStep, IsSameSend, IsToldBy, LoanMayEnd};
+    ghost use Rattle.iox_wire_request_sends.specs.Aims.{StaysAimed};
 
     /// No send is under way, and there is room for so many servers.
     pub fn new(alloc: Global, ways: usize) -> Result<Requesting, AllocError>
         ensures local { IfOk result (λ r. r.local ≡ Idle) }
+        ensures own { IfOk result (λ r. r.copied ≡ false) }
         ensures room { IfOk result (λ r. r.room ≡ ways) }
     {
         Ok(Requesting {
@@ -182,20 +184,21 @@ impl Requesting {
         }
     }
 
-    /// Goes on after its access, which found `seen`. If it is over it says what that answers. What
-    /// it gets back is to be in use at the port's desk, and what it delivers is to have room in the
-    /// record of its way.
+    /// Goes on after its access, which found `seen`. If it is over it says what that answers. A loan
+    /// that is sent is told by a handle exactly where its own call made it. What it gets back is to
+    /// be in use at the port's desk, and what it delivers is to have room in the record of its way.
     #[inline(always)]
     pub fn go_on(&mut self, seat: &mut StoredSeat, seen: u64) -> Option<RequestReply>
         requires busy { is_busy self.old.local ≡ true }
         requires accesses { seat.old.seat.accesses + 1 < 2 ^ 64 }
         requires rests { is_busy seat.old.seat.local ≡ false }
-        requires may { MayEnd seat.old self.old }
+        requires may { LoanMayEnd seat.old self.old }
         requires finds { FindsUsed seat.old self.old seen }
         ensures next { GoesOn seat.old self.old seen seat.new self.new }
         ensures over { Answers seat.old self.old seen result }
         ensures aimed { StaysAimed seat.old self.old seat.new self.new }
         ensures busy { is_busy self.new.local ≡ is_none result }
+        ensures told { IfSome result (IsToldBy self.new.copied) }
         ensures same { IsSameSend self.old self.new }
         ensures step { IsOneStep seat.old seat.new }
     {

@@ -9,7 +9,7 @@ use Rattle.iox_model.specs.Maps.{same_way, has_way, AreApart}
 use Rattle.iox_laws.proofs.WeaveLaws.MapLemmas.{same_way-true, same_way-flip}
 use Rattle.iox_wire_locals.specs.declared.table.Recorded.{Recorded}
 use Rattle.iox_wire_locals.specs.Desks.{with_slots}
-use Rattle.iox_wire_seats.specs.Records.{Noted, recorded_in, ways_in, changed, with_noted, HasRoomToNote, HaveRoomFor, HasFewer}
+use Rattle.iox_wire_seats.specs.Records.{Noted, recorded_in, ways_in, changed, with_noted, HasRoomToNote, NotesHaveRoom, HasFewer}
 use Rattle.iox_wire_seats.proofs.CountLemmas.{some-none}
 
 -- ---- where no record is of the way
@@ -134,7 +134,7 @@ more_apart ns n w apart none is =
     subst AreApart (sym (ways_more ns n))
     (apart_more n.recorded.way (ways_in ns) apart (subst (λ v. has_way v (ways_in ns) ≡ false) (sym is) none))
 
-pub rooms_more : (k : ℕ) (ns : List Noted) (n : Noted) → k ≤ n.capacity → HaveRoomFor k ns → HaveRoomFor k (ns ++ n ∷ [])
+pub rooms_more : (k : ℕ) (ns : List Noted) (n : Noted) → k ≤ n.capacity → NotesHaveRoom k ns → NotesHaveRoom k (ns ++ n ∷ [])
 rooms_more k [] n fits rooms = (fits, tt)
 rooms_more k (x ∷ ns) n fits rooms = (rooms.0, rooms_more k ns n fits rooms.1)
 
@@ -148,7 +148,7 @@ recorded_noted w f (n ∷ ns) = ap₂ (λ (r : Recorded) (rs : List Recorded). r
     by_case true = refl
     by_case false = refl
 
-pub rooms_noted : (k : ℕ) (w : Way) (f : List ℕ → List ℕ) (ns : List Noted) → HaveRoomFor k ns → HaveRoomFor k (map (with_noted w f) ns)
+pub rooms_noted : (k : ℕ) (w : Way) (f : List ℕ → List ℕ) (ns : List Noted) → NotesHaveRoom k ns → NotesHaveRoom k (map (with_noted w f) ns)
 rooms_noted k w f [] rooms = tt
 rooms_noted k w f (n ∷ ns) rooms = (by_case (same_way n.recorded.way w), rooms_noted k w f ns rooms.1)
   where
@@ -156,7 +156,7 @@ rooms_noted k w f (n ∷ ns) rooms = (by_case (same_way n.recorded.way w), rooms
     by_case true = rooms.0
     by_case false = rooms.0
 
-pub room_to_note : (k : ℕ) (w : Way) (ns : List Noted) → HaveRoomFor k ns → HasFewer k w (recorded_in ns) → HasRoomToNote w ns
+pub room_to_note : (k : ℕ) (w : Way) (ns : List Noted) → NotesHaveRoom k ns → HasFewer k w (recorded_in ns) → HasRoomToNote w ns
 room_to_note k w [] rooms fewer = tt
 room_to_note k w (n ∷ ns) rooms fewer =
     (λ same. let less : length n.recorded.slots < k = fewer.0 same in omega (arith, less, rooms.0), room_to_note k w ns rooms.1 fewer.1)

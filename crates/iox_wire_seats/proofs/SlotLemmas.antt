@@ -11,7 +11,7 @@ use Rattle.std.proofs.lemmas.List.{length-replicate, map-id}
 use Rattle.std.proofs.lemmas.List.Folds.{sum_by-replicate}
 use Rattle.std.proofs.lemmas.List.FromFn.{length-range_with_len, map-range_with_len_more}
 use Rattle.std.specs.List.{range_with_len}
-use Rattle.iox_wire_seats.specs.Slots.{AreFreeSlots, HasRoomFor}
+use Rattle.iox_wire_seats.specs.Slots.{AreFreeSlots, HasRoomForLanes}
 
 pub within : (uses : List ℕ) (slot : ℕ) → 0 < slice_index uses slot → slot < length uses
 within uses slot h = by_case (nat_lt slot (length uses)) refl
@@ -58,6 +58,6 @@ all_free uses free pool capacity u f room =
     let d : length uses ≡ pool = ap length u ∙ length-replicate pool 0 in
     record { count = omega (arith, a, b); room = omega (arith, d, room) }
 
-pub lanes_fit : (uses : List ℕ) (pool capacity : ℕ) → uses ≡ replicate pool 0 → pool ≤ capacity → HasRoomFor uses capacity
+pub lanes_fit : (uses : List ℕ) (pool capacity : ℕ) → uses ≡ replicate pool 0 → pool ≤ capacity → HasRoomForLanes uses capacity
 lanes_fit uses pool capacity u room =
     let d : length uses ≡ pool = ap length u ∙ length-replicate pool 0 in omega (arith, d, room)

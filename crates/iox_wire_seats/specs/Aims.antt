@@ -60,10 +60,10 @@ IsOfKind at.ReleaseCloses e = is_received e.kind ≡ false
 IsOfKind name e = Unit {0}
 
 -- what is the port's own has a use at its desk
-abbrev pub IsHeld : At → Entry → List Desk → Type 0
-IsHeld at.DropsOwn e desks = MayGiveUp e desks
-IsHeld at.ReleaseCloses e desks = MayGiveUp e desks
-IsHeld name e desks = Unit {0}
+abbrev pub HasUse : At → Entry → List Desk → Type 0
+HasUse at.DropsOwn e desks = MayGiveUp e desks
+HasUse at.ReleaseCloses e desks = MayGiveUp e desks
+HasUse name e desks = Unit {0}
 
 -- a read has words left, and room for them; a write has words left
 abbrev pub HasWordsLeft : At → List ℕ → (next count capacity : ℕ) → Type 0

@@ -12,8 +12,8 @@ abbrev pub counted : Placed → Placed
 counted x = record x { seat = accessed x.seat }
 
 -- there is one handle more, of a message that came on that way
-abbrev pub received : Placed → Entry → Way → Placed
-received x e w = record x { seat = at_count (gains x.seat e) w (λ n. n + 1); room = x.room - 1 }
+abbrev pub gains_received : Placed → Entry → Way → Placed
+gains_received x e w = record x { seat = at_count (gains x.seat e) w (λ n. n + 1); room = x.room - 1 }
 
 -- the message of a slot of that port was delivered on the way
 abbrev pub delivered : Placed → ℕ → Way → ℕ → Placed

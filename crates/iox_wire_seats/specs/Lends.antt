@@ -25,8 +25,8 @@ abbrev pub picked : Placed → ℕ → NewLoan → ℕ → List ℕ → Placed
 picked x port o slot free = record x { seat = at_desk x.seat port (picks o slot free) }
 
 -- there is one handle more, of a loan
-abbrev pub lent : Placed → Entry → Placed
-lent x e = record x { seat = at_desk (gains x.seat e) e.port counts_loan; room = x.room - 1 }
+abbrev pub gains_loan : Placed → Entry → Placed
+gains_loan x e = record x { seat = at_desk (gains x.seat e) e.port counts_loan; room = x.room - 1 }
 
 -- The node may have one handle more, of that number, and count one loan more of that port.
 pub record MayLend (x : Placed) (number port : ℕ) : Type 0 where

@@ -34,9 +34,9 @@ HasRoomToNote w (n ∷ notes) =
     × HasRoomToNote w notes
 
 -- on each way there is room for so many slots
-abbrev pub HaveRoomFor : ℕ → List Noted → Type 0
-HaveRoomFor k [] = Unit {0}
-HaveRoomFor k (n ∷ notes) = (k ≤ n.capacity) × HaveRoomFor k notes
+abbrev pub NotesHaveRoom : ℕ → List Noted → Type 0
+NotesHaveRoom k [] = Unit {0}
+NotesHaveRoom k (n ∷ notes) = (k ≤ n.capacity) × NotesHaveRoom k notes
 
 -- fewer slots than that are recorded on the way
 abbrev pub HasFewer : ℕ → Way → List Recorded → Type 0

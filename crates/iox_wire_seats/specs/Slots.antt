@@ -27,8 +27,8 @@ abbrev pub HasSerials : (serials uses : List ℕ) → Type 0
 HasSerials serials uses = length serials ≡ length uses
 
 -- there is room for as many lanes as there are slots
-abbrev pub HasRoomFor : List ℕ → ℕ → Type 0
-HasRoomFor uses capacity = length uses ≤ capacity
+abbrev pub HasRoomForLanes : List ℕ → ℕ → Type 0
+HasRoomForLanes uses capacity = length uses ≤ capacity
 
 -- a port that lent nothing yet, with so many slots and lanes, and no ways to send on
 abbrev pub new_desk : (port pool lanes : ℕ) → Desk

@@ -35,8 +35,8 @@ impl Model for StoredDesk {
     ghost use Rattle.std.specs.Prelude.{length};
     ghost use Rattle.std.specs.VecDeque.{deque_capacity};
     ghost use Rattle.iox_wire_locals.specs.declared.table.Desk.{Desk};
-    ghost use Rattle.iox_wire_seats.specs.Slots.{AreFreeSlots, HasRoomFor, HasSerials, MayBePicked};
-    ghost use Rattle.iox_wire_seats.specs.Records.{HaveRoomFor, recorded_in};
+    ghost use Rattle.iox_wire_seats.specs.Slots.{AreFreeSlots, HasRoomForLanes, HasSerials, MayBePicked};
+    ghost use Rattle.iox_wire_seats.specs.Records.{NotesHaveRoom, recorded_in};
 
     ghost Value = { Desk };
 
@@ -51,9 +51,9 @@ impl Model for StoredDesk {
     } };
 
     ghost invariant = { λ d. AreFreeSlots d.uses.items d.free.items (deque_capacity d.free)
-        × HasRoomFor d.uses.items (deque_capacity d.free_lanes)
+        × HasRoomForLanes d.uses.items (deque_capacity d.free_lanes)
         × MayBePicked d.uses.items d.free.items × HasSerials d.serials.items d.uses.items
-        × HaveRoomFor (length d.uses.items) d.recorded };
+        × NotesHaveRoom (length d.uses.items) d.recorded };
 }
 
 impl StoredDesk {

@@ -102,7 +102,7 @@ impl Records {
     ghost use Rattle.std.specs.Prelude.{◌≡◌, ◌++◌, ◌∷◌, [], ◌<◌, ◌≤◌, IfSome, OnErr, OnOk, false};
     ghost use Rattle.std.specs.Prelude.{length, map, position};
     ghost use Rattle.iox_model.specs.Maps.{has_way, same_way, without_number};
-    ghost use Rattle.iox_wire_seats.specs.Records.{HasRoomToNote, HaveRoomFor, recorded_in};
+    ghost use Rattle.iox_wire_seats.specs.Records.{HasRoomToNote, NotesHaveRoom, recorded_in};
     ghost use Rattle.iox_wire_seats.specs.Records.{ways_in, with_noted};
 
     /// Of no way.
@@ -119,7 +119,7 @@ impl Records {
         requires { has_way way (ways_in self.old) ≡ false }
         ensures added { OnOk result (recorded_in self.new
             ≡ recorded_in self.old ++ record { way = way; slots = [] } ∷ []) }
-        ensures room { HaveRoomFor room self.old → HaveRoomFor room self.new }
+        ensures room { NotesHaveRoom room self.old → NotesHaveRoom room self.new }
         ensures unchanged { OnErr result (self.new ≡ self.old) }
     {
         let record = StoredRecorded::new(alloc, way, room)?;

@@ -106,7 +106,7 @@ pub struct StoredSeat {
 impl Model for StoredSeat {
     ghost use Rattle.std.specs.Prelude.{◌≤◌, vec_capacity};
     ghost use Rattle.iox_wire_seats.specs.Aims.{AreInMemory, AreVisited, HasWordsLeft, IsInMemory};
-    ghost use Rattle.iox_wire_seats.specs.Aims.{IsHeld, IsOfKind, MayBeHinted};
+    ghost use Rattle.iox_wire_seats.specs.Aims.{HasUse, IsOfKind, MayBeHinted};
     ghost use Rattle.iox_wire_seats.specs.Seats.{Placed, local_of};
 
     ghost Value = { Placed };
@@ -145,7 +145,7 @@ impl Model for StoredSeat {
     } };
 
     ghost invariant = { λ s.
-        IsInMemory s.site × IsOfKind s.at s.entry × IsHeld s.at s.entry s.desks
+        IsInMemory s.site × IsOfKind s.at s.entry × HasUse s.at s.entry s.desks
         × AreInMemory s.message s.count
         × HasWordsLeft s.at s.words.items s.next s.count (vec_capacity s.words)
         × MayBeHinted s.at s.entry × AreVisited s.at s.site s.left.left

@@ -33,7 +33,7 @@ use Rattle.iox_wire_laws.proofs.WireKeeping.CountsKept.{begins_keep_own}
 use Rattle.iox_wire_laws.specs.WireOwners.FirmOwners.{OwnsFirmly}
 use Rattle.iox_wire_laws.proofs.WireOwners.FirmOwners.{calls_begin_firmly}
 use Rattle.iox_wire_laws.proofs.WireOwners.Borrowed.{own_parts_keep_borrowed}
-use Rattle.iox_wire_laws.specs.WireOwners.Releases.{IsReleased}
+use Rattle.iox_wire_laws.specs.WireOwners.Releases.{ReleasesOwnHandle}
 use Rattle.iox_wire_laws.specs.WireOwners.RequestStates.{NamesNoOther}
 use Rattle.iox_wire_laws.specs.WireOwners.SentStates.{HasOpened}
 use Rattle.iox_wire_laws.specs.WireRegions.OwnedBegins.{LayoutFits}
@@ -284,7 +284,7 @@ module _ (p : Setting) (held : Pools) (w : World) (x : Seat) (call : WireCall) (
     counted = λ v way there.
         ap (λ (bs : List Borrowed). list_any (λ (b : Borrowed). same_way b.way v) bs) part.borrowed ∙ stands.counted v way (there ∙ part.node);
     numbers = subst (λ (es : List Entry). AreDistinct (map (λ (e : Entry). e.number) es)) (sym part.table) stands.numbers;
-    released = λ e has. subst (λ k. IsReleased s.fixed k e) (sym part.node) (stands.released e (back e has));
+    released = λ e has. subst (λ k. ReleasesOwnHandle s.fixed k e) (sym part.node) (stands.released e (back e has));
     states = λ e has pending.
         subst (Each (λ v. NamesNoOther (s.request_state v) e.request)) (sym (states e)) (stands.states e (back e has) pending);
     opened = at.opened;

@@ -39,7 +39,7 @@ use Rattle.iox_wire_locals.specs.ReceiveCourses as receives
 use Rattle.iox_wire_locals.specs.ReceiveFindings as found
 use Rattle.iox_wire_locals.specs.Steps.{advance, pop_finds, pop_place, push_finds, push_place}
 use Rattle.iox_wire_locals.specs.Tables.{Setting, words_to_read}
-use Rattle.iox_wire_stands.specs.Following.{AccessesFollow, CallMessage, Dropped, Follows, IsOfEntry, Leaving, Lent, MayLetGo, NoMessage, OfEntry, Sent, Taken, Unchanged, changed, desk_change, drops, keeps, lets_go, message_at, picks_slot, popped_back, published, pushed_out, puts_aside, sends_loan, takes}
+use Rattle.iox_wire_stands.specs.Following.{AccessesFollow, CallMessage, Dropped, NodeContinues, IsOfEntry, Leaving, Lent, MayLetGo, NoMessage, OfEntry, Sent, Taken, Unchanged, changed, desk_change, drops, keeps, lets_go, message_at, picks_slot, popped_back, delivers_published, pushed_out, puts_aside, sends_loan, takes}
 
 -- ---- courses of sends
 
@@ -180,7 +180,7 @@ module _ (p : Setting) (x : Seat) (e : Entry) where
 
 module _ (p : Setting) (x : Seat) (local : Local) (seen : ℕ) where
   abbrev F : Seat → Type 0
-  F y = Follows p x local seen y
+  F y = NodeContinues p x local seen y
 
   -- where desks do not change
   has_message : (message : CallMessage) (y : Seat) → message_at local ≡ message → desk_change p local seen ≡ Unchanged → Has x message y → F y
@@ -211,38 +211,38 @@ module _ (p : Setting) (x : Seat) (seen : ℕ) where
   -- loans
   takes_slot : (o : NewLoan) (w : Way) (place : Popping) (left : List Way) (free : List ℕ) → free_slots x o.port ≡ free
       → popped_back o.port w (pop_finds p (ReturningQueue w) place seen) ≡ Unchanged
-      → Follows p x (LendEmpties o w place left) seen (courses.takes_slot x o free)
+      → NodeContinues p x (LendEmpties o w place left) seen (courses.takes_slot x o free)
   takes_slot o w place left [] is still = has_message p x (LendEmpties o w place left) seen NoMessage _ refl still (at x _ _ refl)
   takes_slot o w place left (slot ∷ free) is still = picks_slot o slot free refl still refl refl is tt
 
   loaning : (o : NewLoan) (w : Way) (place : Popping) (before left : List Way)
       → popped_back o.port w (pop_finds p (ReturningQueue w) place seen) ≡ Unchanged
-      → Follows p x (LendEmpties o w place before) seen (courses.loaning x o left)
+      → NodeContinues p x (LendEmpties o w place before) seen (courses.loaning x o left)
   loaning o w place before [] still = takes_slot o w place before (free_slots x o.port) refl still
   loaning o w place before (v ∷ left) still = has_message p x (LendEmpties o w place before) seen NoMessage _ refl still (at x _ _ refl)
 
   loan_emptied : (o : NewLoan) (w : Way) (place : Popping) (left : List Way) (event : QueueEvent) → pop_finds p (ReturningQueue w) place seen ≡ event
-      → Follows p x (LendEmpties o w place left) seen (findings.loan_emptied x o w left (pop_place p (ReturningQueue w) place seen) event)
+      → NodeContinues p x (LendEmpties o w place left) seen (findings.loan_emptied x o w left (pop_place p (ReturningQueue w) place seen) event)
   loan_emptied o w place left (HandOut slot) is = keeps (ap (λ e. (changed (popped_back o.port w e) x).desks) (sym is)) refl
   loan_emptied o w place left SeesEmpty is = loaning o w place left left (ap (popped_back o.port w) is)
   loan_emptied o w place left event is =
       has_message p x (LendEmpties o w place left) seen NoMessage _ refl (ap (popped_back o.port w) is) (at x _ _ refl)
 
-  loan_stored : (o : NewLoan) (slot next : ℕ) → Follows p x (LendStores o slot next) seen (findings.loan_stored p x o slot next)
+  loan_stored : (o : NewLoan) (slot next : ℕ) → NodeContinues p x (LendStores o slot next) seen (findings.loan_stored p x o slot next)
   loan_stored o slot next =
-      either (Follows p x (LendStores o slot next) seen) (next + 1 == length (loan_words p o)) (courses.lent p x o slot)
+      either (NodeContinues p x (LendStores o slot next) seen) (next + 1 == length (loan_words p o)) (courses.lent p x o slot)
       (courses.placed x (LendStores o slot (next + 1))) (by_copies o.copies refl)
       (has_message p x (LendStores o slot next) seen (Lent o slot) _ refl refl (at x _ _ refl))
     where
       by_copies : (b : Bool) → o.copies ≡ b
-          → Follows p x (LendStores o slot next) seen (if b then courses.sends p x (entry_in o slot) true else courses.ended x (endings.Lends o slot))
+          → NodeContinues p x (LendStores o slot next) seen (if b then courses.sends p x (entry_in o slot) true else courses.ended x (endings.Lends o slot))
       by_copies true is =
           let sent = sends p x (entry_in o slot) true in sends_loan o slot sent.desks refl refl is sent.names
       by_copies false is = has_message p x (LendStores o slot next) seen (Lent o slot) _ refl refl (at x _ _ refl)
 
   -- sends
   send_emptied : (d : Delivery) (w : Way) (place : Popping) (left : List Way) (event : QueueEvent) → pop_finds p (ReturningQueue w) place seen ≡ event
-      → Follows p x (SendEmpties d w place left) seen (findings.send_emptied p x d w left (pop_place p (ReturningQueue w) place seen) event)
+      → NodeContinues p x (SendEmpties d w place left) seen (findings.send_emptied p x d w left (pop_place p (ReturningQueue w) place seen) event)
   send_emptied d w place left (HandOut slot) is = keeps (ap (λ e. (changed (popped_back d.loan.port w e) x).desks) (sym is)) refl
   send_emptied d w place left SeesEmpty is =
       has_message p x (SendEmpties d w place left) seen (Sent d.loan d.copied) _ refl (ap (popped_back d.loan.port w) is) (emptying p x d left)
@@ -250,7 +250,7 @@ module _ (p : Setting) (x : Seat) (seen : ℕ) where
       has_message p x (SendEmpties d w place left) seen (Sent d.loan d.copied) _ refl (ap (popped_back d.loan.port w) is) (at x _ _ refl)
 
   send_looked : (d : Delivery) (w : Way) (place : Pushing) (left full : List Way) (next : Pushing) (event : QueueEvent)
-      → Follows p x (SendLooks d w place left full) seen (findings.send_looked p x d w left full next event)
+      → NodeContinues p x (SendLooks d w place left full) seen (findings.send_looked p x d w left full next event)
   send_looked d w place left full next SeesFull =
       has_message p x (SendLooks d w place left full) seen (Sent d.loan d.copied) _ refl refl (looking p x d left (w ∷ full))
   send_looked d w place left full next SeesRoom =
@@ -260,21 +260,21 @@ module _ (p : Setting) (x : Seat) (seen : ℕ) where
 
   send_pushed : (d : Delivery) (last : Option Way) (w : Way) (place : Pushing) (left : List Way) (count : ℕ) (event : QueueEvent)
       → push_finds p (MessageQueue w) place seen ≡ event
-      → Follows p x (SendPushes d last w place left count) seen
+      → NodeContinues p x (SendPushes d last w place left count) seen
       (findings.send_pushed p x d last w left count (push_place p (MessageQueue w) place seen) event)
   send_pushed d last w place left count (Publish slot) is =
       let z : Seat = at_desk x d.loan.port (delivers w slot) in
       let sent = delivered z (push_place p (MessageQueue w) place seen) in
-      keeps (sent.desks ∙ ap (λ e. (changed (published d.loan.port w e) x).desks) (sym is)) sent.names
+      keeps (sent.desks ∙ ap (λ e. (changed (delivers_published d.loan.port w e) x).desks) (sym is)) sent.names
     where
       delivered : (z : Seat) (next : Pushing) → Has z (Sent d.loan d.copied) (findings.send_delivered p z d w left (count + 1) next)
       delivered z pushing.AtRest = delivering z d (may_evict (sending p z d) w) left (count + 1)
       delivered z next = at z _ _ refl
   send_pushed d last w place left count event is =
-      has_message p x (SendPushes d last w place left count) seen (Sent d.loan d.copied) _ refl (ap (published d.loan.port w) is) (at x _ _ refl)
+      has_message p x (SendPushes d last w place left count) seen (Sent d.loan d.copied) _ refl (ap (delivers_published d.loan.port w) is) (at x _ _ refl)
 
   send_evicted : (d : Delivery) (w : Way) (place : Pushing) (left : List Way) (count : ℕ) (next : Pushing) (event : QueueEvent)
-      → Follows p x (SendEvicts d w place left count) seen (findings.send_evicted x d w left count next event)
+      → NodeContinues p x (SendEvicts d w place left count) seen (findings.send_evicted x d w left count next event)
   send_evicted d w place left count next Evict =
       has_message p x (SendEvicts d w place left count) seen (Sent d.loan d.copied) _ refl refl (at x _ _ refl)
   send_evicted d w place left count next event =
@@ -282,7 +282,7 @@ module _ (p : Setting) (x : Seat) (seen : ℕ) where
 
   send_got_back : (d : Delivery) (w : Way) (place : Pushing) (left : List Way) (count : ℕ) (next : Pushing) (event : QueueEvent)
       → push_finds p (MessageQueue w) place seen ≡ event
-      → Follows p x (SendGetsBack d w place left count) seen (findings.send_got_back x d w left count next event)
+      → NodeContinues p x (SendGetsBack d w place left count) seen (findings.send_got_back x d w left count next event)
   send_got_back d w place left count next (Learn slot) is =
       let sent = delivering (at_desk x d.loan.port (gets_back w slot)) d None left count in
       keeps (sent.desks ∙ ap (λ e. (changed (pushed_out d.loan.port w e) x).desks) (sym is)) sent.names
@@ -291,7 +291,7 @@ module _ (p : Setting) (x : Seat) (seen : ℕ) where
 
   -- receives
   receive_looked : (v : Visit) (w : Way) (place : Popping) (left : List Way) (waiting : Bool) (next : Popping) (event : QueueEvent)
-      → Follows p x (ReceiveLooks v w place left waiting) seen (found.receive_looked p x v w left waiting next event)
+      → NodeContinues p x (ReceiveLooks v w place left waiting) seen (found.receive_looked p x v w left waiting next event)
   receive_looked v w place left waiting next SeesEmpty = none_yet p x (ReceiveLooks v w place left waiting) seen _ refl refl (visiting p x NoMessage v left waiting)
   receive_looked v w place left waiting next SeesWaiting = none_yet p x (ReceiveLooks v w place left waiting) seen _ refl refl (visiting p x NoMessage v left true)
   receive_looked v w place left waiting next event =
@@ -299,7 +299,7 @@ module _ (p : Setting) (x : Seat) (seen : ℕ) where
 
   receive_popped : (v : Visit) (w : Way) (more : Bool) (place : Popping) (left : List Way) (waiting : Bool) (next : Popping) (event : QueueEvent)
       → pop_finds p (MessageQueue w) place seen ≡ event
-      → Follows p x (ReceivePops v w more place left waiting) seen (found.receive_popped p x v w more left waiting next event)
+      → NodeContinues p x (ReceivePops v w more place left waiting) seen (found.receive_popped p x v w more left waiting next event)
   receive_popped v w more place left waiting next (HandOut slot) is = takes w slot refl refl refl (refl, is)
   receive_popped v w more place left waiting next SeesEmpty is =
       none_yet p x (ReceivePops v w more place left waiting) seen _ refl refl (visiting p x NoMessage v left waiting)
@@ -307,36 +307,36 @@ module _ (p : Setting) (x : Seat) (seen : ℕ) where
       has_message p x (ReceivePops v w more place left waiting) seen NoMessage _ refl refl (at x _ _ refl)
 
   receive_loaded : (v : Visit) (w : Way) (slot : ℕ) (old header : List ℕ) (left : List Way) (waiting : Bool)
-      → Follows p x (ReceiveLoads v w slot old left waiting) seen (found.receive_loaded p x v w slot header left waiting)
+      → NodeContinues p x (ReceiveLoads v w slot old left waiting) seen (found.receive_loaded p x v w slot header left waiting)
   receive_loaded v w slot old header left waiting =
       lets p x (ReceiveLoads v w slot old left waiting) seen (Taken w slot) (found.receive_loaded p x v w slot header left waiting) refl refl tt
       (either (Lets x (Taken w slot)) (length header == received_length v) (receives.took p x v w slot header left waiting)
       (courses.placed x (ReceiveLoads v w slot header left waiting)) (took p x v w slot header left waiting) (has p x (Taken w slot) _ refl))
 
   receive_returned : (v : Visit) (w : Way) (slot : ℕ) (place : Pushing) (left : List Way) (waiting : Bool) (next : Pushing) (event : QueueEvent)
-      → Follows p x (ReceiveReturns v w slot place left waiting) seen (found.receive_returned x v w slot left waiting next event)
+      → NodeContinues p x (ReceiveReturns v w slot place left waiting) seen (found.receive_returned x v w slot left waiting next event)
   receive_returned v w slot place left waiting next (Publish given) =
       lets p x (ReceiveReturns v w slot place left waiting) seen (Taken w slot) _ refl refl tt (none p x (Taken w slot) _ refl)
   receive_returned v w slot place left waiting next event =
       lets p x (ReceiveReturns v w slot place left waiting) seen (Taken w slot) _ refl refl tt (has p x (Taken w slot) _ refl)
 
-  sought : (w : Way) (place : Popping) (left : List Way) (next : Popping) (event : QueueEvent) → Follows p x (Seeks w place left) seen (found.sought x w left next event)
+  sought : (w : Way) (place : Popping) (left : List Way) (next : Popping) (event : QueueEvent) → NodeContinues p x (Seeks w place left) seen (found.sought x w left next event)
   sought w place left next SeesEmpty = none_yet p x (Seeks w place left) seen _ refl refl (seeking p x NoMessage left)
   sought w place left next SeesWaiting = has_message p x (Seeks w place left) seen NoMessage _ refl refl (at x _ _ refl)
   sought w place left next event = has_message p x (Seeks w place left) seen NoMessage _ refl refl (at x _ _ refl)
 
   -- entries
   of_entry : (e : Entry) (local : Local) (y : Seat) → message_at local ≡ OfEntry e → desk_change p local seen ≡ Unchanged → Lets x (OfEntry e) y
-      → Follows p x local seen y
+      → NodeContinues p x local seen y
   of_entry e local y before still follows = lets p x local seen (OfEntry e) y before still tt follows
 
-  release_returned : (e : Entry) (place next : Pushing) (event : QueueEvent) → Follows p x (ReleaseReturns e place) seen (found.release_returned x e next event)
+  release_returned : (e : Entry) (place next : Pushing) (event : QueueEvent) → NodeContinues p x (ReleaseReturns e place) seen (found.release_returned x e next event)
   release_returned e place next (Publish slot) =
-      either (Follows p x (ReleaseReturns e place) seen) (same_kind e.kind ActiveRequest) (courses.placed x (ReleaseLooks e))
+      either (NodeContinues p x (ReleaseReturns e place) seen) (same_kind e.kind ActiveRequest) (courses.placed x (ReleaseLooks e))
       (courses.ended x (endings.Drops e)) (puts_aside e refl refl refl refl) (drops e refl refl refl refl)
   release_returned e place next event = of_entry e (ReleaseReturns e place) _ refl refl (has p x (OfEntry e) _ refl)
 
-  follows : (local : Local) → x.local ≡ local → Follows p x local seen (advance p x local seen)
+  follows : (local : Local) → x.local ≡ local → NodeContinues p x local seen (advance p x local seen)
   follows Idle is = keeps refl (ap message_at is)
   follows (Ends ending) is = keeps refl (ap message_at is)
   follows (SendEnds d last count) is = keeps refl (ap message_at is)

@@ -26,7 +26,7 @@ use Rattle.iox_wire_locals.specs.Locals.{state_told, state_word}
 use Rattle.iox_wire_locals.specs.StateMoments.{leaving_moment, looked, moment_at}
 use Rattle.iox_wire_locals.specs.StepLaws.{ReliesOn}
 use Rattle.iox_wire_locals.specs.Tables.{Setting, state_in, way_in}
-use Rattle.iox_wire_stands.specs.Following.{desk_change, popped_back, published}
+use Rattle.iox_wire_stands.specs.Following.{desk_change, popped_back, delivers_published}
 use Rattle.iox_wire_stands.specs.FollowingLaws.{DesksFollowMoments, IsMomentOf, LeavesAll}
 
 module _ (held : Pools) (port : ℕ) (w : Way) where
@@ -41,7 +41,7 @@ module _ (held : Pools) (port : ℕ) (w : Way) where
   IsNoLearn (Learn slot) = ⊥
   IsNoLearn event = Unit {0}
 
-  delivers : (event : QueueEvent) → IsNoLearn event → IsMomentOf held (published port w event) (or_else (push_moment held w event) None)
+  delivers : (event : QueueEvent) → IsNoLearn event → IsMomentOf held (delivers_published port w event) (or_else (push_moment held w event) None)
   delivers (Publish slot) other = refl
   delivers (Learn slot) other = absurd other
   delivers Evict other = tt

@@ -23,7 +23,7 @@ use Rattle.iox_wire_laws.specs.WireRegions.OwnedWords.{Owns}
 use Rattle.iox_wire_laws.specs.WireHolding.Aside.{slot_aside}
 use Rattle.iox_wire_laws.specs.WireHolding.FarSlots.{IsInPool, NamesSlots, TakesFromPool}
 use Rattle.iox_wire_laws.specs.WireHolding.SlotsKnown.{HasEntry, HasSent, IsAside, NamesStand, PlaceStands}
-use Rattle.iox_wire_stands.specs.Following.{CallMessage, Follows, IsReturning, Leaving, Lent, OfEntry, Sent, Taken, TakesOn, drops, keeps, lets_go, message_at, picks_slot, puts_aside, sends_loan, takes}
+use Rattle.iox_wire_stands.specs.Following.{CallMessage, NodeContinues, IsReturning, Leaving, Lent, OfEntry, Sent, Taken, TakesOn, drops, keeps, lets_go, message_at, picks_slot, puts_aside, sends_loan, takes}
 use Rattle.iox_wire_stands.specs.NamesLaws.{AccessesKeepNames, ReturnsNothing, TakesInPool}
 use Rattle.iox_wire_stands.proofs.Follows.{accesses_follow}
 
@@ -131,7 +131,7 @@ module _ (p : Setting) (held : Pools) (s : State) (x : Seat) (seen : ℕ) where
     pub before : Stands p s.fixed x (message_at x.local)
     before = of_place p s.fixed x x.local names.place slots.place
 
-    pub after : Follows p (accessed x) x.local seen y → Stands p s.fixed y (message_at y.local)
+    pub after : NodeContinues p (accessed x) x.local seen y → Stands p s.fixed y (message_at y.local)
     after (keeps desks message) =
         subst (Stands p s.fixed y) (sym message) (still_stands p s.fixed x y part (message_at x.local) before)
     after (lets_go desks still message may) = subst (Stands p s.fixed y) (sym message) tt

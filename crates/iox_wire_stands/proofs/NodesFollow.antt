@@ -17,7 +17,7 @@ use Rattle.iox_laws.proofs.WeaveLedger.Truths.{none-some, or-left}
 use Rattle.iox_steps.specs.Accesses.{seen_by}
 use Rattle.iox_word_map.specs.WordMaps.{IsWay}
 use Rattle.iox_wire_words.specs.Fits.{WireContents}
-use Rattle.iox_wire_words.specs.Laws.{IsMade}
+use Rattle.iox_wire_words.specs.Laws.{AccessIsMade}
 use Rattle.iox_wire_words.specs.Programs.{program_access}
 use Rattle.iox_wire_moments.specs.MomentsOf.{Pools}
 use Rattle.iox_wire_locals.specs.declared.local.Local.{Local}
@@ -44,7 +44,7 @@ use Rattle.iox_wire_laws.specs.WireOwners.Borrowed.{BorrowedFits, HasCount}
 use Rattle.iox_wire_laws.specs.WireOwners.FirmOwners.{OwnsFirmly}
 use Rattle.iox_wire_laws.proofs.WireOwners.Borrowed.{counts_tell_limits, own_parts_keep_borrowed}
 use Rattle.iox_wire_laws.proofs.WireOwners.FirmOwners.{firm_owners_stay}
-use Rattle.iox_wire_laws.specs.WireOwners.Releases.{HasOwnStates, IsReleased}
+use Rattle.iox_wire_laws.specs.WireOwners.Releases.{HasOwnStates, ReleasesOwnHandle}
 use Rattle.iox_wire_laws.specs.WireOwners.SentStates.{HasOpened}
 use Rattle.iox_wire_laws.proofs.WireOwners.SentStates.{accesses_leave_opened, accesses_leave_states}
 use Rattle.iox_wire_laws.specs.WireRegions.OwnedBegins.{LayoutFits}
@@ -61,9 +61,9 @@ use Rattle.iox_wire_pools.specs.UsesLaws.{FindsUsed}
 use Rattle.iox_wire_pools.proofs.AccessUses.{accesses_keep_uses}
 use Rattle.iox_wire_pools.proofs.AccessesFound.{accesses_find_used}
 use Rattle.iox_wire_stands.specs.FollowingLaws.{TakesNext}
-use Rattle.iox_wire_stands.specs.Following.{CallMessage, Delivered, DeskChange, Dropped, Follows, IsReturning, Leaving, LeavesNothing, Lent, MayLetGo, NoMessage, GotBack, Unchanged, changed, desk_change, drops, keeps, lets_go, message_at, picks_slot, puts_aside, sends_loan, takes}
+use Rattle.iox_wire_stands.specs.Following.{CallMessage, Delivered, DeskChange, Dropped, NodeContinues, IsReturning, Leaving, LeavesNothing, Lent, MayLetGo, NoMessage, GotBack, Unchanged, changed, desk_change, drops, keeps, lets_go, message_at, picks_slot, puts_aside, sends_loan, takes}
 use Rattle.iox_wire_stands.specs.NamesLaws.{ReturnsNothing, TakesInPool}
-use Rattle.iox_wire_stands.specs.NodeLaws.{AccessesKeepNodes, IsTold}
+use Rattle.iox_wire_stands.specs.NodeLaws.{AccessesKeepNodes, ToldWhatIsSo}
 use Rattle.iox_wire_stands.specs.Nodes.{HasOwnDesks, LendsAtHome, NodeStands}
 use Rattle.iox_wire_stands.specs.Stands.{AreNumbered, OwnersAre}
 use Rattle.iox_wire_stands.proofs.Follows.{accesses_follow}
@@ -131,7 +131,7 @@ module _ (p : Setting) (x : Seat) (seen : ℕ) where
       → SameDesk (find (λ d. d.port == port) x.desks) (find (λ d. d.port == port) next_seat.desks)
   at ds port is same = subst (λ ks. SameDesk (find (λ d. d.port == port) x.desks) (find (λ d. d.port == port) ks)) (sym is) same
 
-  same_desk : (port : ℕ) → Follows p (accessed x) x.local seen next_seat
+  same_desk : (port : ℕ) → NodeContinues p (accessed x) x.local seen next_seat
       → SameDesk (find (λ d. d.port == port) x.desks) (find (λ d. d.port == port) next_seat.desks)
   same_desk port (keeps desks message) = at _ port desks (by_change (accessed x) (desk_change p x.local seen) port)
   same_desk port (lets_go desks still message may) = at x.desks port desks (itself (find (λ d. d.port == port) x.desks))
@@ -161,7 +161,7 @@ returns_not (ReleaseReturns k place) e is = tt
 returns_not local e is = absurd is
 
 still_leaving : (p : Setting) (local : Local) (seen : ℕ) (x y : Seat) (e : Entry) → message_at local ≡ Leaving e → ending_at y.local ≡ None
-    → Follows p x local seen y → message_at y.local ≡ Leaving e
+    → NodeContinues p x local seen y → message_at y.local ≡ Leaving e
 still_leaving p local seen x y e is going (keeps desks message) = message ∙ is
 still_leaving p local seen x y e is going (lets_go desks still message may) = absurd (subst LeavesNothing is (lets_not (message_at local) may))
 still_leaving p local seen x y e is going (takes w slot desks still message took) =
@@ -211,7 +211,7 @@ pub record KeptPart (p : Setting) (held : Pools) (s : State) (x : Seat) : Type 0
   pub borrowed : BorrowedFits p x s.fixed
   pub counted : (y : Way) → IsWay p.layout.sizes y → p.layout.owner y.receiver ≡ x.node → HasCount x y
   pub numbers : AreDistinct (map (λ e. e.number) x.table)
-  pub released : (e : Entry) → HasEntry x e → IsReleased s.fixed x.node e
+  pub released : (e : Entry) → HasEntry x e → ReleasesOwnHandle s.fixed x.node e
   pub states : (e : Entry) → HasEntry x e → same_kind e.kind PendingResponse ≡ true → HasOwnStates p x s.request_state e
   pub opened : HasOpened s.request_state x.local
   pub tells : TellsLane held x.local
@@ -246,7 +246,7 @@ module _ (p : Setting) (held : Pools) (word word' : ℕ → ℕ) (c : WireConten
   abbrev t : State
   t = state_after s (moment_at p held x.local seen)
 
-  module _ (told : IsTold p held s x seen) (made : IsMade (program_access p.layout (program_of p x.local)) word word') where
+  module _ (told : ToldWhatIsSo p held s x seen) (made : AccessIsMade (program_access p.layout (program_of p x.local)) word word') where
     part : KeepsOwn x y
     part = steps_keep_own p x seen
 
@@ -276,7 +276,7 @@ module _ (p : Setting) (held : Pools) (word word' : ℕ → ℕ) (c : WireConten
     at_home (Lent o slot) has = (has.0, has.1 ∙ sym part.node)
     at_home other has = tt
 
-    lends : Follows p (accessed x) x.local seen y → LendsAtHome p y (message_at y.local)
+    lends : NodeContinues p (accessed x) x.local seen y → LendsAtHome p y (message_at y.local)
     lends (keeps desks message) = subst (LendsAtHome p y) (sym message) (at_home (message_at x.local) stands.lends)
     lends (lets_go desks still message may) = subst (LendsAtHome p y) (sym message) tt
     lends (takes w slot desks still message took) = subst (LendsAtHome p y) (sym message) tt
@@ -307,7 +307,7 @@ module _ (p : Setting) (held : Pools) (word word' : ℕ → ℕ) (c : WireConten
           ap (λ (bs : List Borrowed). list_any (λ (b : Borrowed). same_way b.way v) bs) part.borrowed ∙ stands.counted v way (at ∙ part.node);
       numbers = subst (λ (es : List Entry). AreDistinct (map (λ (e : Entry). e.number) es)) (sym part.table) stands.numbers;
       released = λ e has.
-          subst (λ k. IsReleased t.fixed k e) (sym part.node) (subst (λ f. IsReleased f x.node e) (sym fixed) (stands.released e (back e has)));
+          subst (λ k. ReleasesOwnHandle t.fixed k e) (sym part.node) (subst (λ f. ReleasesOwnHandle f x.node e) (sym fixed) (stands.released e (back e has)));
       states = λ e has pending.
           accesses_leave_states p held s x seen e pending (told.elsewhere e (back e has) pending) (stands.states e (back e has) pending);
       opened = accesses_leave_opened p held s x seen told.relies stands.opened;

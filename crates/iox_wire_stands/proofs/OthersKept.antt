@@ -17,7 +17,7 @@ use Rattle.iox_wire_locals.specs.Tables.{Setting}
 use Rattle.iox_wire_laws.specs.WireKeeping.Readiness.{ShowsDoing}
 use Rattle.iox_wire_laws.specs.WireKeeping.Records.{RecordsFit, record_of, recorded_of}
 use Rattle.iox_wire_laws.specs.WireKeeping.UsedSlots.{PortFits}
-use Rattle.iox_wire_laws.specs.WireOwners.Releases.{IsReleased}
+use Rattle.iox_wire_laws.specs.WireOwners.Releases.{ReleasesOwnHandle}
 use Rattle.iox_wire_laws.specs.WireRegions.OwnedBegins.{LayoutFits}
 use Rattle.iox_wire_laws.specs.WireHolding.SlotsKnown.{IsPortOfSeat, SlotsKnown}
 use Rattle.iox_wire_laws.proofs.WireHolding.OthersNames.{others_leave_names}
@@ -71,9 +71,9 @@ module _ (p : Setting) (held : Pools) (w u : World) (b : Beat) (x : Seat) (reach
     apart = stands.slots.apart;
   }
 
-  released : (e : Entry) → IsReleased w.state.fixed x.node e → IsReleased u.state.fixed x.node e
+  released : (e : Entry) → ReleasesOwnHandle w.state.fixed x.node e → ReleasesOwnHandle u.state.fixed x.node e
   released e is =
-      let it = subst (λ ports. IsReleased (record w.state.fixed { ports = ports }) x.node e) (sym (ports_same w u b x.node reach beat other)) is in
+      let it = subst (λ ports. ReleasesOwnHandle (record w.state.fixed { ports = ports }) x.node e) (sym (ports_same w u b x.node reach beat other)) is in
       record { pending = it.pending; request = it.request; response = it.response }
 
   kept : NodeStands p held u.state x

@@ -24,7 +24,7 @@ use Rattle.iox_steps.specs.declared.side.QueueEvent.TheVariants.{HandOut, Learn}
 use Rattle.iox_steps.specs.Fits.{write_of}
 use Rattle.iox_word_map.specs.WordMaps.{MessageQueue, ReturningQueue, WireQueue}
 use Rattle.iox_wire_words.specs.Fits.{MayRun, WireContents}
-use Rattle.iox_wire_words.specs.Laws.{Finds, IsMade}
+use Rattle.iox_wire_words.specs.Laws.{Finds, AccessIsMade}
 use Rattle.iox_wire_words.specs.Programs.{program_access, site_of}
 use Rattle.iox_wire_words.proofs.Steps.{each_access_keeps_the_words}
 use Rattle.iox_wire_moments.specs.MomentsOf.{Pools}
@@ -124,7 +124,7 @@ module _ (p : Setting) (held : Pools) (word word' : ℕ → ℕ) (c : WireConten
 
   -- ---- what a program finds
 
-  module _ (local : Local) (is : x.local ≡ local) (may : MayRun p.layout n (program_of p local)) (made : IsMade (program_access p.layout (program_of p local)) word word') where
+  module _ (local : Local) (is : x.local ≡ local) (may : MayRun p.layout n (program_of p local)) (made : AccessIsMade (program_access p.layout (program_of p local)) word word') where
     found : Finds p.layout word word' (programs_of p seats) c (program_of p local) (seen_by (program_access p.layout (program_of p local)) word)
     found =
         (each_access_keeps_the_words p.layout word word' (programs_of p seats) c n (program_of p local) shows.sized shows.words (ap (program_of p) is) may made).1
@@ -145,7 +145,7 @@ module _ (p : Setting) (held : Pools) (word word' : ℕ → ℕ) (c : WireConten
       → y.sender ≡ d.loan.port
   sender_is d y on is holds = is ∙ holds (port y on).call
 
-  by_local : (local : Local) → x.local ≡ local → MayRun p.layout n (program_of p local) → IsMade (program_access p.layout (program_of p local)) word word'
+  by_local : (local : Local) → x.local ≡ local → MayRun p.layout n (program_of p local) → AccessIsMade (program_access p.layout (program_of p local)) word word'
       → Owns p x.node f w.state.request_state local → PlaceStands p f x local
       → TakesInPool p local (seen_by (program_access p.layout (program_of p local)) word)
       × SendsThere p held w.state x local (seen_by (program_access p.layout (program_of p local)) word)

@@ -41,8 +41,8 @@ use Rattle.iox_wire_laws.proofs.WireHolding.PickedSlots.{picks_are_known}
 use Rattle.iox_wire_pools.specs.Uses.{AllUsesAreCounted}
 use Rattle.iox_wire_pools.specs.UsesLaws.{FindsUsed, IsOut, MayDeliver}
 use Rattle.iox_wire_pools.proofs.KnownSlots.{deliveries_are_known, get_backs_are_known}
-use Rattle.iox_wire_stands.specs.Following.{CallMessage, Delivered, DeskChange, Dropped, Follows, GotBack, IsOfEntry, IsReturning, Leaving, Lent, NoMessage, MayLetGo, OfEntry, Sent, Taken, Unchanged, changed, desk_change, drops, keeps, lets_go, message_at, picks_slot, popped_back, published, pushed_out, puts_aside, sends_loan, takes, TakesOn}
-use Rattle.iox_wire_stands.specs.FollowingLaws.{AccessesKeepSlots, IsFresh, IsMomentOf, LeavesAll, TakesNext}
+use Rattle.iox_wire_stands.specs.Following.{CallMessage, Delivered, DeskChange, Dropped, NodeContinues, GotBack, IsOfEntry, IsReturning, Leaving, Lent, NoMessage, MayLetGo, OfEntry, Sent, Taken, Unchanged, changed, desk_change, drops, keeps, lets_go, message_at, picks_slot, popped_back, delivers_published, pushed_out, puts_aside, sends_loan, takes, TakesOn}
+use Rattle.iox_wire_stands.specs.FollowingLaws.{AccessesKeepSlots, DeliversNew, IsMomentOf, LeavesAll, TakesNext}
 use Rattle.iox_wire_stands.specs.Nodes.{HasOwnDesks}
 use Rattle.iox_wire_stands.proofs.Follows.{accesses_follow}
 use Rattle.iox_wire_stands.proofs.MomentsFollow.{desks_follow_moments}
@@ -241,7 +241,7 @@ learned x port w (Learn slot) finds = finds slot refl
 learned x port w event finds = tt
 
 delivered : (x : Seat) (port : ℕ) (w : Way) (event : QueueEvent) → ((slot : ℕ) → event ≡ Publish slot → MayDeliver x port w slot)
-    → Uses x (published port w event)
+    → Uses x (delivers_published port w event)
 delivered x port w (Publish slot) finds = finds slot refl
 delivered x port w event finds = tt
 
@@ -284,7 +284,7 @@ module _ (p : Setting) (held : Pools) (s : State) (x : Seat) (seen : ℕ) (known
   same_holds : message_at y.local ≡ message_at x.local → CallHolds held x.local → CallHolds held y.local
   same_holds is has = call_holds held y.local (subst (HoldsOf held) (sym is) (holds_of held x.local has))
 
-  by_change : (change : DeskChange) (m : Option Moment) → Uses x change → IsMomentOf held change m → IsFresh held s change
+  by_change : (change : DeskChange) (m : Option Moment) → Uses x change → IsMomentOf held change m → DeliversNew held s change
       → y.desks ≡ (changed change (accessed x)).desks → message_at y.local ≡ message_at x.local → SlotsKnown p held (state_after s m) y
   by_change Unchanged m used leaves fresh desks is =
       let q = quiet s m leaves in
@@ -307,7 +307,7 @@ module _ (p : Setting) (held : Pools) (s : State) (x : Seat) (seen : ℕ) (known
       (same_known p held (moved s (Deliver w (held w.sender slot))) (moved s (Deliver w (held w.sender slot))) z y k part.node
       (desks ∙ ap (λ n. (at_desk x n (delivers w slot)).desks) (sym may.0)) part.table (same_slots is) (same_holds is) refl refl)
 
-  module _ (finds : FindsUsed p x x.local seen) (fresh : IsFresh held s (desk_change p x.local seen))
+  module _ (finds : FindsUsed p x x.local seen) (fresh : DeliversNew held s (desk_change p x.local seen))
       (next : TakesNext p held s (message_at x.local) y.local) where
     abbrev m : Option Moment
     m = moment_at p held x.local seen
@@ -333,7 +333,7 @@ module _ (p : Setting) (held : Pools) (s : State) (x : Seat) (seen : ℕ) (known
         (λ port. in_call port y.local ∙ ap (slots_of port) is ∙ slots port) (λ before. call_holds held y.local (subst (HoldsOf held) (sym is) has)) q.fixed
         q.delivered)
 
-    by_case : Follows p (accessed x) x.local seen y → Goal
+    by_case : NodeContinues p (accessed x) x.local seen y → Goal
     by_case (keeps desks message) =
         with_held (held_stays p held s (accessed x) seen x.local y.local relies message)
         (by_change (desk_change p x.local seen) m (uses p x x.local seen finds) moment fresh desks message)

@@ -17,7 +17,7 @@ use Rattle.iox_steps.specs.declared.side.QueueEvent.{QueueEvent}
 use Rattle.iox_steps.specs.declared.side.QueueEvent.TheVariants.{HandOut, SeesEmpty}
 use Rattle.iox_word_map.specs.WordMaps.{IsWay, ReturningQueue}
 use Rattle.iox_wire_words.specs.Fits.{WireContents, contents_after}
-use Rattle.iox_wire_words.specs.Laws.{IsMade}
+use Rattle.iox_wire_words.specs.Laws.{AccessIsMade}
 use Rattle.iox_wire_words.specs.Programs.{program_access}
 use Rattle.iox_wire_moments.specs.MomentsOf.{Pools, get_back_moment}
 use Rattle.iox_wire_locals.specs.declared.local.Local.{Local}
@@ -41,9 +41,9 @@ use Rattle.iox_wire_laws.specs.WireHolding.HeldSteps.{FreeSlotsAreUnnamed}
 use Rattle.iox_wire_laws.specs.WireHolding.Holding.{held_after, held_from, held_with}
 use Rattle.iox_wire_laws.proofs.WireHolding.FreeSlots.{free_slots_are_nobodys}
 use Rattle.iox_wire_laws.proofs.WireHolding.HeldSteps.{steps_show_what_is_held}
-use Rattle.iox_wire_stands.specs.Following.{CallMessage, Dropped, Follows, IsLending, Leaving, NoMessage, Sent, Taken, Unchanged, desk_change, drops, keeps, lets_go, message_at, picks_slot, popped_back, puts_aside, sends_loan, takes}
+use Rattle.iox_wire_stands.specs.Following.{CallMessage, Dropped, NodeContinues, IsLending, Leaving, NoMessage, Sent, Taken, Unchanged, desk_change, drops, keeps, lets_go, message_at, picks_slot, popped_back, puts_aside, sends_loan, takes}
 use Rattle.iox_wire_stands.specs.NamesLaws.{ReturnsNothing}
-use Rattle.iox_wire_stands.specs.NodeLaws.{IsTold}
+use Rattle.iox_wire_stands.specs.NodeLaws.{ToldWhatIsSo}
 use Rattle.iox_wire_stands.specs.Nodes.{NodeStands}
 use Rattle.iox_wire_stands.specs.Stands.{AreNumbered, OwnersAre}
 use Rattle.iox_wire_stands.proofs.Follows.{accesses_follow}
@@ -71,7 +71,7 @@ module _ (p : Setting) (held : Pools) (s : State) (x : Seat) (seen : ℕ) (relie
   kept_held : (message : CallMessage) → message_at y.local ≡ message → NotLent message → (held_after p x seen held ≡ held) ⊎ Picks p held x seen
   kept_held message is not = inl (held_not p held x.local y.local (not_stores y.local message is not))
 
-  held_now : Follows p (accessed x) x.local seen y → (held_after p x seen held ≡ held) ⊎ Picks p held x seen
+  held_now : NodeContinues p (accessed x) x.local seen y → (held_after p x seen held ≡ held) ⊎ Picks p held x seen
   held_now (keeps desks message) = inl (held_stays p held s (accessed x) seen x.local y.local relies message)
   held_now (lets_go desks still message may) = kept_held NoMessage message tt
   held_now (takes w slot desks still message took) = kept_held (Taken w slot) message tt
@@ -170,7 +170,7 @@ module _ (p : Setting) (held : Pools) (word word' : ℕ → ℕ) (c : WireConten
   abbrev seats' : ℕ → Seat
   seats' = put_at seats n next_seat
 
-  module _ (told : IsTold p held w.state x seen) (made : IsMade (program_access p.layout (program_of p x.local)) word word') where
+  module _ (told : ToldWhatIsSo p held w.state x seen) (made : AccessIsMade (program_access p.layout (program_of p x.local)) word word') where
     abbrev mine : NodeStands p held w.state x
     mine = whole.nodes n living
 

@@ -7,7 +7,7 @@ use Rattle.iox_model.specs.Moments.{Moment}
 use Rattle.iox_model.specs.Weaves.{Makes}
 use Rattle.iox_steps.specs.Accesses.{seen_by}
 use Rattle.iox_wire_words.specs.Fits.{WireContents, contents_after}
-use Rattle.iox_wire_words.specs.Laws.{IsMade}
+use Rattle.iox_wire_words.specs.Laws.{AccessIsMade}
 use Rattle.iox_wire_words.specs.Programs.{program_access}
 use Rattle.iox_wire_moments.specs.MomentsOf.{Pools}
 use Rattle.iox_wire_locals.specs.declared.local.Local.{Local}
@@ -21,9 +21,9 @@ use Rattle.iox_wire_locals.specs.Tables.{Setting}
 use Rattle.iox_wire_laws.specs.WireKeeping.Shows.{ShowsWorld}
 use Rattle.iox_wire_laws.specs.WireHolding.Aside.{shown, shown_at}
 use Rattle.iox_wire_laws.specs.WireHolding.Holding.{held_after}
-use Rattle.iox_wire_stands.specs.Following.{Follows, IsReturning, Leaving, LeavesNothing, drops, keeps, lets_go, message_at, picks_slot, puts_aside, sends_loan, takes}
+use Rattle.iox_wire_stands.specs.Following.{NodeContinues, IsReturning, Leaving, LeavesNothing, drops, keeps, lets_go, message_at, picks_slot, puts_aside, sends_loan, takes}
 use Rattle.iox_wire_stands.specs.NamesLaws.{ReturnsNothing}
-use Rattle.iox_wire_stands.specs.NodeLaws.{IsTold}
+use Rattle.iox_wire_stands.specs.NodeLaws.{ToldWhatIsSo}
 use Rattle.iox_wire_stands.specs.Nodes.{NodeStands}
 use Rattle.iox_wire_stands.specs.Runs.{Run, history}
 use Rattle.iox_wire_stands.specs.Stands.{Player, Stands, seats_of, word_of}
@@ -45,7 +45,7 @@ returns_not (ReleaseReturns k place) e is none = none
 returns_not local e is none = is
 
 pub leaves_nothing : (p : Setting) (x : Seat) (local : Local) (found : ℕ) (y : Seat) → LeavesNothing (message_at local)
-    → ReturnsNothing local (message_at y.local) → Follows p x local found y → LeavesNothing (message_at y.local)
+    → ReturnsNothing local (message_at y.local) → NodeContinues p x local found y → LeavesNothing (message_at y.local)
 leaves_nothing p x local found y leaves returns (keeps desks message) = subst LeavesNothing (sym message) leaves
 leaves_nothing p x local found y leaves returns (lets_go desks still message may) = subst LeavesNothing (sym message) tt
 leaves_nothing p x local found y leaves returns (takes w slot desks still message took) = subst LeavesNothing (sym message) tt
@@ -72,8 +72,8 @@ module _ (p : Setting) (words words' : List ℕ) (players : ℕ → Player) (r :
 
   abbrev Asked : Seat → Type 0
   Asked q =
-      IsTold p stands.held r.last.state q (seen_at q) × ReturnsNothing q.local (message_at (next_at q).local)
-      × (ending_at (next_at q).local ≡ None) × IsMade (program_access p.layout (program_of p q.local)) (word_of words) (word_of words')
+      ToldWhatIsSo p stands.held r.last.state q (seen_at q) × ReturnsNothing q.local (message_at (next_at q).local)
+      × (ending_at (next_at q).local ≡ None) × AccessIsMade (program_access p.layout (program_of p q.local)) (word_of words) (word_of words')
 
   abbrev Result : Seat → Type 0
   Result q =

@@ -112,9 +112,9 @@ pushed_out port w (Learn slot) = GotBack port w slot
 pushed_out port w event = Unchanged
 
 -- a push delivers the message that it publishes
-abbrev pub published : ℕ → Way → QueueEvent → DeskChange
-published port w (Publish slot) = Delivered port w slot
-published port w event = Unchanged
+abbrev pub delivers_published : ℕ → Way → QueueEvent → DeskChange
+delivers_published port w (Publish slot) = Delivered port w slot
+delivers_published port w event = Unchanged
 
 -- what an access at that place changes, by what it saw
 abbrev pub desk_change : Setting → Local → ℕ → DeskChange
@@ -123,7 +123,7 @@ desk_change p (LendEmpties o w place left) seen =
 desk_change p (SendEmpties d w place left) seen =
     popped_back d.loan.port w (pop_finds p (ReturningQueue w) place seen)
 desk_change p (SendPushes d last w place left count) seen =
-    published d.loan.port w (push_finds p (MessageQueue w) place seen)
+    delivers_published d.loan.port w (push_finds p (MessageQueue w) place seen)
 desk_change p (SendGetsBack d w place left count) seen =
     pushed_out d.loan.port w (push_finds p (MessageQueue w) place seen)
 desk_change p local seen = Unchanged
@@ -148,40 +148,40 @@ IsLending (LendEmpties o w place left) = Unit {0}
 IsLending local = ⊥
 
 -- how a node goes on with an access: its desks, and the message of its call
-pub data Follows (p : Setting) (x : Seat) (local : Local) (seen : ℕ) (y : Seat) : Type 0 where
+pub data NodeContinues (p : Setting) (x : Seat) (local : Local) (seen : ℕ) (y : Seat) : Type 0 where
   -- the call has the same message
   keeps : (desks : y.desks ≡ (changed (desk_change p local seen) x).desks)
-      → (message : message_at y.local ≡ message_at local) → Follows p x local seen y
+      → (message : message_at y.local ≡ message_at local) → NodeContinues p x local seen y
   -- it lets it go
   lets_go : (desks : y.desks ≡ x.desks) → (still : desk_change p local seen ≡ Unchanged)
       → (message : message_at y.local ≡ NoMessage) → MayLetGo (message_at local)
-      → Follows p x local seen y
+      → NodeContinues p x local seen y
   -- it takes one
   takes : (way : Way) (slot : ℕ) → (desks : y.desks ≡ x.desks)
       → (still : desk_change p local seen ≡ Unchanged)
       → (message : message_at y.local ≡ Taken way slot) → TakesOn p local seen way slot
-      → Follows p x local seen y
+      → NodeContinues p x local seen y
   -- it gave the message of an entry back
   puts_aside : (entry : Entry) → (desks : y.desks ≡ x.desks)
       → (still : desk_change p local seen ≡ Unchanged) → IsReturning local entry
-      → (message : message_at y.local ≡ Leaving entry) → Follows p x local seen y
+      → (message : message_at y.local ≡ Leaving entry) → NodeContinues p x local seen y
   -- the release of an entry is over
   drops : (entry : Entry) → (desks : y.desks ≡ x.desks)
       → (still : desk_change p local seen ≡ Unchanged) → IsOfEntry (message_at local) entry
-      → (message : message_at y.local ≡ Dropped entry) → Follows p x local seen y
+      → (message : message_at y.local ≡ Dropped entry) → NodeContinues p x local seen y
   -- its loan takes a free slot
   picks_slot : (loan : NewLoan) (slot : ℕ) (free : List ℕ)
       → (desks : y.desks ≡ (at_desk x loan.port (picks loan slot free)).desks)
       → (still : desk_change p local seen ≡ Unchanged)
       → (place : y.local ≡ LendStores loan slot 0) → (before : message_at local ≡ NoMessage)
-      → (there : free_slots x loan.port ≡ slot ∷ free) → IsLending local → Follows p x local seen y
+      → (there : free_slots x loan.port ≡ slot ∷ free) → IsLending local → NodeContinues p x local seen y
   -- the loan is sent in the same call
   sends_loan : (loan : NewLoan) (slot : ℕ) → (desks : y.desks ≡ x.desks)
       → (still : desk_change p local seen ≡ Unchanged)
       → (before : message_at local ≡ Lent loan slot) → (copies : loan.copies ≡ true)
-      → (message : message_at y.local ≡ Sent (entry_in loan slot) true) → Follows p x local seen y
+      → (message : message_at y.local ≡ Sent (entry_in loan slot) true) → NodeContinues p x local seen y
 
 -- Each access goes on so.
 abbrev pub AccessesFollow : Type 0
 AccessesFollow =
-    (p : Setting) (x : Seat) (seen : ℕ) → Follows p x x.local seen (advance p x x.local seen)
+    (p : Setting) (x : Seat) (seen : ℕ) → NodeContinues p x x.local seen (advance p x x.local seen)

@@ -39,9 +39,9 @@ DesksFollowMoments =
     → IsMomentOf held (desk_change p local seen) (moment_at p held local seen)
 
 -- what a delivery delivers is not outstanding there
-abbrev pub IsFresh : Pools → State → DeskChange → Type 0
-IsFresh held s (Delivered port w slot) = s.delivered w (serial_in held w slot) ≡ false
-IsFresh held s change = Unit {0}
+abbrev pub DeliversNew : Pools → State → DeskChange → Type 0
+DeliversNew held s (Delivered port w slot) = s.delivered w (serial_in held w slot) ≡ false
+DeliversNew held s change = Unit {0}
 
 -- a loan that takes its slot has its port's next serial, which no other slot has
 abbrev pub TakesNext : Setting → Pools → State → CallMessage → Local → Type 0
@@ -55,6 +55,6 @@ AccessesKeepSlots =
     (p : Setting) (held : Pools) (s : State) (x : Seat) (seen : ℕ)
     → let y = advance p (accessed x) x.local seen in
     SlotsKnown p held s x → HasOwnDesks p x → AllUsesAreCounted p x → FindsUsed p x x.local seen
-    → ReliesOn p (accessed x) s held x.local seen → IsFresh held s (desk_change p x.local seen)
+    → ReliesOn p (accessed x) s held x.local seen → DeliversNew held s (desk_change p x.local seen)
     → TakesNext p held s (message_at x.local) y.local
     → SlotsKnown p (held_after p x seen held) (state_after s (moment_at p held x.local seen)) y

@@ -7,7 +7,7 @@ use Rattle.iox_model.specs.States.{State}
 use Rattle.iox_model.specs.Weaves.{World}
 use Rattle.iox_steps.specs.Accesses.{seen_by}
 use Rattle.iox_wire_words.specs.Fits.{WireContents}
-use Rattle.iox_wire_words.specs.Laws.{IsMade}
+use Rattle.iox_wire_words.specs.Laws.{AccessIsMade}
 use Rattle.iox_wire_words.specs.Programs.{program_access}
 use Rattle.iox_wire_moments.specs.MomentsOf.{Pools}
 use Rattle.iox_wire_locals.specs.declared.seat.Seat.{Seat}
@@ -32,7 +32,7 @@ use Rattle.iox_wire_stands.specs.Stands.{AreNumbered, OwnersAre}
 
 -- What is asked of an access beside: that words and pools told it what is so, and that it takes
 -- nobody's serial or lane.
-pub record IsTold (p : Setting) (held : Pools) (s : State) (x : Seat) (seen : ℕ) : Type 0 where
+pub record ToldWhatIsSo (p : Setting) (held : Pools) (s : State) (x : Seat) (seen : ℕ) : Type 0 where
   -- the words of messages and the pool told it what its place relies on
   pub relies : ReliesOn p (accessed x) s held x.local seen
   -- a push finds room, and a header stands in its region
@@ -56,7 +56,7 @@ AccessesKeepNodes =
     → QueuesHaveSlots p c w.state
     → let x = seats n in let access = program_access p.layout (program_of p x.local) in
     let seen = seen_by access word in let y = advance p (accessed x) x.local seen in
-    NodeStands p held w.state x → IsTold p held w.state x seen → ReturnsNothing x.local (message_at y.local)
-    → IsMade access word word' → ending_at y.local ≡ None
+    NodeStands p held w.state x → ToldWhatIsSo p held w.state x seen → ReturnsNothing x.local (message_at y.local)
+    → AccessIsMade access word word' → ending_at y.local ≡ None
     → NodeStands p (held_after p x seen held)
     (state_after w.state (moment_at p held x.local seen)) y

@@ -14,7 +14,7 @@ use Rattle.iox_wire_locals.specs.Tables.{Setting}
 use Rattle.iox_wire_laws.specs.WireShows.OwnedCalls.{TellsLane}
 use Rattle.iox_wire_laws.specs.WireOwners.Borrowed.{BorrowedFits, HasCount}
 use Rattle.iox_wire_laws.specs.WireOwners.FirmOwners.{OwnsFirmly}
-use Rattle.iox_wire_laws.specs.WireOwners.Releases.{HasOwnStates, IsReleased}
+use Rattle.iox_wire_laws.specs.WireOwners.Releases.{HasOwnStates, ReleasesOwnHandle}
 use Rattle.iox_wire_laws.specs.WireOwners.SentStates.{HasOpened}
 use Rattle.iox_wire_laws.specs.WireHolding.FarSlots.{IsInPool, NamesSlots}
 use Rattle.iox_wire_laws.specs.WireHolding.SlotsKnown.{HasEntry, IsPortOfSeat, NamesStand, SlotsKnown}
@@ -59,7 +59,7 @@ pub record NodeStands (p : Setting) (held : Pools) (s : State) (x : Seat) : Type
   -- no two entries have one number
   pub numbers : AreDistinct (map (λ e. e.number) x.table)
   -- what an entry received or asked for is of the node's ports
-  pub released : (e : Entry) → HasEntry x e → IsReleased s.fixed x.node e
+  pub released : (e : Entry) → HasEntry x e → ReleasesOwnHandle s.fixed x.node e
   -- and the states of a pending response name no other request
   pub states : (e : Entry) → HasEntry x e → same_kind e.kind PendingResponse ≡ true
       → HasOwnStates p x s.request_state e

@@ -2,14 +2,14 @@
 use Rattle.std.specs.Prelude.{◌≡◌, ℕ, if◌then◌else◌, ◌==◌, List, [], ◌∷◌, ◌++◌, flat_map}
 use Rattle.iox_model.specs.Commands.{Reply, WireCall}
 use Rattle.iox_model.specs.Weaves.{Beat, Begins, Makes, Ends, Dies, IsBeat, IsWeave, World}
-use Rattle.iox_laws.specs.WeaveWorlds.Worlds.{IsOpened}
+use Rattle.iox_laws.specs.WeaveWorlds.Worlds.{IsOpenedWire}
 
 -- a wire that opened, the beats that followed, and the world to which they led
 pub record Run : Type 0 where
   pub first : World
   pub beats : List Beat
   pub last : World
-  pub opened : IsOpened first
+  pub opened : IsOpenedWire first
   pub woven : IsWeave first beats last
 
 -- the run goes on with one beat

@@ -4,7 +4,7 @@ use Rattle.iox_model.specs.Joins.{not_living}
 use Rattle.iox_model.specs.Weaves.{World}
 use Rattle.iox_steps.specs.Accesses.{seen_by}
 use Rattle.iox_wire_words.specs.Fits.{WireContents}
-use Rattle.iox_wire_words.specs.Laws.{IsMade}
+use Rattle.iox_wire_words.specs.Laws.{AccessIsMade}
 use Rattle.iox_wire_words.specs.Programs.{program_access}
 use Rattle.iox_wire_moments.specs.MomentsOf.{Pools}
 use Rattle.iox_wire_locals.specs.declared.seat.Seat.{Seat}
@@ -32,6 +32,6 @@ SlotsAreFoundInPools =
     → let x = seats n in let access = program_access p.layout (program_of p x.local) in
     NamesStand p w.state.fixed x → SlotsKnown p held w.state x
     → Owns p x.node w.state.fixed w.state.request_state x.local → TellsLane held x.local
-    → IsMade access word word'
+    → AccessIsMade access word word'
     → TakesInPool p x.local (seen_by access word)
     × SendsThere p held w.state x x.local (seen_by access word)

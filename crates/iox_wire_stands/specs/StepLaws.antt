@@ -7,7 +7,7 @@ use Rattle.iox_model.specs.Moments.{Moment}
 use Rattle.iox_model.specs.States.{State}
 use Rattle.iox_model.specs.Weaves.{Makes}
 use Rattle.iox_steps.specs.Accesses.{seen_by}
-use Rattle.iox_wire_words.specs.Laws.{IsMade}
+use Rattle.iox_wire_words.specs.Laws.{AccessIsMade}
 use Rattle.iox_wire_words.specs.Programs.{program_access}
 use Rattle.iox_wire_moments.specs.MomentsOf.{Pools}
 use Rattle.iox_wire_locals.specs.declared.seat.Seat.{Seat}
@@ -18,7 +18,7 @@ use Rattle.iox_wire_locals.specs.Tables.{Setting}
 use Rattle.iox_wire_laws.specs.WireHolding.SlotsKnown.{IsPortOfSeat}
 use Rattle.iox_wire_stands.specs.Following.{CallMessage, LeavesNothing, Taken, message_at}
 use Rattle.iox_wire_stands.specs.NamesLaws.{ReturnsNothing}
-use Rattle.iox_wire_stands.specs.NodeLaws.{IsTold}
+use Rattle.iox_wire_stands.specs.NodeLaws.{ToldWhatIsSo}
 use Rattle.iox_wire_stands.specs.Nodes.{NodeStands}
 use Rattle.iox_wire_stands.specs.Runs.{GoesOnBy, Run}
 use Rattle.iox_wire_stands.specs.Stands.{Player, Stands, word_of}
@@ -56,9 +56,9 @@ StepsKeep =
     → not_living r.last.state n ≡ None
     → let x = (players n).seat in let access = program_access p.layout (program_of p x.local) in
     let seen = seen_by access (word_of words) in let y = advance p (accessed x) x.local seen in
-    IsTold p stands.held r.last.state x seen
+    ToldWhatIsSo p stands.held r.last.state x seen
     → LeavesNothing (message_at x.local) → ReturnsNothing x.local (message_at y.local)
     → ending_at y.local ≡ None
-    → IsMade access (word_of words) (word_of words') → length words' ≡ length words
+    → AccessIsMade access (word_of words) (word_of words') → length words' ≡ length words
     → (next : Run) × RunGoesOn r n (moment_at p stands.held x.local seen) next
     × Stands p words' (put_at players n (record { seat = y; said = (players n).said })) next

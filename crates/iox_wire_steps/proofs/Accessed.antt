@@ -7,7 +7,7 @@ use Rattle.iox_model.specs.Weaves.{World}
 use Rattle.iox_laws.proofs.WeaveLedger.Truths.{none-some}
 use Rattle.iox_steps.specs.Accesses.{Changes}
 use Rattle.iox_wire_words.specs.Fits.{WireContents}
-use Rattle.iox_wire_words.specs.Laws.{IsMade}
+use Rattle.iox_wire_words.specs.Laws.{AccessIsMade}
 use Rattle.iox_wire_words.specs.Programs.{program_access}
 use Rattle.iox_wire_moments.specs.MomentsOf.{Pools}
 use Rattle.iox_wire_locals.specs.declared.local.Ending.{Ending}
@@ -58,7 +58,7 @@ none_made word word' made = λ i k. sym (by_case k (k == 0) refl) i
     by_case k false is = made.1 k (λ same. true≢false (sym (eq-eqb k 0 same) ∙ is))
 
 pub same_words : (p : Setting) (local : Local) (word word' : ℕ → ℕ) (ending : Ending) → ending_at local ≡ Some ending
-    → IsMade (program_access p.layout (program_of p local)) word word' → word ≡ word'
+    → AccessIsMade (program_access p.layout (program_of p local)) word word' → word ≡ word'
 same_words p (Ends e) word word' ending is made = none_made word word' made
 same_words p (SendEnds d last count) word word' ending is made = none_made word word' made
 same_words p local word word' ending is made = none-some ending is

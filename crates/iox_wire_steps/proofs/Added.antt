@@ -28,7 +28,7 @@ use Rattle.iox_wire_locals.specs.Steps.{ending_at}
 use Rattle.iox_wire_locals.specs.Tables.{Setting, sent_entry}
 use Rattle.iox_wire_laws.specs.WireKeeping.Shows.{ShowsWorld}
 use Rattle.iox_wire_laws.specs.WireKeeping.UsedSlots.{slots_in_call, slots_used}
-use Rattle.iox_wire_laws.specs.WireOwners.Releases.{IsReleased}
+use Rattle.iox_wire_laws.specs.WireOwners.Releases.{ReleasesOwnHandle}
 use Rattle.iox_wire_laws.specs.WireRegions.OwnedBegins.{IsPortOf, LayoutFits}
 use Rattle.iox_wire_laws.specs.WireHolding.FarSlots.{IsInPool}
 use Rattle.iox_wire_laws.specs.WireHolding.SlotsKnown.{EntryFits}
@@ -77,7 +77,7 @@ module _ (p : Setting) (held : Pools) (word : ℕ → ℕ) (c : WireContents) (s
       received = λ got. not_both (is_own o.kind) (not_own o.kind got) (own-loan o.kind loan);
     }
 
-    pub lent_released : IsReleased w.state.fixed n (entry_in o slot)
+    pub lent_released : ReleasesOwnHandle w.state.fixed n (entry_in o slot)
     lent_released =
         let other = no_other o.kind loan in
         record {
@@ -120,7 +120,7 @@ module _ (p : Setting) (held : Pools) (word : ℕ → ℕ) (c : WireContents) (s
         told.1.1.1,
       )
 
-      pub sent_released : e.lane < lanes_of w.state.fixed e.port → IsReleased w.state.fixed n (sent_entry e count)
+      pub sent_released : e.lane < lanes_of w.state.fixed e.port → ReleasesOwnHandle w.state.fixed n (sent_entry e count)
       sent_released low = record {
         pending = λ same. (by_client, low);
         request = λ same. absurd (true≢false (sym same));

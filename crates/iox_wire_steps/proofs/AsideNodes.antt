@@ -15,7 +15,7 @@ use Rattle.iox_wire_locals.specs.Courses.{placed}
 use Rattle.iox_wire_locals.specs.Tables.{Setting}
 use Rattle.iox_wire_laws.specs.WireKeeping.Records.{recorded_of}
 use Rattle.iox_wire_laws.specs.WireKeeping.UsedSlots.{slots_used}
-use Rattle.iox_wire_laws.specs.WireOwners.Releases.{HasOwnStates, IsReleased}
+use Rattle.iox_wire_laws.specs.WireOwners.Releases.{HasOwnStates, ReleasesOwnHandle}
 use Rattle.iox_wire_laws.specs.WireHolding.Aside.{aside, shown, slot_aside}
 use Rattle.iox_wire_laws.specs.WireHolding.FarSlots.{IsInPool}
 use Rattle.iox_wire_laws.specs.WireHolding.Holding.{held_with}
@@ -102,11 +102,11 @@ module _ (p : Setting) (held : Pools) (s : State) (v : Seat) (e : Entry) (has : 
   was : (q : Entry) → HasEntry y q → HasEntry z q ⊎ (q ≡ aside p v.node e)
   was q there = one_other q.number (aside p v.node e) v.table q there
 
-  released_now : (q : Entry) → HasEntry z q ⊎ (q ≡ aside p v.node e) → IsReleased s.fixed v.node q
+  released_now : (q : Entry) → HasEntry z q ⊎ (q ≡ aside p v.node e) → ReleasesOwnHandle s.fixed v.node q
   released_now q (inl before) = part.released q before
   released_now q (inr is) =
-      let old : IsReleased s.fixed v.node e = part.released e has in
-      subst (IsReleased s.fixed v.node) (sym is) (record { pending = old.pending; request = old.request; response = old.response })
+      let old : ReleasesOwnHandle s.fixed v.node e = part.released e has in
+      subst (ReleasesOwnHandle s.fixed v.node) (sym is) (record { pending = old.pending; request = old.request; response = old.response })
 
   states_now : (q : Entry) → HasEntry z q ⊎ (q ≡ aside p v.node e) → same_kind q.kind kinds.PendingResponse ≡ true → HasOwnStates p z s.request_state q
   states_now q (inl before) pending = part.states q before pending

@@ -1,6 +1,6 @@
 -- The laws of an end's own node, each from what is so of it.
 use Rattle.std.proofs.Common.{[], sym, subst, ◌∙◌}
-use Rattle.iox_wire_laws.specs.WireOwners.Releases.{IsReleased}
+use Rattle.iox_wire_laws.specs.WireOwners.Releases.{ReleasesOwnHandle}
 use Rattle.iox_wire_steps.specs.Over.{state_ended}
 use Rattle.iox_wire_steps.specs.OverLaws.{AddedEntriesFit, EndsKeepLoans, EndsKeepNodes, EndsKeepReleased, EndsKeepSlots, EndsKeepStates}
 use Rattle.iox_wire_steps.proofs.EndStates.{ended_forgot}
@@ -26,7 +26,7 @@ ends_keep_slots p held word c seats w n ending shows living fits owners numbered
 
 pub ends_keep_released : EndsKeepReleased
 ends_keep_released p held word c seats w n ending shows living fits owners numbered over payload e told has =
-    subst (λ k. IsReleased (state_ended p held w.state (seats n) payload ending).fixed k e) (ended_forgot p (seats n) ending).node
+    subst (λ k. ReleasesOwnHandle (state_ended p held w.state (seats n) payload ending).fixed k e) (ended_forgot p (seats n) ending).node
     (released_now p held word c seats w n ending payload shows living fits owners numbered over told e has)
 
 pub ends_keep_states : EndsKeepStates

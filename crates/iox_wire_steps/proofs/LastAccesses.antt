@@ -8,7 +8,7 @@ use Rattle.iox_laws.proofs.WeaveLaws.WholeLemmas.{some-is}
 use Rattle.iox_laws.proofs.WeaveLedger.Truths.{none-some}
 use Rattle.iox_steps.specs.Accesses.{seen_by}
 use Rattle.iox_wire_words.specs.Fits.{WireContents}
-use Rattle.iox_wire_words.specs.Laws.{IsMade}
+use Rattle.iox_wire_words.specs.Laws.{AccessIsMade}
 use Rattle.iox_wire_words.specs.Programs.{program_access}
 use Rattle.iox_wire_moments.specs.MomentsOf.{Pools}
 use Rattle.iox_wire_locals.specs.declared.local.Ending.{Ending}
@@ -30,9 +30,9 @@ use Rattle.iox_wire_laws.specs.WireRegions.OwnedBegins.{LayoutFits}
 use Rattle.iox_wire_laws.specs.WireHolding.FarSlots.{EndsInPool, IsInPool, QueuesHaveSlots}
 use Rattle.iox_wire_laws.specs.WireHolding.Holding.{held_after}
 use Rattle.iox_wire_laws.specs.WireHolding.SlotsKnown.{HasEntry}
-use Rattle.iox_wire_stands.specs.Following.{CallMessage, Dropped, Follows, IsOfEntry, Leaving, LeavesNothing, MayLetGo, OfEntry, drops, keeps, lets_go, message_at, picks_slot, puts_aside, sends_loan, takes}
+use Rattle.iox_wire_stands.specs.Following.{CallMessage, Dropped, NodeContinues, IsOfEntry, Leaving, LeavesNothing, MayLetGo, OfEntry, drops, keeps, lets_go, message_at, picks_slot, puts_aside, sends_loan, takes}
 use Rattle.iox_wire_stands.specs.NamesLaws.{ReturnsNothing}
-use Rattle.iox_wire_stands.specs.NodeLaws.{IsTold}
+use Rattle.iox_wire_stands.specs.NodeLaws.{ToldWhatIsSo}
 use Rattle.iox_wire_stands.specs.Nodes.{NodeStands}
 use Rattle.iox_wire_stands.specs.Stands.{AreNumbered, OwnersAre}
 use Rattle.iox_wire_stands.proofs.Follows.{accesses_follow}
@@ -106,7 +106,7 @@ module _ (p : Setting) (held : Pools) (word word' : ℕ → ℕ) (c : WireConten
   abbrev t : State
   t = state_after s (moment_at p held x.local seen)
 
-  module _ (told : IsTold p held s x seen) (made : IsMade (program_access p.layout (program_of p x.local)) word word') (ending : Ending)
+  module _ (told : ToldWhatIsSo p held s x seen) (made : AccessIsMade (program_access p.layout (program_of p x.local)) word word') (ending : Ending)
       (is : ending_at y.local ≡ Some ending) where
     part : KeepsOwn x y
     part = steps_keep_own p x seen
@@ -123,7 +123,7 @@ module _ (p : Setting) (held : Pools) (word word' : ℕ → ℕ) (c : WireConten
     none : ReturnsNothing x.local (message_at y.local)
     none = returns_none x.local (message_at y.local) leaves
 
-    follows : Follows p (accessed x) x.local seen y
+    follows : NodeContinues p (accessed x) x.local seen y
     follows = accesses_follow p (accessed x) seen
 
     has_message : named.Stands p s.fixed y (message_at y.local)
@@ -148,7 +148,7 @@ module _ (p : Setting) (held : Pools) (word word' : ℕ → ℕ) (c : WireConten
     of_entry (Leaving k) e has of = subst (HasEntry x) of has.0
     of_entry other e has of = absurd of
 
-    dropped : (e : Entry) → message_at y.local ≡ Dropped e → Follows p (accessed x) x.local seen y → HasEntry y e
+    dropped : (e : Entry) → message_at y.local ≡ Dropped e → NodeContinues p (accessed x) x.local seen y → HasEntry y e
     dropped e is (keeps desks message) =
         absurd (subst NotDropped (sym message ∙ is) (dropped_not p held s (accessed x) seen x.local told.relies))
     dropped e is (lets_go desks still message may) = absurd (subst NotDropped (sym message ∙ is) tt)
@@ -166,7 +166,7 @@ module _ (p : Setting) (held : Pools) (word word' : ℕ → ℕ) (c : WireConten
     ends_with = by_place p s y y.local ending is has_message (λ e at. dropped e at follows)
 
     -- an entry beyond its pool is the one that is dropped
-    given_up : (e : Entry) → message_at x.local ≡ Leaving e → Follows p (accessed x) x.local seen y → IsDropped ending e
+    given_up : (e : Entry) → message_at x.local ≡ Leaving e → NodeContinues p (accessed x) x.local seen y → IsDropped ending e
     given_up e is' (keeps desks message) = absurd (subst LeavesNothing (message ∙ is') leaves)
     given_up e is' (lets_go desks still message may) = absurd (subst MayLetGo is' may)
     given_up e is' (takes v slot desks still message took) =

@@ -9,7 +9,7 @@ use Rattle.iox_model.specs.WholeCalls.{MayHold}
 use Rattle.iox_laws.proofs.WeaveLaws.WholeLemmas.{moved-members, not_living-members, put_at-here}
 use Rattle.iox_steps.specs.Accesses.{seen_by}
 use Rattle.iox_wire_words.specs.Fits.{WireContents, contents_after}
-use Rattle.iox_wire_words.specs.Laws.{IsMade}
+use Rattle.iox_wire_words.specs.Laws.{AccessIsMade}
 use Rattle.iox_wire_words.specs.Programs.{program_access}
 use Rattle.iox_wire_moments.specs.MomentsOf.{Pools}
 use Rattle.iox_wire_locals.specs.declared.local.Ending.{Ending}
@@ -23,7 +23,7 @@ use Rattle.iox_wire_locals.specs.Tables.{Setting}
 use Rattle.iox_wire_laws.proofs.WireKeeping.CountsKept.{steps_keep_own}
 use Rattle.iox_wire_laws.specs.WireShows.OwnedCalls.{state_after}
 use Rattle.iox_wire_laws.specs.WireHolding.Holding.{held_after}
-use Rattle.iox_wire_stands.specs.NodeLaws.{IsTold}
+use Rattle.iox_wire_stands.specs.NodeLaws.{ToldWhatIsSo}
 use Rattle.iox_wire_stands.specs.Stands.{AreNumbered}
 use Rattle.iox_wire_stands.proofs.StepsAround.{Around, AroundNext, Whole, goes_around}
 use Rattle.iox_wire_steps.specs.Over.{EndIsTold, CallIsOver}
@@ -99,7 +99,7 @@ module _ (p : Setting) (held : Pools) (word word' : ℕ → ℕ) (c : WireConten
   abbrev after : WireContents
   after = contents_after p.layout (program_of p x.local) seen c
 
-  module _ (told : IsTold p held w.state x seen) (made : IsMade (program_access p.layout (program_of p x.local)) word word') (ending : Ending)
+  module _ (told : ToldWhatIsSo p held w.state x seen) (made : AccessIsMade (program_access p.layout (program_of p x.local)) word word') (ending : Ending)
       (payload : List ℕ) (is : ending_at z.local ≡ Some ending) where
     abbrev H : Holding
     H = HoldsNext p (seats n) (seen_by (program_access p.layout (program_of p (seats n).local)) word) payload held c

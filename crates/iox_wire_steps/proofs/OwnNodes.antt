@@ -32,7 +32,7 @@ use Rattle.iox_wire_laws.proofs.WireKeeping.CountsKept.{no_port}
 use Rattle.iox_wire_laws.proofs.WireKeeping.Frames.{Frame, settled_frame}
 use Rattle.iox_wire_laws.specs.WireOwners.Borrowed.{IsCounted}
 use Rattle.iox_wire_laws.proofs.WireOwners.Borrowed.{ends_keep_borrowed}
-use Rattle.iox_wire_laws.specs.WireOwners.Releases.{HasOwnStates, IsReleased}
+use Rattle.iox_wire_laws.specs.WireOwners.Releases.{HasOwnStates, ReleasesOwnHandle}
 use Rattle.iox_wire_laws.specs.WireRegions.OwnedBegins.{LayoutFits}
 use Rattle.iox_wire_laws.specs.WireHolding.FarSlots.{EndsInPool, IsInPool, NamesSlots}
 use Rattle.iox_wire_laws.specs.WireHolding.Holding.{held_ended}
@@ -119,14 +119,14 @@ module _ (p : Setting) (held : Pools) (word : ℕ → ℕ) (c : WireContents) (s
     in_pool_added (endings.Receives v z slot header) at low near new = subst (λ (q : Entry). IsInPool p q.sender q.slot) (sym new) low
     in_pool_added k at low near new = absurd new
 
-    released_added : (k : Ending) → ending_at x.local ≡ Some k → EndsWith p s.fixed x k → EndIsTold p held s x k → Gains p x k e → IsReleased s.fixed n e
+    released_added : (k : Ending) → ending_at x.local ≡ Some k → EndsWith p s.fixed x k → EndIsTold p held s x k → Gains p x k e → ReleasesOwnHandle s.fixed n e
     released_added (endings.Lends o slot) at with tells new =
-        subst (IsReleased s.fixed n) (sym new) (added.lent_released p held word c seats w n shows living fits o slot at)
+        subst (ReleasesOwnHandle s.fixed n) (sym new) (added.lent_released p held word c seats w n shows living fits o slot at)
     released_added (endings.Sends k copied count) at with tells new =
-        subst (IsReleased s.fixed n) (sym new.0)
+        subst (ReleasesOwnHandle s.fixed n) (sym new.0)
         (added.sent_released p held word c seats w n shows living fits k copied count at new.1 (tells new.1).0)
     released_added (endings.Receives v z slot header) at with tells new =
-        subst (IsReleased s.fixed n) (sym new) (received_released p held word c seats w n v z slot header shows living at fits with (next_handle p x) (λ server. (tells.1 server).2))
+        subst (ReleasesOwnHandle s.fixed n) (sym new) (received_released p held word c seats w n v z slot header shows living at fits with (next_handle p x) (λ server. (tells.1 server).2))
     released_added k at with tells new = absurd new
 
     states_added : (k : Ending) → ending_at x.local ≡ Some k → EndIsTold p held s x k → Gains p x k e → same_kind e.kind PendingResponse ≡ true
@@ -152,10 +152,10 @@ module _ (p : Setting) (held : Pools) (word : ℕ → ℕ) (c : WireContents) (s
       by_part (inl low) = low
       by_part (inr dropped) = absurd (dropped_is_gone p x ending e now dropped)
 
-  same_released : (e : Entry) → IsReleased s.fixed n e → IsReleased t.fixed y.node e
+  same_released : (e : Entry) → ReleasesOwnHandle s.fixed n e → ReleasesOwnHandle t.fixed y.node e
   same_released e is =
-      let it = subst (λ ports. IsReleased (record (s.fixed) { ports = ports }) n e) (sym frame.1) is in
-      subst (λ k. IsReleased t.fixed k e) (sym (shows.node n) ∙ sym left.node)
+      let it = subst (λ ports. ReleasesOwnHandle (record (s.fixed) { ports = ports }) n e) (sym frame.1) is in
+      subst (λ k. ReleasesOwnHandle t.fixed k e) (sym (shows.node n) ∙ sym left.node)
       (record { pending = it.pending; request = it.request; response = it.response })
 
   -- what is received, or given up, came on a way that the node counts
@@ -210,11 +210,11 @@ module _ (p : Setting) (held : Pools) (word : ℕ → ℕ) (c : WireContents) (s
   numbers_now = ends_keep_numbers p x ending over.numbers (numbers_are_new p held word c seats w n shows living ending is)
 
   module _ (told : EndIsTold p held w.state (seats n) ending) where
-    pub released_now : (e : Entry) → HasEntry y e → IsReleased t.fixed y.node e
+    pub released_now : (e : Entry) → HasEntry y e → ReleasesOwnHandle t.fixed y.node e
     released_now e now = by_part (gained p x e ending now)
       where
-        by_part : HasEntry x e ⊎ Gains p x ending e → IsReleased t.fixed y.node e
-        by_part (inl before) = same_released e (subst (λ k. IsReleased s.fixed k e) (shows.node n) (over.released e before))
+        by_part : HasEntry x e ⊎ Gains p x ending e → ReleasesOwnHandle t.fixed y.node e
+        by_part (inl before) = same_released e (subst (λ k. ReleasesOwnHandle s.fixed k e) (shows.node n) (over.released e before))
         by_part (inr new) = same_released e (released_added e ending is over.message told new)
 
     pub states_now : (e : Entry) → HasEntry y e → same_kind e.kind PendingResponse ≡ true → HasOwnStates p y t.request_state e

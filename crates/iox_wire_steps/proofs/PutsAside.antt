@@ -14,7 +14,7 @@ use Rattle.iox_laws.proofs.WeaveLedger.Truths.{false_if}
 use Rattle.iox_steps.specs.declared.side.Pushing.{Pushing}
 use Rattle.iox_steps.specs.Accesses.{seen_by}
 use Rattle.iox_wire_words.specs.Fits.{WireContents, contents_after}
-use Rattle.iox_wire_words.specs.Laws.{IsMade}
+use Rattle.iox_wire_words.specs.Laws.{AccessIsMade}
 use Rattle.iox_wire_words.specs.Programs.{program_access}
 use Rattle.iox_wire_moments.specs.MomentsOf.{Pools}
 use Rattle.iox_wire_locals.specs.declared.local.Local.{Local}
@@ -38,7 +38,7 @@ use Rattle.iox_wire_laws.specs.WireHolding.SlotsKnown.{EntryFits, HasEntry, Plac
 use Rattle.iox_wire_laws.proofs.WireHolding.Aside.{entries_may_be_put_aside}
 use Rattle.iox_wire_laws.proofs.WireHolding.FarSlots.{far_slots_are_unnamed}
 use Rattle.iox_wire_stands.specs.Following.{Leaving, LeavesNothing, message_at}
-use Rattle.iox_wire_stands.specs.NodeLaws.{IsTold}
+use Rattle.iox_wire_stands.specs.NodeLaws.{ToldWhatIsSo}
 use Rattle.iox_wire_stands.specs.Nodes.{NodeStands}
 use Rattle.iox_wire_stands.specs.Stands.{AreNumbered}
 use Rattle.iox_wire_stands.specs.StepLaws.{TakenStays}
@@ -125,7 +125,7 @@ module _ (p : Setting) (held : Pools) (word word' : ℕ → ℕ) (c : WireConten
   abbrev after : WireContents
   after = contents_after p.layout (program_of p x.local) seen c
 
-  module _ (told : IsTold p held w.state x seen) (made : IsMade (program_access p.layout (program_of p x.local)) word word') (e : Entry) (place : Pushing)
+  module _ (told : ToldWhatIsSo p held w.state x seen) (made : AccessIsMade (program_access p.layout (program_of p x.local)) word word') (e : Entry) (place : Pushing)
       (at : x.local ≡ ReleaseReturns e place) (to : advance p (accessed x) x.local seen ≡ placed (accessed x) (ReleaseLooks e))
       (received : is_received e.kind ≡ true) (payload : List ℕ) where
     mine : NodeStands p held w.state x

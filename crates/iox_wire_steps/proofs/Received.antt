@@ -31,7 +31,7 @@ use Rattle.iox_wire_locals.specs.Steps.{ending_at}
 use Rattle.iox_wire_locals.specs.Tables.{Setting, way_in}
 use Rattle.iox_wire_laws.specs.WireKeeping.Shows.{ShowsWorld}
 use Rattle.iox_wire_laws.specs.WireShows.OwnedCalls.{AsksOn, ReceivesOn}
-use Rattle.iox_wire_laws.specs.WireOwners.Releases.{IsReleased}
+use Rattle.iox_wire_laws.specs.WireOwners.Releases.{ReleasesOwnHandle}
 use Rattle.iox_wire_laws.specs.WireRegions.OwnedBegins.{LayoutFits}
 use Rattle.iox_wire_laws.proofs.WireRegions.OwnPorts.{port_with}
 use Rattle.iox_wire_laws.specs.WireHolding.SlotsKnown.{EntryFits}
@@ -152,7 +152,7 @@ module _ (p : Setting) (held : Pools) (word : ℕ → ℕ) (c : WireContents) (s
         received = λ got. (same_sender, subst (IsWay p.layout.sizes) (sym same_way_in) on.way);
       }
 
-      pub response_released : IsReleased w.state.fixed n (received_entry number v y slot header)
+      pub response_released : ReleasesOwnHandle w.state.fixed n (received_entry number v y slot header)
       response_released = record {
         pending = λ same. absurd (true≢false (sym same ∙ ap (λ k. same_kind k PendingResponse) kind));
         request = λ same. absurd (true≢false (sym same ∙ ap (λ k. same_kind k ActiveRequest) kind));
@@ -194,7 +194,7 @@ module _ (p : Setting) (held : Pools) (word : ℕ → ℕ) (c : WireContents) (s
         received = λ got. (sender_too, subst (IsWay p.layout.sizes) (sym way_too) on.way);
       }
 
-      pub request_released : AsksOn p v y header → IsReleased w.state.fixed n (received_entry number v y slot header)
+      pub request_released : AsksOn p v y header → ReleasesOwnHandle w.state.fixed n (received_entry number v y slot header)
       request_released asks = record {
         pending = λ same. absurd (true≢false (sym same ∙ ap (λ k. same_kind k PendingResponse) kind_too));
         request = λ same. (
@@ -228,9 +228,9 @@ module _ (p : Setting) (held : Pools) (word : ℕ → ℕ) (c : WireContents) (s
       by_role true client = response_fits client number
       by_role false server = request_fits server number
 
-  pub received_released : (number : ℕ) → (is_client v.role ≡ false → AsksOn p v y header) → IsReleased w.state.fixed n (received_entry number v y slot header)
+  pub received_released : (number : ℕ) → (is_client v.role ≡ false → AsksOn p v y header) → ReleasesOwnHandle w.state.fixed n (received_entry number v y slot header)
   received_released number asks = by_role (is_client v.role) refl
     where
-      by_role : (b : Bool) → is_client v.role ≡ b → IsReleased w.state.fixed n (received_entry number v y slot header)
+      by_role : (b : Bool) → is_client v.role ≡ b → ReleasesOwnHandle w.state.fixed n (received_entry number v y slot header)
       by_role true client = response_released client number
       by_role false server = request_released server number (asks server)

@@ -16,7 +16,7 @@ use Rattle.iox_steps.specs.declared.side.Pushing.{Pushing}
 use Rattle.iox_steps.specs.declared.side.QueueEvent.{QueueEvent}
 use Rattle.iox_steps.specs.declared.side.QueueEvent.TheVariants.{Publish}
 use Rattle.iox_wire_words.specs.Fits.{WireContents, contents_after}
-use Rattle.iox_wire_words.specs.Laws.{IsMade}
+use Rattle.iox_wire_words.specs.Laws.{AccessIsMade}
 use Rattle.iox_wire_words.specs.Programs.{program_access}
 use Rattle.iox_wire_moments.specs.MomentsOf.{Pools}
 use Rattle.iox_wire_locals.specs.declared.local.Ending.{Ending}
@@ -38,7 +38,7 @@ use Rattle.iox_wire_laws.specs.WireHolding.Aside.{shown}
 use Rattle.iox_wire_laws.specs.WireHolding.Holding.{held_after, held_from}
 use Rattle.iox_wire_stands.specs.Following.{CallMessage, Leaving, LeavesNothing, message_at}
 use Rattle.iox_wire_stands.specs.NamesLaws.{ReturnsNothing}
-use Rattle.iox_wire_stands.specs.NodeLaws.{IsTold}
+use Rattle.iox_wire_stands.specs.NodeLaws.{ToldWhatIsSo}
 use Rattle.iox_wire_stands.specs.Stands.{AreNumbered}
 use Rattle.iox_wire_stands.proofs.StepsAround.{Whole, WholeNext, goes_on}
 use Rattle.iox_wire_steps.specs.Over.{EndIsTold}
@@ -121,7 +121,7 @@ module _ (p : Setting) (held : Pools) (word word' : ℕ → ℕ) (c : WireConten
       (ReturnsNothing x.local (message_at z.local) × Steps (put_at seats n (next p x seen)))
       ⊎ (LeavesNothing (message_at x.local) × Steps (put_at seats n (shown p (next p x seen))))
 
-  module _ (told : StepIsTold p held w.state x seen payload) (made : IsMade (program_access p.layout (program_of p x.local)) word word') where
+  module _ (told : StepIsTold p held w.state x seen payload) (made : AccessIsMade (program_access p.layout (program_of p x.local)) word word') where
     -- the call is over but for its end
     over_now : (ending : Ending) → ending_at x.local ≡ Some ending → Done
     over_now ending is =
@@ -155,7 +155,7 @@ module _ (p : Setting) (held : Pools) (word word' : ℕ → ℕ) (c : WireConten
         )
 
     -- it has an access, and that is its last one
-    last_now : IsTold p held w.state x seen → (ending : Ending) → ending_at z.local ≡ Some ending → Done
+    last_now : ToldWhatIsSo p held w.state x seen → (ending : Ending) → ending_at z.local ≡ Some ending → Done
     last_now access ending is =
         let tells_end = told.ended ending is in
         let may : MayHold t.fixed (outcome_of p new n ending) payload
@@ -180,7 +180,7 @@ module _ (p : Setting) (held : Pools) (word word' : ℕ → ℕ) (c : WireConten
     still : (ss : ℕ → Seat) → ending_at z.local ≡ None → LedTo H p word' w (step_beats n payload m None) ss → Steps ss
     still ss going led = subst (λ o. LedTo H p word' w (step_beats n payload m (option_map (reply_of p z) o)) ss) (sym going) led
 
-    goes_now : IsTold p held w.state x seen → ending_at z.local ≡ None → ReturnsNothing x.local (message_at z.local) ⊎ GivesBack x.local (message_at z.local) → Done
+    goes_now : ToldWhatIsSo p held w.state x seen → ending_at z.local ≡ None → ReturnsNothing x.local (message_at z.local) ⊎ GivesBack x.local (message_at z.local) → Done
     goes_now access going (inl returns) =
         inl (
           returns,
@@ -199,7 +199,7 @@ module _ (p : Setting) (held : Pools) (word word' : ℕ → ℕ) (c : WireConten
               (aside_led p held word word' c seats w n numbered whole living access made back.entry back.place back.at lands to.1 payload))),
         )
 
-    by_next : IsTold p held w.state x seen → (o : Option Ending) → ending_at z.local ≡ o → Done
+    by_next : ToldWhatIsSo p held w.state x seen → (o : Option Ending) → ending_at z.local ≡ o → Done
     by_next access (Some ending) is = last_now access ending is
     by_next access None going = goes_now access going (gives_back x.local (message_at z.local))
 

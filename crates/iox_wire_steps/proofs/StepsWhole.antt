@@ -14,7 +14,7 @@ use Rattle.iox_laws.proofs.WeaveLedger.Lists.{IsAmong, among-back, among-filter,
 use Rattle.iox_laws.proofs.WeaveLedger.Truths.{both_true}
 use Rattle.iox_steps.specs.Accesses.{seen_by}
 use Rattle.iox_wire_words.specs.Fits.{WireContents}
-use Rattle.iox_wire_words.specs.Laws.{IsMade}
+use Rattle.iox_wire_words.specs.Laws.{AccessIsMade}
 use Rattle.iox_wire_words.specs.Programs.{Program, program_access}
 use Rattle.iox_wire_moments.specs.MomentsOf.{Pools}
 use Rattle.iox_wire_locals.specs.declared.local.Ending.{Ending}
@@ -193,7 +193,7 @@ module _ (p : Setting) (words words' : List ℕ) (players : ℕ → Player) (r :
       (put_at seats n (shown p (next p x (seen_at x))))
 
   module _ (told : StepIsTold p stands.held r.last.state (shown p x) (seen_at x) payload)
-      (made : IsMade (program_access p.layout (program_of p x.local)) (word_of words) (word_of words')) where
+      (made : AccessIsMade (program_access p.layout (program_of p x.local)) (word_of words) (word_of words')) where
     -- the node as it is shown runs the same
     runs : program_of p (shown p x).local ≡ program_of p x.local
     runs = shown_nodes_run_the_same p x
@@ -213,7 +213,7 @@ module _ (p : Setting) (words words' : List ℕ) (players : ℕ → Player) (r :
         subst (Both (shown p x)) same_seen
         (done p stands.held (word_of words) (word_of words') stands.contents seats r.last n payload stands.numbers whole living
         (subst (λ k. StepIsTold p stands.held r.last.state (shown p x) k payload) (sym same_seen) told)
-        (subst (λ g. IsMade (program_access p.layout g) (word_of words) (word_of words')) (sym runs) made))
+        (subst (λ g. AccessIsMade (program_access p.layout g) (word_of words) (word_of words')) (sym runs) made))
 
     -- a node that leaves nothing is shown as it is, and so it is then
     plainly : LeavesNothing (message_at x.local) → Result

@@ -24,7 +24,7 @@ use Rattle.iox_wire_laws.specs.WireOwners.SentStates.{HasOpened}
 use Rattle.iox_wire_laws.proofs.WireOwners.SentStates.{sent_requests_have_states}
 use Rattle.iox_wire_laws.specs.WireRegions.OwnedWords.{Owns}
 use Rattle.iox_wire_laws.specs.WireHolding.Holding.{held_at, held_from}
-use Rattle.iox_wire_stands.specs.NodeLaws.{IsTold}
+use Rattle.iox_wire_stands.specs.NodeLaws.{ToldWhatIsSo}
 use Rattle.iox_wire_stands.specs.Nodes.{NodeStands}
 use Rattle.iox_wire_steps.specs.Over.{EndIsTold}
 use Rattle.iox_wire_steps.specs.Told.{AskedRequestsAreTold, SentRequestsAreTold}
@@ -34,7 +34,7 @@ sent_requests_are_told p held s x d last count stands is to low =
     λ request. (low, sent_requests_have_states p x s.request_state d last count (subst (HasOpened s.request_state) is stands.opened) request to)
 
 module _ (p : Setting) (held : Pools) (s : State) (x : Seat) (seen : ℕ) (payload : List ℕ) (v : Visit) (w : Way) (slot : ℕ) (header : List ℕ) (left : List Way)
-    (waiting : Bool) (stands : NodeStands p held s x) (is : x.local ≡ ReceiveAsks v w slot header left waiting) (role : is_client v.role ≡ false) (told : IsTold p held s x seen) where
+    (waiting : Bool) (stands : NodeStands p held s x) (is : x.local ≡ ReceiveAsks v w slot header left waiting) (role : is_client v.role ≡ false) (told : ToldWhatIsSo p held s x seen) where
   abbrev Ended : Pools → State → Seat → Type 0
   Ended new t y =
       (ending : Ending) → ending_at y.local ≡ Some ending → EndIsTold p new t y ending × MayHold t.fixed (outcome_of p new x.node ending) payload

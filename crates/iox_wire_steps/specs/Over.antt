@@ -22,7 +22,7 @@ use Rattle.iox_wire_locals.specs.Tables.{Setting, sent_entry}
 use Rattle.iox_wire_laws.specs.WireKeeping.Shows.{EndKnows}
 use Rattle.iox_wire_laws.specs.WireShows.OwnedCalls.{AsksOn, ReceivesOn}
 use Rattle.iox_wire_laws.specs.WireOwners.Borrowed.{BorrowedFits, HasCount}
-use Rattle.iox_wire_laws.specs.WireOwners.Releases.{HasOwnStates, IsReleased}
+use Rattle.iox_wire_laws.specs.WireOwners.Releases.{HasOwnStates, ReleasesOwnHandle}
 use Rattle.iox_wire_laws.specs.WireHolding.FarSlots.{EndsInPool, IsInPool}
 use Rattle.iox_wire_laws.specs.WireHolding.SlotsKnown.{EntryFits, HasEntry, IsPortOfSeat, SlotsKnown}
 use Rattle.iox_wire_pools.specs.Uses.{AllUsesAreCounted}
@@ -64,7 +64,7 @@ pub record CallIsOver (p : Setting) (held : Pools) (s : State) (x : Seat) (endin
   pub counted : (y : Way) → IsWay p.layout.sizes y → p.layout.owner y.receiver ≡ x.node
       → HasCount x y
   pub numbers : AreDistinct (map (λ e. e.number) x.table)
-  pub released : (e : Entry) → HasEntry x e → IsReleased s.fixed x.node e
+  pub released : (e : Entry) → HasEntry x e → ReleasesOwnHandle s.fixed x.node e
   pub states : (e : Entry) → HasEntry x e → same_kind e.kind PendingResponse ≡ true
       → HasOwnStates p x s.request_state e
 

@@ -15,7 +15,7 @@ use Rattle.iox_wire_locals.specs.Known.{loans_at}
 use Rattle.iox_wire_locals.specs.Steps.{closed, ending_at}
 use Rattle.iox_wire_locals.specs.Tables.{Setting}
 use Rattle.iox_wire_laws.specs.WireKeeping.Shows.{ShowsWorld}
-use Rattle.iox_wire_laws.specs.WireOwners.Releases.{HasOwnStates, IsReleased}
+use Rattle.iox_wire_laws.specs.WireOwners.Releases.{HasOwnStates, ReleasesOwnHandle}
 use Rattle.iox_wire_laws.specs.WireRegions.OwnedBegins.{LayoutFits}
 use Rattle.iox_wire_laws.specs.WireHolding.FarSlots.{IsInPool}
 use Rattle.iox_wire_laws.specs.WireHolding.Holding.{held_ended}
@@ -71,7 +71,7 @@ abbrev pub EndsKeepReleased : Type 0
 EndsKeepReleased = AtEachEnd (λ p held s x ending.
     (payload : List ℕ) (e : Entry)
     → EndIsTold p held s x ending → HasEntry (closed p x (Some ending)) e
-    → IsReleased (state_ended p held s x payload ending).fixed x.node e)
+    → ReleasesOwnHandle (state_ended p held s x payload ending).fixed x.node e)
 
 -- The states of its pending responses name no other request.
 abbrev pub EndsKeepStates : Type 0

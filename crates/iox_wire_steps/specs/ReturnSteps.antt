@@ -9,7 +9,7 @@ use Rattle.iox_steps.specs.declared.push.Push.{Push}
 use Rattle.iox_steps.specs.Fits.{write_of}
 use Rattle.iox_steps.specs.Sites.{last_position}
 use Rattle.iox_word_map.specs.WordMaps.{ReturningQueue}
-use Rattle.iox_wire_words.specs.Laws.{IsMade}
+use Rattle.iox_wire_words.specs.Laws.{AccessIsMade}
 use Rattle.iox_wire_words.specs.Programs.{program_access, site_of}
 use Rattle.iox_wire_locals.specs.Locals.{program_of}
 use Rattle.iox_wire_locals.specs.StateMoments.{moment_at}
@@ -32,7 +32,7 @@ ReturnStepsKeep =
     let seen = seen_by access (word_of words) in
     GivesBackOn x.local y place → forgot_port r.last.state.fixed n y.sender ≡ false
     → write_of (site_of p.layout (ReturningQueue y)) (word_of words) < last_position
-    → IsMade access (word_of words) (word_of words') → length words' ≡ length words
+    → AccessIsMade access (word_of words) (word_of words') → length words' ≡ length words
     → (after : Run)
     × GoesOnWith r
     (step_beats n payload (moment_at p stands.held x.local seen) (tells p x seen)) after

@@ -3,7 +3,7 @@ use Rattle.std.specs.Prelude.{◌≡◌, ℕ, List, length, None}
 use Rattle.iox_model.specs.Joins.{not_living}
 use Rattle.iox_model.specs.Maps.{put_at}
 use Rattle.iox_steps.specs.Accesses.{seen_by}
-use Rattle.iox_wire_words.specs.Laws.{IsMade}
+use Rattle.iox_wire_words.specs.Laws.{AccessIsMade}
 use Rattle.iox_wire_words.specs.Programs.{program_access}
 use Rattle.iox_wire_locals.specs.declared.local.Local.{Local}
 use Rattle.iox_wire_locals.specs.declared.local.Local.TheVariants.{Checks, HintExchanges, Hints, ReleaseCloses, ReleaseExchanges, ReleaseLooks}
@@ -34,7 +34,7 @@ StateStepsKeep =
     → let x = (players n).seat in let access = program_access p.layout (program_of p x.local) in
     let seen = seen_by access (word_of words) in
     IsAtState x.local
-    → IsMade access (word_of words) (word_of words') → length words' ≡ length words
+    → AccessIsMade access (word_of words) (word_of words') → length words' ≡ length words
     → (after : Run)
     × GoesOnWith r
     (step_beats n payload (moment_at p stands.held x.local seen) (tells p x seen)) after

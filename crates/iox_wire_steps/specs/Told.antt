@@ -13,7 +13,7 @@ use Rattle.iox_wire_locals.specs.declared.local.Visit.{Visit}
 use Rattle.iox_wire_locals.specs.declared.seat.Seat.{Seat}
 use Rattle.iox_wire_locals.specs.Known.{known}
 use Rattle.iox_wire_locals.specs.Tables.{Setting}
-use Rattle.iox_wire_stands.specs.NodeLaws.{IsTold}
+use Rattle.iox_wire_stands.specs.NodeLaws.{ToldWhatIsSo}
 use Rattle.iox_wire_stands.specs.Nodes.{NodeStands}
 use Rattle.iox_wire_steps.specs.Over.{EndIsTold}
 use Rattle.iox_wire_steps.specs.WholeSteps.{StepIsTold}
@@ -35,4 +35,4 @@ AskedRequestsAreTold =
     (p : Setting) (held : Pools) (s : State) (x : Seat) (seen : ℕ) (payload : List ℕ) (v : Visit)
     (w : Way) (slot : ℕ) (header : List ℕ) (left : List Way) (waiting : Bool)
     → NodeStands p held s x → x.local ≡ ReceiveAsks v w slot header left waiting
-    → is_client v.role ≡ false → IsTold p held s x seen → StepIsTold p held s x seen payload
+    → is_client v.role ≡ false → ToldWhatIsSo p held s x seen → StepIsTold p held s x seen payload

@@ -10,7 +10,7 @@ use Rattle.iox_model.specs.Weaves.{Beat, Ends, IsWeave, Makes}
 use Rattle.iox_model.specs.WholeCalls.{MayHold}
 use Rattle.iox_steps.specs.Accesses.{seen_by}
 use Rattle.iox_wire_words.specs.Fits.{WireContents, contents_after}
-use Rattle.iox_wire_words.specs.Laws.{IsMade}
+use Rattle.iox_wire_words.specs.Laws.{AccessIsMade}
 use Rattle.iox_wire_words.specs.Programs.{program_access}
 use Rattle.iox_wire_moments.specs.MomentsOf.{Pools}
 use Rattle.iox_wire_locals.specs.declared.local.Ending.{Ending}
@@ -26,7 +26,7 @@ use Rattle.iox_wire_laws.specs.WireShows.OwnedCalls.{state_after}
 use Rattle.iox_wire_laws.specs.WireHolding.Aside.{shown}
 use Rattle.iox_wire_laws.specs.WireHolding.FarSlots.{IsInPool}
 use Rattle.iox_wire_laws.specs.WireHolding.Holding.{held_after, held_ended, held_with}
-use Rattle.iox_wire_stands.specs.NodeLaws.{IsTold}
+use Rattle.iox_wire_stands.specs.NodeLaws.{ToldWhatIsSo}
 use Rattle.iox_wire_stands.specs.Runs.{Answered, Run, Said}
 use Rattle.iox_wire_stands.specs.Stands.{Player, Stands, word_of}
 use Rattle.iox_wire_steps.specs.Over.{EndIsTold}
@@ -71,7 +71,7 @@ player_next p player seen = record {
 -- end of its call, with a payload that a new loan may have. (No step is told so at rest.)
 pub record StepIsTold (p : Setting) (held : Pools) (s : State) (x : Seat) (seen : ℕ)
     (payload : List ℕ) : Type 0 where
-  pub access : ending_at x.local ≡ None → IsTold p held s x seen
+  pub access : ending_at x.local ≡ None → ToldWhatIsSo p held s x seen
   pub ended : (ending : Ending)
       → let y = advance p (accessed x) x.local seen in
       let t = state_after s (moment_at p held x.local seen) in let new = held_after p x seen held in
@@ -112,7 +112,7 @@ WholeStepsKeep =
     → let x = (players n).seat in let access = program_access p.layout (program_of p x.local) in
     let seen = seen_by access (word_of words) in
     StepIsTold p stands.held r.last.state (shown p x) seen payload
-    → IsMade access (word_of words) (word_of words') → length words' ≡ length words
+    → AccessIsMade access (word_of words) (word_of words') → length words' ≡ length words
     → (after : Run)
     × GoesOnWith r
     (step_beats n payload (moment_at p stands.held x.local seen) (tells p x seen)) after

@@ -30,7 +30,7 @@ use Rattle.iox_wire_copies.specs.SlotPlaces.{SlotPlaces}
 use Rattle.iox_wire_copies.specs.Lenders.{AreSlots, IsWithin, place_in, user_in}
 use Rattle.iox_wire_copies.specs.declared.payload_places.PayloadPlaces.{PayloadPlaces}
 use Rattle.iox_wire_copies.specs.Copies.{ArePayloads}
-use Rattle.iox_wire_copies.specs.Payloads.{HasRoom, payload_at}
+use Rattle.iox_wire_copies.specs.Payloads.{SlotsHold, payload_at}
 use Rattle.iox_wire_messages.proofs.PlaceLemmas.{payload_there, stand_there, user_words}
 use Rattle.iox_wire_messages.specs.MessagePlaces.{MessagePlaces}
 use Rattle.iox_wire_messages.specs.Aims.{StandAt}
@@ -160,7 +160,7 @@ module _ (plan : WirePlan) (is : IsPlan plan) (i : ℕ) (slot_there : IsSlotAt p
   pub front_fits : words_in_front plan i ≤ slot_words_of plan (number_at plan i)
   front_fits = let a = longest_fits 0 (omega arith) in omega (arith, a)
 
-  pub payloads_have_room : HasRoom (planned_slots plan i) (planned_payloads plan i)
+  pub payloads_have_room : SlotsHold (planned_slots plan i) (planned_payloads plan i)
   payloads_have_room = record {
     step = step_least (details_of plan (role_there plan i)).payload.alignment;
     room = let a = front_fits in omega (arith, a);

@@ -9,7 +9,7 @@ ghost use Rattle.iox_wire_messages.specs.Courses.{placed};
 ghost use Rattle.iox_wire_messages.specs.Lendings.{next_handle};
 ghost use Rattle.iox_wire_messages.specs.Stored.{header_length};
 ghost use Rattle.iox_wire_messages.specs.Tables.{Setting};
-ghost use Rattle.iox_wire_receives.specs.Aims.{HasRoomFor, IsAimed};
+ghost use Rattle.iox_wire_receives.specs.Aims.{MayTakeOneMore, IsAimed};
 ghost use Rattle.iox_wire_ways.specs.RequestSources.{HasRequestWays};
 
 use crate::responses::list_response_sources;
@@ -41,7 +41,7 @@ pub fn begin_request_receive(
     ensures aimed { (p : Setting) → IsSettingOf map.now p
         → p.limits.fire_and_forget ≡ fire_and_forget → number ≡ next_handle p seat.now.seat
         → IsAimed p seat.now.seat receiving.new }
-    ensures counts { HasRoomFor seat.now.seat receiving.new.local }
+    ensures counts { MayTakeOneMore seat.now.seat receiving.new.local }
     ensures number { receiving.new.terms.number ≡ number }
     ensures list { vec_capacity sources.new ≡ vec_capacity sources.old }
     ensures room { receiving.new.room ≡ receiving.old.room }
@@ -80,7 +80,7 @@ pub fn begin_response_receive(
     ensures aimed { (p : Setting) → IsSettingOf map.now p
         → p.limits.fire_and_forget ≡ fire_and_forget → number ≡ next_handle p seat.now.seat
         → IsAimed p seat.now.seat receiving.new }
-    ensures counts { HasRoomFor seat.now.seat receiving.new.local }
+    ensures counts { MayTakeOneMore seat.now.seat receiving.new.local }
     ensures number { receiving.new.terms.number ≡ number }
     ensures list { vec_capacity sources.new ≡ vec_capacity sources.old }
     ensures room { receiving.new.room ≡ receiving.old.room }

@@ -6,7 +6,7 @@ ghost use Rattle.iox_wire_messages.specs.PlansOf.{IsSettingOf};
 ghost use Rattle.iox_wire_copies.specs.Lenders.{AreSlots, IsWithin};
 ghost use Rattle.iox_wire_messages.specs.Tables.{Setting, port_shape};
 ghost use Rattle.iox_wire_copies.specs.Copies.{ArePayloads};
-ghost use Rattle.iox_wire_copies.specs.Payloads.{HasRoom};
+ghost use Rattle.iox_wire_copies.specs.Payloads.{SlotsHold};
 ghost use Rattle.iox_wire_ways.specs.PlannedSlots.{HasHeader, planned_payloads, planned_slots};
 ghost use Rattle.iox_wire_ways.specs.PlannedSlots.{element_words, longest_of, words_in_front};
 
@@ -91,7 +91,7 @@ pub fn payload_places(map: &WordMap, port: usize) -> PayloadPlaces
     ensures planned { result ≡ planned_payloads map.now port }
     ensures payloads { (p : Setting) → IsSettingOf map.now p
         → ArePayloads p (number_at map.now port) (planned_slots map.now port) result }
-    ensures room { HasRoom (planned_slots map.now port) result }
+    ensures room { SlotsHold (planned_slots map.now port) result }
     ensures fits { (k : ℕ) → k ≤ longest_of map.now (number_at map.now port)
         → k * element_words map.now port ≤ result.room }
     ensures longest { (p : Setting) → (k : ℕ) → IsSettingOf map.now p

@@ -27,7 +27,7 @@ use Rattle.iox_wire_needs.specs.Stands.{Player}
 use Rattle.iox_wire_needs.specs.WireStands.{WireStands}
 use Rattle.iox_wire_needs.specs.Places.{InPools}
 use Rattle.iox_wire_needs.proofs.Places.{places_are_in_pools}
-use Rattle.iox_wire_needs.proofs.OwnBegins.{calls_begin_by_own_data, refused_by_tables}
+use Rattle.iox_wire_needs.proofs.OwnBegins.{begin_keeps, refused_by_tables}
 use Rattle.iox_wire_needs.proofs.BeginWhole.{begun_wires_stand}
 use Rattle.iox_wire_weaves.specs.Asking.{BeginsCall, call_refusal}
 use Rattle.iox_wire_weaves.specs.declared.refusal.WireRefusal.{WireRefusal}
@@ -91,7 +91,7 @@ module _ (p : Setting) (old new : WireData) (r : Run) (n : ℕ) (x y : WireNode)
       → (next : Run) × GoesOnBy r (Begins n c (choice_for p seat c)) next
       × WireStands p old.words (put_at (players_of p old.nodes r) n (record { seat = begin p seat c; said = history n r.beats ++ Asked c ∷ [] })) next
   goes_by (Port c) may words_whole =
-      calls_begin_by_own_data p old.words (players_of p old.nodes r) r n c shows.stands lives
+      begin_keeps p old.words (players_of p old.nodes r) r n c shows.stands lives
       (sym (by_tables p old r n c shows lives) ∙ may) few_there words_whole
   goes_by (Forget dead) may words_whole =
       begun_wires_stand p old.words (players_of p old.nodes r) r n (Forget dead) shows.stands few_there words_whole may

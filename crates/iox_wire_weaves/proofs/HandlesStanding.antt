@@ -21,7 +21,7 @@ use Rattle.iox_word_map.proofs.Pieces.{pieces_are_sized, pieces_are_within}
 use Rattle.iox_wire_nodes.specs.Desk.{Desk}
 use Rattle.iox_wire_nodes.specs.Entry.{Entry}
 use Rattle.iox_wire_nodes.specs.LocalsBegins.{is_busy}
-use Rattle.iox_wire_nodes.specs.Nodes.{Node, seat_at, seat_in}
+use Rattle.iox_wire_nodes.specs.Nodes.{NodeView, seat_at, seat_in}
 use Rattle.iox_wire_nodes.specs.declared.call_at.CallAt.{CallAt}
 use Rattle.iox_wire_nodes.specs.declared.call_at.CallAt.TheVariants as at
 use Rattle.iox_wire_nodes.specs.PlanPort.{PlanPort}
@@ -78,7 +78,7 @@ own_role : (role : Role) → same_role role role ≡ true
 own_role Client = refl
 own_role Server = refl
 
-desks_alike : (x : Node) (c : CallAt) → (seat_at c x).desks ≡ x.seat.seat.desks
+desks_alike : (x : NodeView) (c : CallAt) → (seat_at c x).desks ≡ x.seat.seat.desks
 desks_alike x at.Seats = refl
 desks_alike x at.Receives = refl
 desks_alike x at.Lends = refl

@@ -13,7 +13,7 @@ use Rattle.iox_wire_nodes.specs.Local.{Local}
 use Rattle.iox_wire_needs.specs.Local.TheVariants.{Idle, ReleaseExchanges, ReleaseLooks}
 use Rattle.iox_wire_needs.specs.Aside.{shown_at}
 use Rattle.iox_wire_nodes.specs.LocalsBegins.{is_busy}
-use Rattle.iox_wire_nodes.specs.Nodes.{Node, seat_at, seat_in}
+use Rattle.iox_wire_nodes.specs.Nodes.{NodeView, seat_at, seat_in}
 use Rattle.iox_wire_nodes.specs.declared.call_at.CallAt.{CallAt}
 use Rattle.iox_wire_nodes.specs.declared.call_at.CallAt.TheVariants as at
 use Rattle.iox_wire_nodes.specs.Seat.{Seat}
@@ -30,7 +30,7 @@ use Rattle.iox_wire_weaves.proofs.Lookups.{seat_there}
 
 -- ---- its own part, whatever its call is
 
-pub number_alike : (x : Node) (c : CallAt) → (seat_at c x).node ≡ x.seat.seat.node
+pub number_alike : (x : NodeView) (c : CallAt) → (seat_at c x).node ≡ x.seat.seat.node
 number_alike x at.Seats = refl
 number_alike x at.Receives = refl
 number_alike x at.Lends = refl
@@ -39,7 +39,7 @@ number_alike x at.SendsResponse = refl
 number_alike x at.CopiesRequest = refl
 number_alike x at.CopiesResponse = refl
 
-pub table_alike : (x : Node) (c : CallAt) → (seat_at c x).table ≡ x.seat.seat.table
+pub table_alike : (x : NodeView) (c : CallAt) → (seat_at c x).table ≡ x.seat.seat.table
 table_alike x at.Seats = refl
 table_alike x at.Receives = refl
 table_alike x at.Lends = refl

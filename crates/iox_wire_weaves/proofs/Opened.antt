@@ -23,29 +23,29 @@ use Rattle.iox_wire_nodes.specs.SeatsAims as seats
 use Rattle.iox_wire_nodes.specs.Aims.{AreAimed, IsAimed}
 use Rattle.iox_wire_nodes.specs.declared.call_at.CallAt.{CallAt}
 use Rattle.iox_wire_nodes.specs.declared.call_at.CallAt.TheVariants.{Seats}
-use Rattle.iox_wire_nodes.specs.Nodes.{Node, seat_at, seat_in}
+use Rattle.iox_wire_nodes.specs.Nodes.{NodeView, seat_at, seat_in}
 use Rattle.iox_wire_needs.specs.Openings.{OverflowsWithRoom, opened_seat}
 use Rattle.iox_wire_needs.specs.Runs.{Run, Said, history}
 use Rattle.iox_wire_needs.specs.Stands.{Player}
 use Rattle.iox_wire_needs.specs.WireStands.{WireStands}
 use Rattle.iox_wire_needs.proofs.WireStands.{opened_wires_stand}
 use Rattle.iox_wire_weaves.specs.declared.refusal.WireRefusal.TheVariants.{NodeIsDead}
-use Rattle.iox_wire_weaves.specs.Laws.{IsFresh, WiresOpen}
+use Rattle.iox_wire_weaves.specs.Laws.{IsNewWire, WiresOpen}
 use Rattle.iox_wire_weaves.specs.Replies.{died_after, finished_within, most_words, under_way, under_way_within}
-use Rattle.iox_wire_weaves.specs.Wires.{OpensOn, Shows, WireData, WireNode, living_refusal, node_at, players_of, refusal_in, seat_of}
+use Rattle.iox_wire_weaves.specs.Wires.{WireOpensOn, Shows, WireData, WireNode, living_refusal, node_at, players_of, refusal_in, seat_of}
 use Rattle.iox_wire_weaves.specs.PortCounts.{TellsCounts}
 use Rattle.iox_wire_weaves.proofs.FreshDesks.{opened_tells}
 use Rattle.iox_wire_weaves.proofs.Lookups.{fun_ext, living_by}
 
 -- a node at rest knows of no place
-idle_aims : (p : Setting) (n : ℕ) (k : Node) → seat_in k ≡ opened_seat p n → k.at ≡ Seats → IsAimed p k
+idle_aims : (p : Setting) (n : ℕ) (k : NodeView) → seat_in k ≡ opened_seat p n → k.at ≡ Seats → IsAimed p k
 idle_aims p n k same at =
     let own : k.seat.seat ≡ opened_seat p n = sym (ap (λ (c : CallAt). seat_at c k) at) ∙ same in
     let rests : k.seat.seat.local ≡ Idle = ap (λ (x : Seat). x.local) own in
     subst (λ (c : CallAt). AreAimed p c k) (sym at) (subst (λ (l : Local). seats.AreAimed p l k.seat) (sym rests) tt)
 
-module _ (plan : WirePlan) (terms : WireTerms) (nodes : List ℕ) (p : Setting) (s : State) (wire : WireData) (is : IsPlan plan) (roomy : OverflowsWithRoom plan) (opens : OpensOn plan terms nodes p s)
-    (fresh : IsFresh p plan terms nodes wire) where
+module _ (plan : WirePlan) (terms : WireTerms) (nodes : List ℕ) (p : Setting) (s : State) (wire : WireData) (is : IsPlan plan) (roomy : OverflowsWithRoom plan) (opens : WireOpensOn plan terms nodes p s)
+    (fresh : IsNewWire p plan terms nodes wire) where
   abbrev o : (r : Run) × (r.first ≡ at_work (opened s)) × (r.beats ≡ []) × (r.last ≡ at_work (opened s))
       × WireStands p (replicate (total_words p.layout.sizes) 0) (λ n. record { seat = opened_seat p n; said = [] }) r
   o = opened_wires_stand plan p s is roomy opens.agrees opens.reached opens.allowed

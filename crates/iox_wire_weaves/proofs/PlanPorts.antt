@@ -10,7 +10,7 @@ use Rattle.iox_laws.proofs.WeaveLedger.Truths.{none-some}
 use Rattle.iox_word_places.specs.Plans.{port_numbers, port_of}
 use Rattle.iox_word_places.specs.declared.plan.PlanPort.{PlanPort}
 use Rattle.iox_wire_words.specs.Programs.{WireLayout}
-use Rattle.iox_wire_nodes.specs.Nodes.{Node, seat_at}
+use Rattle.iox_wire_nodes.specs.Nodes.{NodeView, seat_at}
 use Rattle.iox_wire_nodes.specs.Seat.{Seat}
 use Rattle.iox_wire_nodes.specs.Tables.{Setting}
 use Rattle.iox_wire_nodes.specs.declared.call_at.CallAt.{CallAt}
@@ -20,7 +20,7 @@ use Rattle.iox_wire_weaves.specs.Wires.{Shows, WireData, WireNode, node_at, seat
 use Rattle.iox_wire_weaves.proofs.Lookups.{seat_there}
 
 -- a node's desks are the same wherever it is in its call
-pub desks_alike : (x : Node) (c : CallAt) → (seat_at c x).desks ≡ x.seat.seat.desks
+pub desks_alike : (x : NodeView) (c : CallAt) → (seat_at c x).desks ≡ x.seat.seat.desks
 desks_alike x at.Seats = refl
 desks_alike x at.Receives = refl
 desks_alike x at.Lends = refl

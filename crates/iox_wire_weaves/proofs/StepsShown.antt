@@ -7,7 +7,7 @@ use Rattle.iox_model.specs.Commands.{Reply}
 use Rattle.iox_model.specs.Joins.{not_living}
 use Rattle.iox_model.specs.Maps.{has_number, put_at}
 use Rattle.iox_model.specs.Moments.{Moment}
-use Rattle.iox_model.specs.Schedules.{Finished, IsStepOf, nothing, makes, ends_alone, makes_and_ends, events_of, replies_of}
+use Rattle.iox_model.specs.Schedules.{Finished, events_of, replies_of}
 use Rattle.iox_model.specs.Weaves.{Beat}
 use Rattle.iox_model.specs.declared.way.Way.{Way}
 use Rattle.iox_laws.proofs.WeaveLaws.WholeLemmas.{not_living-members}
@@ -16,7 +16,7 @@ use Rattle.iox_steps.specs.Sites.{last_position}
 use Rattle.iox_steps.proofs.AccessLemmas.{length-words_after, list_changes}
 use Rattle.iox_wire_nodes.specs.Programs.{Program, program_access}
 use Rattle.iox_wire_nodes.specs.Fits.{MayRun}
-use Rattle.iox_wire_nodes.specs.Laws.{IsMade}
+use Rattle.iox_wire_nodes.specs.Laws.{AccessIsMade}
 use Rattle.iox_wire_nodes.proofs.Steps.{each_access_keeps_the_list}
 use Rattle.iox_wire_nodes.specs.Shows.{programs_of}
 use Rattle.iox_wire_nodes.proofs.OwnedPlaces.{owners_may_access}
@@ -35,20 +35,20 @@ use Rattle.iox_wire_needs.specs.Nodes.{NodeStands}
 use Rattle.iox_wire_needs.specs.Openings.{opened_seat}
 use Rattle.iox_wire_needs.specs.Runs.{Run, Said}
 use Rattle.iox_wire_needs.specs.Stands.{Player, seats_of, word_of}
-use Rattle.iox_wire_needs.specs.WholeSteps.{GoesOnWith, player_next, step_beats}
+use Rattle.iox_wire_needs.specs.WholeSteps.{player_next, step_beats}
 use Rattle.iox_wire_needs.specs.WireStands.{WireStands}
 use Rattle.iox_wire_needs.specs.Places.{InPools}
 use Rattle.iox_wire_needs.proofs.Places.{places_are_in_pools}
-use Rattle.iox_wire_needs.proofs.StepWhole.{stepped_wires_stand}
+use Rattle.iox_wire_needs.specs.WireSteps.{StandsAfterStep}
+use Rattle.iox_wire_needs.proofs.WireSteps.{is_step, step_keeps}
 use Rattle.iox_wire_needs.specs.NamedSlots.{HoldsLent, Names}
-use Rattle.iox_wire_needs.proofs.CallsAround.{members_stay}
 use Rattle.iox_wire_needs.proofs.NamedSlots.{named_slots_hold_lent}
 use Rattle.iox_wire_weaves.specs.Laws.{LivesAs, Replaces, StepsAreSafe, StepsShow, WentOn, progress_of}
 use Rattle.iox_model.specs.declared.event.Event.{Event}
 use Rattle.iox_wire_seats.specs.SlotEvents.{slot_event}
 use Rattle.iox_wire_weaves.specs.PortCounts.{TellsCounts}
 use Rattle.iox_wire_weaves.specs.Replies.{finished_within, most_words}
-use Rattle.iox_wire_weaves.specs.Steps.{MakesOneAccess, access_of, answer_of, call_after, finished_by, most_handles, recorded, step_refusal}
+use Rattle.iox_wire_weaves.specs.Steps.{GoesOnByStep, MakesOneAccess, access_of, answer_of, call_after, finished_by, most_handles, recorded, step_refusal}
 use Rattle.iox_wire_weaves.specs.Wires.{KeepsItsCall, Shows, WireData, WireNode, answers_in, living_refusal, node_at, players_of, refusal_in, seat_of}
 use Rattle.iox_wire_weaves.proofs.EventsTold.{events_on, step_events, told_serial}
 use Rattle.iox_wire_weaves.proofs.LivingDesks as desks
@@ -89,12 +89,6 @@ pub steps_are_safe : StepsAreSafe
 steps_are_safe p wire r n shows alive = within p wire r n shows alive
 
 -- ---- beats
-
-is_step : (n : ℕ) (payload : List ℕ) (m : Option Moment) (reply : Option Reply) → IsStepOf n (step_beats n payload m reply)
-is_step n payload None None = nothing
-is_step n payload (Some m) None = makes m
-is_step n payload None (Some reply) = ends_alone reply payload
-is_step n payload (Some m) (Some reply) = makes_and_ends m reply payload
 
 answered_in : (n : ℕ) (payload : List ℕ) (m : Option Moment) (words : List ℕ) (reply : Option NodeReply) (told : Option Reply)
     → told ≡ option_map (reply_in words) reply → (nodes : List WireNode)
@@ -141,22 +135,20 @@ module _ (p : Setting) (old new : WireData) (r : Run) (n : ℕ) (x y : WireNode)
   in_words : IsWithin 0 (length old.words) (access_of p old n)
   in_words = within p old r n shows may.0
 
-  made : IsMade (access_of p old n) (word_of old.words) (word_of new.words)
-  made = subst (λ ws. IsMade (access_of p old n) (word_of old.words) (word_of ws)) (sym words) (list_changes (access_of p old n) old.words in_words)
+  made : AccessIsMade (access_of p old n) (word_of old.words) (word_of new.words)
+  made = subst (λ ws. AccessIsMade (access_of p old n) (word_of old.words) (word_of ws)) (sym words) (list_changes (access_of p old n) old.words in_words)
 
   as_long : length new.words ≡ length old.words
   as_long = ap length words ∙ length-words_after (access_of p old n) old.words
 
-  stepped : (payload : List ℕ) × (after : Run)
-      × GoesOnWith r (step_beats n payload (moment_at p shows.stands.stands.held seat.local seen) (tells p seat seen)) after
-      × WireStands p new.words (put_at (players_of p old.nodes r) n (player_next p (players_of p old.nodes r n) seen)) after
-  stepped = stepped_wires_stand p old.words new.words (players_of p old.nodes r) r n shows.stands living_now busy few made as_long
+  stepped : StandsAfterStep p shows.stands.stands.held new.words (players_of p old.nodes r) r n seen
+  stepped = step_keeps p old.words new.words (players_of p old.nodes r) r n shows.stands living_now busy few made as_long
 
   abbrev after : Run
-  after = stepped.1
+  after = stepped.after
 
   abbrev beats_now : List Beat
-  beats_now = step_beats n stepped.0 (moment_at p shows.stands.stands.held seat.local seen) (tells p seat seen)
+  beats_now = step_beats n stepped.payload (moment_at p shows.stands.stands.held seat.local seen) (tells p seat seen)
 
   -- ---- the nodes
 
@@ -182,17 +174,16 @@ module _ (p : Setting) (old new : WireData) (r : Run) (n : ℕ) (x y : WireNode)
 
   players_agree : (m : ℕ) → put_players m ≡ players_of p new.nodes after m
   players_agree m =
-      ap₂ (λ (s : Seat) (h : List Said). record { seat = s; said = h }) (sym (seats_agree m (m == n) refl)) (sym (stepped.3.stands.histories m))
+      ap₂ (λ (s : Seat) (h : List Said). record { seat = s; said = h }) (sym (seats_agree m (m == n) refl)) (sym (stepped.stands.stands.histories m))
 
   stands_now : WireStands p new.words (players_of p new.nodes after) after
-  stands_now = subst (λ (f : ℕ → Player). WireStands p new.words f after) (fun_ext players_agree) stepped.3
+  stands_now = subst (λ (f : ℕ → Player). WireStands p new.words f after) (fun_ext players_agree) stepped.stands
 
   -- ---- who lives
 
   living_then : (m : ℕ) → not_living after.last.state m ≡ option_map refusal_in (living_refusal new.nodes m)
   living_then m =
-      not_living-members after.last.state r.last.state m
-      (members_stay n stepped.0 (moment_at p shows.stands.stands.held seat.local seen) (tells p seat seen) r.last after.last stepped.2.woven)
+      not_living-members after.last.state r.last.state m stepped.setting.members
       ∙ shows.living m ∙ ap (option_map refusal_in) (sym (same_living old.nodes n x y new.nodes puts lives_as.alive m))
 
   -- ---- places
@@ -221,24 +212,24 @@ module _ (p : Setting) (old new : WireData) (r : Run) (n : ℕ) (x y : WireNode)
   lent_there v slot named =
       named_slots_hold_lent p old.words new.words (players_of p old.nodes r) r n shows.stands living_now busy few made as_long v slot named
 
-  step_event : events_of (step_beats n stepped.0 (moment_at p shows.stands.stands.held seat.local seen) (tells p seat seen)) ≡ recorded old.plan old.nodes n (slot_event p seat.local seen)
+  step_event : events_of (step_beats n stepped.payload (moment_at p shows.stands.stands.held seat.local seen) (tells p seat seen)) ≡ recorded old.plan old.nodes n (slot_event p seat.local seen)
   step_event =
-      step_events p old shows.stands.stands.held n stepped.0 seat.local seen (tells p seat seen)
+      step_events p old shows.stands.stands.held n stepped.payload seat.local seen (tells p seat seen)
       (λ v slot named. told_serial p old r shows v.sender slot (lent_there v slot named))
 
   events_then : new.events ≡ events_of after.beats
   events_then =
       tells_event ∙ ap₂ (λ (xs ys : List (ℕ × Event)). xs ++ ys) shows.events (sym step_event)
-      ∙ sym (events_on r.beats (step_beats n stepped.0 (moment_at p shows.stands.stands.held seat.local seen) (tells p seat seen)))
-      ∙ ap events_of (sym stepped.2.beats)
+      ∙ sym (events_on r.beats (step_beats n stepped.payload (moment_at p shows.stands.stands.held seat.local seen) (tells p seat seen)))
+      ∙ ap events_of (sym stepped.goes_on.beats)
 
   -- ---- replies
 
   words_there : option_map_or (λ (z : WireNode). z.node.seat.words) (node_at n new.nodes) [] ≡ y.node.seat.words
   words_there = ap (λ o. option_map_or (λ (z : WireNode). z.node.seat.words) o []) puts.here
 
-  answers : answers_in (step_beats n stepped.0 (moment_at p shows.stands.stands.held seat.local seen) (tells p seat seen)) ≡ answer_of n new.nodes (progress_of reply)
-  answers = answered_in n stepped.0 (moment_at p shows.stands.stands.held seat.local seen) y.node.seat.words reply (tells p seat seen) tells_it new.nodes words_there
+  answers : answers_in (step_beats n stepped.payload (moment_at p shows.stands.stands.held seat.local seen) (tells p seat seen)) ≡ answer_of n new.nodes (progress_of reply)
+  answers = answered_in n stepped.payload (moment_at p shows.stands.stands.held seat.local seen) y.node.seat.words reply (tells p seat seen) tells_it new.nodes words_there
 
   -- the calls under way are kept, and the one that is over is told
   keeps : KeepsItsCall (most_words old.plan) r.beats n x
@@ -247,24 +238,24 @@ module _ (p : Setting) (old new : WireData) (r : Run) (n : ℕ) (x y : WireNode)
   replies_then : new.replies ≡ map (finished_within (most_words new.plan)) (replies_of after.beats)
   replies_then =
       told ∙ ap (λ (fs : List Finished). fs ++ finished_by n x y.node.seat.words (length new.events) reply) shows.replies
-      ∙ step_replies (most_words old.plan) n r.beats stepped.0 (moment_at p shows.stands.stands.held seat.local seen) (tells p seat seen) x y.node.seat.words reply new.events
-      keeps tells_it (events_then ∙ ap events_of stepped.2.beats)
-      ∙ ap₂ (λ (q : WirePlan) bs. map (finished_within (most_words q)) (replies_of bs)) (sym plan) (sym stepped.2.beats)
+      ∙ step_replies (most_words old.plan) n r.beats stepped.payload (moment_at p shows.stands.stands.held seat.local seen) (tells p seat seen) x y.node.seat.words reply new.events
+      keeps tells_it (events_then ∙ ap events_of stepped.goes_on.beats)
+      ∙ ap₂ (λ (q : WirePlan) bs. map (finished_within (most_words q)) (replies_of bs)) (sym plan) (sym stepped.goes_on.beats)
 
   calls_then : (m : ℕ) (z : WireNode) → node_at m new.nodes ≡ Some z → KeepsItsCall (most_words new.plan) after.beats m z
   calls_then m z at =
       subst (λ (q : WirePlan). KeepsItsCall (most_words q) after.beats m z) (sym plan)
-      (subst (λ bs. KeepsItsCall (most_words old.plan) bs m z) (sym stepped.2.beats) (elim (cases_Bool (m == n)) [
+      (subst (λ bs. KeepsItsCall (most_words old.plan) bs m z) (sym stepped.goes_on.beats) (elim (cases_Bool (m == n)) [
         | inl same ↦ (
             let e : m ≡ n = eqb-true m n same in
             let is : Some y ≡ Some z = sym puts.here ∙ sym (ap (λ k. node_at k new.nodes) e) ∙ at in
             subst (λ (v : WireNode). KeepsItsCall (most_words old.plan) (r.beats ++ beats_now) m v) (ap (λ o. option_map_or (λ v. v) o z) is)
             (subst (λ k. KeepsItsCall (most_words old.plan) (r.beats ++ beats_now) k y) (sym e)
-            (step_keeps_own (most_words old.plan) n r.beats stepped.0 (moment_at p shows.stands.stands.held seat.local seen) (tells p seat seen) x y y.node.seat.words reply
+            (step_keeps_own (most_words old.plan) n r.beats stepped.payload (moment_at p shows.stands.stands.held seat.local seen) (tells p seat seen) x y y.node.seat.words reply
             keeps tells_it lives_as call_is))
             )
         | inr other ↦ (
-            step_keeps_others (most_words old.plan) n r.beats stepped.0 (moment_at p shows.stands.stands.held seat.local seen) (tells p seat seen) m z other
+            step_keeps_others (most_words old.plan) n r.beats stepped.payload (moment_at p shows.stands.stands.held seat.local seen) (tells p seat seen) m z other
             (shows.calls m z (sym (puts.others m other) ∙ at))
             )
       ]))
@@ -286,8 +277,8 @@ module _ (p : Setting) (old new : WireData) (r : Run) (n : ℕ) (x y : WireNode)
         )
     | inr other ↦ (
         tells_same r.last after.last port (seat_of p old.nodes (p.layout.owner port)) (seat_of p new.nodes (p.layout.owner port)) (others (p.layout.owner port) other)
-        (step_leaves r.last after.last (p.layout.owner port) n port stepped.0 (moment_at p shows.stands.stands.held seat.local seen) (tells p seat seen)
-        shows.stands.stands.shows.reachable other (sym (shows.stands.stands.owners port)) stepped.2.woven) (shows.counts port has)
+        (step_leaves r.last after.last (p.layout.owner port) n port stepped.payload (moment_at p shows.stands.stands.held seat.local seen) (tells p seat seen)
+        shows.stands.stands.shows.reachable other (sym (shows.stands.stands.owners port)) stepped.goes_on.woven) (shows.counts port has)
         )
   ]
 
@@ -319,16 +310,20 @@ module _ (p : Setting) (old new : WireData) (r : Run) (n : ℕ) (x y : WireNode)
     others = puts.others;
   }
 
+  goes_by_step : GoesOnByStep p r n (answer_of n new.nodes (progress_of reply)) new
+  goes_by_step = record {
+    beats = beats_now;
+    after = after;
+    is_step = is_step n stepped.payload (moment_at p shows.stands.stands.held seat.local seen) (tells p seat seen);
+    goes_on = stepped.goes_on;
+    answered = answers;
+    setting = stepped.setting;
+    own = stepped.own;
+    shows = shows_then;
+  }
+
 pub steps_show : StepsShow
-steps_show p old new r n x y reply shows goes puts lives_as went plan terms words call_is told tells_event =
-    let s = stepped p old new r n x y reply shows goes puts lives_as went plan terms words call_is told tells_event in (
-      one_access p old new r n x y reply shows goes puts lives_as went plan terms words call_is told tells_event,
-      step_beats n s.0 (moment_at p shows.stands.stands.held (seat_of p old.nodes n).local (seen_by (access_of p old n) (word_of old.words)))
-          (tells p (seat_of p old.nodes n) (seen_by (access_of p old n) (word_of old.words))),
-      s.1,
-      is_step n s.0 (moment_at p shows.stands.stands.held (seat_of p old.nodes n).local (seen_by (access_of p old n) (word_of old.words)))
-          (tells p (seat_of p old.nodes n) (seen_by (access_of p old n) (word_of old.words))),
-      s.2,
-      answers p old new r n x y reply shows goes puts lives_as went plan terms words call_is told tells_event,
-      shows_then p old new r n x y reply shows goes puts lives_as went plan terms words call_is told tells_event,
-    )
+steps_show p old new r n x y reply shows goes puts lives_as went plan terms words call_is told tells_event = (
+  one_access p old new r n x y reply shows goes puts lives_as went plan terms words call_is told tells_event,
+  goes_by_step p old new r n x y reply shows goes puts lives_as went plan terms words call_is told tells_event,
+)

@@ -1,12 +1,11 @@
 -- That a wire shows a run as it opens, and goes on showing one.
 use Rattle.std.specs.Prelude.{◌≡◌, ◌⊎◌, ℕ, ◌+◌, ◌==◌, false, true, ◌++◌, List, [], length, replicate, Option, Some, None, is_some, option_map, ◌<◌, ◌≤◌, IfSome}
 use Rattle.iox_model.specs.Maps.{has_number}
-use Rattle.iox_model.specs.Schedules.{IsStepOf}
 use Rattle.iox_model.specs.States.{State}
 use Rattle.iox_model.specs.WireCalls.{in_wire_words, said}
 use Rattle.iox_model.specs.Commands.{Call, WireCall}
 use Rattle.iox_model.specs.Loans.{Choice}
-use Rattle.iox_model.specs.Weaves.{Beat, Begins, Dies, begin_refusal}
+use Rattle.iox_model.specs.Weaves.{Begins, Dies, begin_refusal}
 use Rattle.iox_model.specs.declared.call.WireCall.TheVariants.{Port}
 use Rattle.iox_model.specs.declared.reply.Reply.TheVariants.{Words}
 use Rattle.iox_steps.specs.declared.access.Progress.{Progress}
@@ -30,22 +29,21 @@ use Rattle.iox_wire_nodes.specs.Aims.{IsAimed}
 use Rattle.iox_wire_nodes.specs.declared.call_at.CallAt.TheVariants.{Seats}
 use Rattle.iox_wire_nodes.specs.declared.call_at.NodeReply.{NodeReply}
 use Rattle.iox_wire_nodes.specs.declared.node_call.NodeCall.{NodeCall}
-use Rattle.iox_wire_nodes.specs.Nodes.{Node, reply_in, seat_in}
+use Rattle.iox_wire_nodes.specs.Nodes.{NodeView, reply_in, seat_in}
 use Rattle.iox_wire_needs.specs.Openings.{OverflowsWithRoom, opened_seat}
 use Rattle.iox_wire_needs.specs.Places.{InPools}
 use Rattle.iox_wire_needs.specs.ReadWords.{TellsNoWords}
 use Rattle.iox_wire_needs.specs.Runs.{GoesOnBy, Run}
-use Rattle.iox_wire_needs.specs.WholeSteps.{GoesOnWith}
 use Rattle.iox_wire_seats.specs.SlotEvents.{slot_event}
-use Rattle.iox_wire_weaves.specs.Wires.{OpensOn, Shows, ShowsOpened, WireData, WireNode, answers_in, living_refusal, node_at, seat_of}
+use Rattle.iox_wire_weaves.specs.Wires.{WireOpensOn, Shows, ShowsOpened, WireData, WireNode, answers_in, living_refusal, node_at, seat_of}
 use Rattle.iox_wire_weaves.specs.Replies.{call_within, most_words}
-use Rattle.iox_wire_weaves.specs.Steps.{MakesOneAccess, access_of, answer_of, call_after, finished_by, recorded, step_refusal}
+use Rattle.iox_wire_weaves.specs.Steps.{GoesOnByStep, MakesOneAccess, access_of, answer_of, call_after, finished_by, recorded, step_refusal}
 use Rattle.iox_wire_weaves.specs.Asking.{BeginsCall, call_refusal, call_said}
 
 -- ---- an opening
 
 -- A wire as it is made from the plan for these nodes: its words are all 0, and each node has nothing.
-pub record IsFresh (p : Setting) (plan : WirePlan) (terms : WireTerms) (nodes : List ℕ)
+pub record IsNewWire (p : Setting) (plan : WirePlan) (terms : WireTerms) (nodes : List ℕ)
     (wire : WireData) : Type 0 where
   pub plan_is : wire.plan ≡ plan
   pub terms_are : wire.terms ≡ terms
@@ -62,8 +60,8 @@ abbrev pub WiresOpen : Type 0
 WiresOpen =
     (plan : WirePlan) (terms : WireTerms) (nodes : List ℕ) (p : Setting) (s : State)
     (wire : WireData)
-    → IsPlan plan → OverflowsWithRoom plan → OpensOn plan terms nodes p s
-    → IsFresh p plan terms nodes wire
+    → IsPlan plan → OverflowsWithRoom plan → WireOpensOn plan terms nodes p s
+    → IsNewWire p plan terms nodes wire
     → ShowsOpened p s wire
 
 -- ---- one node
@@ -91,7 +89,7 @@ progress_of (Some reply) = Done reply
 -- After an access that found this the node is the next, in the same call, it answers this if that is
 -- over, it knows where the words stand that it accesses next, as far as a slot that it took is one of a
 -- pool, and room for handles is neither made nor lost.
-pub record WentOn (p : Setting) (x : Node) (seen : ℕ) (reply : Option NodeReply) (y : Node)
+pub record WentOn (p : Setting) (x : NodeView) (seen : ℕ) (reply : Option NodeReply) (y : NodeView)
     : Type 0 where
   pub next_is : seat_in y ≡ next p (seat_in x) seen
   pub call : y.at ≡ x.at
@@ -105,7 +103,7 @@ StepsAreSafe =
     (p : Setting) (wire : WireData) (r : Run) (n : ℕ) → Shows p wire r
     → living_refusal wire.nodes n ≡ None → IsWithin 0 (length wire.words) (access_of p wire n)
 
--- After a step that is not refused, the wire shows the run that goes on so.
+-- After a step that is not refused, the wire shows the run that goes on so, in the same setting.
 abbrev pub StepsShow : Type 0
 StepsShow =
     (p : Setting) (old new : WireData) (r : Run) (n : ℕ) (x y : WireNode)
@@ -121,9 +119,7 @@ StepsShow =
     new.events ≡ old.events
     ++ recorded old.plan old.nodes n (slot_event p (seat_of p old.nodes n).local seen)
     → MakesOneAccess p old n new
-    × (bs : List Beat) × (after : Run) × IsStepOf n bs × GoesOnWith r bs after
-    × (answers_in bs ≡ answer_of n new.nodes (progress_of reply))
-    × Shows p new after
+    × GoesOnByStep p r n (answer_of n new.nodes (progress_of reply)) new
 
 -- ---- a death
 

@@ -26,6 +26,7 @@ pub use Rattle.iox_wire_needs.specs.Places
 pub use Rattle.iox_wire_needs.specs.ReadWords
 pub use Rattle.iox_wire_needs.specs.Runs
 pub use Rattle.iox_wire_needs.specs.Serials
+pub use Rattle.iox_wire_needs.specs.SettingsStay
 pub use Rattle.iox_wire_needs.specs.Settlements
 pub use Rattle.iox_wire_needs.specs.Stands
 pub use Rattle.iox_wire_needs.specs.Tidying

@@ -20,6 +20,7 @@ use Rattle.iox_wire_nodes.specs.Steps.{next}
 use Rattle.iox_wire_nodes.specs.Tables.{Setting}
 use Rattle.iox_wire_nodes.specs.WirePlan.{WirePlan}
 use Rattle.iox_wire_needs.specs.Runs.{GoesOnBy, Run}
+use Rattle.iox_wire_needs.specs.SettingsStay.{ForgetsNobody, SettingStays}
 use Rattle.iox_wire_needs.specs.WholeSteps.{GoesOnWith}
 use Rattle.iox_wire_nodes.specs.declared.call_at.CallAt.{CallAt}
 use Rattle.iox_wire_nodes.specs.declared.call_at.CallAt.TheVariants.{Seats}
@@ -134,13 +135,29 @@ abbrev pub recorded : WirePlan → List WireNode → ℕ → Option Event → Li
 recorded plan nodes n None = []
 recorded plan nodes n (Some event) = (n, with_serials (serial_of plan nodes) event) ∷ []
 
+-- The run goes on by a step of the node, with these answers, in the same setting, and the wire shows the
+-- run that goes on so.
+pub record GoesOnByStep (p : Setting) (r : Run) (n : ℕ) (answers : List (ℕ × Reply))
+    (new : WireData) : Type 0 where
+  pub beats : List Beat
+  pub after : Run
+  -- at most one moment of the machine, and then the end of the node's call
+  pub is_step : IsStepOf n beats
+  pub goes_on : GoesOnWith r beats after
+  pub answered : answers_in beats ≡ answers
+  -- who joined and who lives, the ports, the limits, and whom the other nodes forgot stay
+  pub setting : SettingStays n r.last after.last
+  -- and so does whom the node itself forgot, unless its call is a Forget
+  pub own : ForgetsNobody (r.last.doing n)
+      → after.last.state.fixed.forgot n ≡ r.last.state.fixed.forgot n
+  pub shows : Shows p new after
+
 -- Each run that the wire showed goes on by a step of the node: at most one moment of the machine,
 -- and then the end of its call with that answer. The wire shows the run that goes on so.
 abbrev pub StepIsWoven : WireData → ℕ → Progress NodeReply → WireData → Type 0
 StepIsWoven old n progress new =
     (p : Setting) (r : Run) → Shows p old r
-    → (bs : List Beat) × (after : Run) × IsStepOf n bs × GoesOnWith r bs after
-    × (answers_in bs ≡ answer_of n new.nodes progress) × Shows p new after
+    → GoesOnByStep p r n (answer_of n new.nodes progress) new
 
 -- ---- a death
 

@@ -20,7 +20,7 @@ use Rattle.iox_wire_nodes.specs.Plans.{IsSlotAt}
 use Rattle.iox_wire_needs.specs.WireStands.{WireStands}
 use Rattle.iox_wire_nodes.specs.Aims.{IsAimed}
 use Rattle.iox_wire_nodes.specs.declared.call_at.CallAt.{CallAt}
-use Rattle.iox_wire_nodes.specs.Nodes.{Node, seat_in}
+use Rattle.iox_wire_nodes.specs.Nodes.{NodeView, seat_in}
 use Rattle.iox_wire_needs.specs.Openings.{AgreesWith, OverflowsWithRoom, opened_seat}
 use Rattle.iox_wire_needs.specs.Runs.{Run, history}
 use Rattle.iox_wire_needs.specs.Stands.{Player}
@@ -38,7 +38,7 @@ pub record WireNode : Type 0 where
   pub number : ℕ
   pub alive : Bool
   pub died : Option ℕ
-  pub node : Node
+  pub node : NodeView
   pub call : Option UnderWay
   pub longest : ℕ
   pub read : List ℕ
@@ -154,7 +154,7 @@ pub record AreWhole (plan : WirePlan) (terms : WireTerms) : Type 0 where
 
 -- A state that a service reached, on which a wire of that plan and these terms may open with these
 -- nodes alive, and the setting of that wire.
-pub record OpensOn (plan : WirePlan) (terms : WireTerms) (nodes : List ℕ) (p : Setting) (s : State)
+pub record WireOpensOn (plan : WirePlan) (terms : WireTerms) (nodes : List ℕ) (p : Setting) (s : State)
     : Type 0 where
   pub agrees : AgreesWith plan p s
   pub told : IsSettingWith plan terms p

@@ -13,7 +13,7 @@ use Rattle.iox_steps.proofs.Begins.{pushing_begins, popping_begins}
 use Rattle.iox_steps.proofs.Frames.{fits_empty}
 use Rattle.iox_word_map.specs.WordMaps.{WireQueue}
 use Rattle.iox_wire_words.specs.Programs.{same_queue, site_of, pusher_of, popper_of, Program, Rests, Pushes, Pops, LoadsState, StoresState, ExchangesState, LoadsWord, StoresWord, pushing_in, popping_in}
-use Rattle.iox_wire_words.specs.BeginLaws.{IsOver, IsFresh, BeginsKeepTheWords, EmptyQueuesFit}
+use Rattle.iox_wire_words.specs.BeginLaws.{IsOver, HasMadeNoAccess, BeginsKeepTheWords, EmptyQueuesFit}
 
 -- ---- a program that is over, and one that is fresh, in any queue
 
@@ -37,7 +37,7 @@ over_pop q (ExchangesState way old new) over = refl
 over_pop q (LoadsWord port number) over = refl
 over_pop q (StoresWord port number value) over = refl
 
-fresh_push : (q : WireQueue) (program : Program) → IsFresh program → pushing_rested (pushing_in q program) ≡ pushing.AtRest
+fresh_push : (q : WireQueue) (program : Program) → HasMadeNoAccess program → pushing_rested (pushing_in q program) ≡ pushing.AtRest
 fresh_push q (Pushes r place) fresh = elim (cases_Bool (same_queue q r)) [ inl same ↦ rw same fresh | inr other ↦ rw other refl ]
 fresh_push q Rests fresh = refl
 fresh_push q (Pops r place) fresh = refl
@@ -47,7 +47,7 @@ fresh_push q (ExchangesState way old new) fresh = refl
 fresh_push q (LoadsWord port number) fresh = refl
 fresh_push q (StoresWord port number value) fresh = refl
 
-fresh_pop : (q : WireQueue) (program : Program) → IsFresh program → popping_rested (popping_in q program) ≡ popping.AtRest
+fresh_pop : (q : WireQueue) (program : Program) → HasMadeNoAccess program → popping_rested (popping_in q program) ≡ popping.AtRest
 fresh_pop q (Pops r place) fresh = elim (cases_Bool (same_queue q r)) [ inl same ↦ rw same fresh | inr other ↦ rw other refl ]
 fresh_pop q Rests fresh = refl
 fresh_pop q (Pushes r place) fresh = refl

@@ -25,7 +25,7 @@ use Rattle.iox_word_map.specs.WordMaps.{WireQueue, IsQueue, Piece, Region, Queue
 use Rattle.iox_word_map.proofs.Pieces.{pieces_are_apart, pieces_are_within, piece_size-state}
 use Rattle.iox_wire_words.specs.Programs.{WireLayout, site_of, pusher_of, popper_of, Program, Rests, Pushes, Pops, LoadsState, StoresState, ExchangesState, LoadsWord, StoresWord, pushing_in, popping_in, program_access, state_place, word_place}
 use Rattle.iox_wire_words.specs.Fits.{WireContents, IsSized, QueueFits, WordsFit, contents_after}
-use Rattle.iox_wire_words.specs.Laws.{IsMade, EachAccessKeepsTheWords, EachAccessKeepsTheList}
+use Rattle.iox_wire_words.specs.Laws.{AccessIsMade, EachAccessKeepsTheWords, EachAccessKeepsTheList}
 use Rattle.iox_wire_words.proofs.PieceLemmas.{same_or_other, never_same, same_queue-refl, queue_is, other_queue}
 
 -- a queue whose state and parties are known by other names
@@ -72,7 +72,7 @@ module _ (p : WireLayout) (word word' : ℕ → ℕ) (programs : ℕ → Program
         let room : piece_place p.sizes x + piece_size p.sizes x ≤ total_words p.sizes = pieces_are_within p.sizes x there in
         within_wider access (piece_place p.sizes x) (piece_size p.sizes x) 0 (total_words p.sizes) (omega arith) (omega arith) within
 
-    module _ (made : IsMade access word word') where
+    module _ (made : AccessIsMade access word word') where
       same_word : (y : Piece) → IsPiece p.sizes y → (x ≡ y → ⊥) → (at : ℕ) → IsPlace (piece_place p.sizes y) (piece_size p.sizes y) at
           → word' at ≡ word at
       same_word y is_y other at place =
@@ -124,7 +124,7 @@ module _ (p : WireLayout) (word word' : ℕ → ℕ) (programs : ℕ → Program
   -- ---- a program of the party that pushes
 
   module _ (q : WireQueue) (place : Pushing) (now : program ≡ Pushes q place) (plays : IsQueue p.sizes q × (pusher_of p q ≡ n))
-      (made : IsMade (pushing_access (site_of p q) place) word word') where
+      (made : AccessIsMade (pushing_access (site_of p q) place) word word') where
     pub push_turn : Keeps (site_of p q) word word' (c.queues q).waiting (c.queues q).hand (pushing_turn (site_of p q) word place (popping_in q (programs (popper_of p q))))
     push_turn =
         let at : pushing_in q (programs (pusher_of p q)) ≡ place =
@@ -170,7 +170,7 @@ module _ (p : WireLayout) (word word' : ℕ → ℕ) (programs : ℕ → Program
   -- ---- a program of the party that pops
 
   module _ (q : WireQueue) (place : Popping) (now : program ≡ Pops q place) (plays : IsQueue p.sizes q × (popper_of p q ≡ n))
-      (made : IsMade (popping_access (site_of p q) place) word word') where
+      (made : AccessIsMade (popping_access (site_of p q) place) word word') where
     pub pop_turn : Keeps (site_of p q) word word' (c.queues q).waiting (c.queues q).hand (popping_turn (site_of p q) word (pushing_in q (programs (pusher_of p q))) place)
     pop_turn =
         let at : popping_in q (programs (popper_of p q)) ≡ place =
@@ -224,7 +224,7 @@ module _ (p : WireLayout) (word word' : ℕ → ℕ) (programs : ℕ → Program
       state_in_words : IsWithin 0 (total_words p.sizes) access
       state_in_words = in_words (StateWord way) there access state_within
 
-      state_keeps : IsMade access word word' → (c' : WireContents) → ((r : WireQueue) → c'.queues r ≡ c.queues r)
+      state_keeps : AccessIsMade access word word' → (c' : WireContents) → ((r : WireQueue) → c'.queues r ≡ c.queues r)
           → ((y : Way) → (StateWord way ≡ StateWord y → ⊥) → c'.state y ≡ c.state y) → ((port k : ℕ) → c'.stored port k ≡ c.stored port k)
           → word' (state_place p way) ≡ c'.state way → WordsFit p word' (put_at programs n Rests) c'
       state_keeps made c' queues states stored own =
@@ -240,7 +240,7 @@ module _ (p : WireLayout) (word word' : ℕ → ℕ) (programs : ℕ → Program
       word_in_words : IsWithin 0 (total_words p.sizes) access
       word_in_words = in_words (Region port) there access at
 
-      word_keeps : IsMade access word word' → (c' : WireContents) → ((r : WireQueue) → c'.queues r ≡ c.queues r)
+      word_keeps : AccessIsMade access word word' → (c' : WireContents) → ((r : WireQueue) → c'.queues r ≡ c.queues r)
           → ((y : Way) → c'.state y ≡ c.state y) → ((q k : ℕ) → (Region port ≡ Region q → ⊥) → c'.stored q k ≡ c.stored q k)
           → ((k : ℕ) → k < p.sizes.region port → word' (word_place p port k) ≡ c'.stored port k)
           → WordsFit p word' (put_at programs n Rests) c'

@@ -17,16 +17,16 @@ IsOver (Pops q place) = place ≡ popping.AtRest
 IsOver program = Unit {0}
 
 -- the program has made no access yet
-abbrev pub IsFresh : Program → Type 0
-IsFresh (Pushes q place) = pushing_rested place ≡ pushing.AtRest
-IsFresh (Pops q place) = popping_rested place ≡ popping.AtRest
-IsFresh program = Unit {0}
+abbrev pub HasMadeNoAccess : Program → Type 0
+HasMadeNoAccess (Pushes q place) = pushing_rested place ≡ pushing.AtRest
+HasMadeNoAccess (Pops q place) = popping_rested place ≡ popping.AtRest
+HasMadeNoAccess program = Unit {0}
 
 -- A node whose program is over may begin another, and the unchanged words still fit.
 abbrev pub BeginsKeepTheWords : Type 0
 BeginsKeepTheWords =
     (p : WireLayout) (word : ℕ → ℕ) (programs : ℕ → Program) (c : WireContents) (n : ℕ) (program : Program)
-    → IsOver (programs n) → IsFresh program
+    → IsOver (programs n) → HasMadeNoAccess program
     → WordsFit p word programs c → WordsFit p word (put_at programs n program) c
 
 -- the two positions of each queue are equal, and a queue that overflows has room for at least one

@@ -11,8 +11,8 @@ use Rattle.iox_wire_words.specs.Fits.{WireContents, IsSized, WordsFit, contents_
 
 -- the access was made: the word that it names is what the access leaves there, and no other word
 -- changed
-abbrev pub IsMade : Access → (ℕ → ℕ) → (ℕ → ℕ) → Type 0
-IsMade access word word' =
+abbrev pub AccessIsMade : Access → (ℕ → ℕ) → (ℕ → ℕ) → Type 0
+AccessIsMade access word word' =
     let place = place_of access in Changes word place (change_of access (word place)) word'
 
 -- what the next access of a program found: at a queue all that a turn of its party says, else the
@@ -37,7 +37,7 @@ abbrev pub EachAccessKeepsTheWords : Type 0
 EachAccessKeepsTheWords =
     (p : WireLayout) (word word' : ℕ → ℕ) (programs : ℕ → Program) (c : WireContents) (n : ℕ) (program : Program)
     → IsSized p → WordsFit p word programs c → programs n ≡ program → MayRun p n program
-    → IsMade (program_access p program) word word'
+    → AccessIsMade (program_access p program) word word'
     → let seen = seen_by (program_access p program) word in
     IsWithin 0 (total_words p.sizes) (program_access p program)
     × Finds p word word' programs c program seen

@@ -13,7 +13,8 @@ ghost use Rattle.iox_hub_laws.specs.Sends.{BringsOnly, CopiesResponse, WaitsAsBe
 ghost use Rattle.iceoryx2_ports.specs.Copies.{LeavesUnsent, reply_of_response_copy};
 ghost use Rattle.iceoryx2_ports.specs.Keeping.{KeepsAsking};
 ghost use Rattle.iceoryx2_ports.specs.Opens.{KeepsRequests};
-ghost use Rattle.iceoryx2_ports.specs.Responses.{ReachesAsker};
+ghost use Rattle.iceoryx2_ports.specs.Responses.{ReachesAsker, answerer_in};
+ghost use Rattle.iceoryx2_ports.specs.Senders.{BringsFrom};
 
 use super::ActiveRequest;
 use crate::copies::error_of_test;
@@ -45,6 +46,8 @@ impl<Q: Payload, QH: Words, E: Words, PH: Words> ActiveRequest<Q, QH, One<E>, PH
             (ReachesAsker hub.old self.now.node self.now.number hub.new) }
         ensures requests { KeepsRequests hub.old hub.new }
         ensures only { BringsOnly hub.old (flat_map E.words (value ∷ [])) hub.new }
+        ensures from { BringsFrom hub.old (answerer_in hub.old self.now.node self.now.number)
+            hub.new }
         ensures left { IfErr result (λ error. LeavesUnsent hub.old error hub.new) }
     {
         hub.is_in_order();

@@ -8,9 +8,11 @@ ghost use Rattle.iox_hub_laws.specs.Hubs.{HasValue};
 ghost use Rattle.iox_hub_laws.specs.Keeping.{HaveSameShapes, KeepsAll};
 ghost use Rattle.iox_hub_laws.specs.Making.{LeavesMessages, StaysAs};
 ghost use Rattle.iox_hub_laws.specs.Sends.{NothingComes};
+ghost use Rattle.iceoryx2_ports.specs.Keeping.{KeepsAsking};
+ghost use Rattle.iceoryx2_ports.specs.Opens.{KeepsRequests};
 ghost use Rattle.iceoryx2_ports.specs.Idling.{IsIdle, client_on};
 ghost use Rattle.iceoryx2_ports.specs.LoanLimits.{LendsNone};
-ghost use Rattle.iceoryx2_ports.specs.Makings.{reply_of_client};
+ghost use Rattle.iceoryx2_ports.specs.Makings.{IsMadeAs, reply_of_client};
 ghost use Rattle.iceoryx2_ports.specs.Overrides.{IsMadeWithItsPool, MadeWith};
 ghost use Rattle.iceoryx2_ports.specs.Reaching.{KeepsRoom};
 ghost use Rattle.iceoryx2_ports.specs.declared.errors.ClientCreateError.TheVariants.{FailedToDeployThreadsafetyPolicy};
@@ -93,6 +95,8 @@ impl<
         ensures node { IfOk result (λ client. client.node ≡ self.node) }
         ensures has { IfOk result (λ client.
             HasValue hub.new client.node client.number kinds.Client) }
+        ensures made { IfOk result (λ client.
+            IsMadeAs hub.new client.number hub.old.request self.options) }
         ensures keeps { KeepsAll hub.old hub.new }
         ensures shapes { HaveSameShapes hub.old hub.new }
         ensures messages { LeavesMessages hub.old hub.new }
@@ -100,7 +104,9 @@ impl<
             → IsIdle hub.new (client_on client.number lane request)) }
         ensures lent { IfOk result (λ client. LendsNone hub.old client.number hub.new) }
         ensures comes { NothingComes hub.old hub.new }
+        ensures asks { KeepsAsking hub.old hub.new }
         ensures room { KeepsRoom hub.old hub.new }
+        ensures requests { KeepsRequests hub.old hub.new }
         ensures unchanged { OnErr result (StaysAs hub.old hub.new) }
         ensures refused { IfErr result (λ error.
             error ≢ FailedToDeployThreadsafetyPolicy) }

@@ -9,8 +9,10 @@ ghost use Rattle.iox_hub_laws.specs.Keeping.{HaveSameShapes, KeepsAll};
 ghost use Rattle.iox_hub_laws.specs.Making.{LeavesMessages, StaysAs};
 ghost use Rattle.iox_hub_laws.specs.Sends.{NothingComes};
 ghost use Rattle.iox_hub_laws.specs.Waiting.{server_of};
+ghost use Rattle.iceoryx2_ports.specs.Keeping.{KeepsAsking};
+ghost use Rattle.iceoryx2_ports.specs.Opens.{KeepsRequests};
 ghost use Rattle.iceoryx2_ports.specs.Idling.{IsIdle};
-ghost use Rattle.iceoryx2_ports.specs.Makings.{reply_of_server};
+ghost use Rattle.iceoryx2_ports.specs.Makings.{IsMadeAs, reply_of_server};
 ghost use Rattle.iceoryx2_ports.specs.Overrides.{IsMadeWithItsPool, MadeWith};
 ghost use Rattle.iceoryx2_ports.specs.Reaching.{KeepsRoom};
 ghost use Rattle.iceoryx2_ports.specs.declared.errors.ServerCreateError.TheVariants.{FailedToDeployThreadsafetyPolicy};
@@ -93,12 +95,16 @@ impl<
         ensures node { IfOk result (λ server. server.node ≡ self.node) }
         ensures has { IfOk result (λ server.
             HasValue hub.new server.node server.number kinds.Server) }
+        ensures made { IfOk result (λ server.
+            IsMadeAs hub.new server.number hub.old.response self.options) }
         ensures keeps { KeepsAll hub.old hub.new }
         ensures shapes { HaveSameShapes hub.old hub.new }
         ensures messages { LeavesMessages hub.old hub.new }
         ensures idle { IfOk result (λ server. IsIdle hub.new (server_of server.number)) }
         ensures comes { NothingComes hub.old hub.new }
+        ensures asks { KeepsAsking hub.old hub.new }
         ensures room { KeepsRoom hub.old hub.new }
+        ensures requests { KeepsRequests hub.old hub.new }
         ensures unchanged { OnErr result (StaysAs hub.old hub.new) }
         ensures refused { IfErr result (λ error.
             error ≢ FailedToDeployThreadsafetyPolicy) }

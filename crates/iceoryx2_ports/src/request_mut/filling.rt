@@ -8,6 +8,12 @@ ghost use Rattle.iox_hub_laws.specs.Fillings.{FillsLoan};
 ghost use Rattle.iox_hub_laws.specs.Hubs.{HasValue};
 ghost use Rattle.iox_hub_laws.specs.Keeping.{HaveSameShapes, KeepsOthers};
 ghost use Rattle.iox_hub_laws.specs.Reads.{message_in};
+ghost use Rattle.iox_hub_laws.specs.Sends.{NothingComes};
+ghost use Rattle.iceoryx2_ports.specs.Asking.{AsksAs};
+ghost use Rattle.iceoryx2_ports.specs.Keeping.{KeepsAsking};
+ghost use Rattle.iceoryx2_ports.specs.Opens.{KeepsRequests};
+ghost use Rattle.iceoryx2_ports.specs.Payloads.{CarriesAnswers};
+ghost use Rattle.iceoryx2_ports.specs.Reaching.{KeepsRoom};
 
 use super::{RequestMut, RequestMutUninit};
 use iox_hub_laws::{Backpressure, Hub};
@@ -22,8 +28,14 @@ impl<Q: Payload, QH: Words, P: Payload, PH: Words> RequestMutUninit<Q, QH, P, PH
             (with_user (message_in hub.old self.now.node self.now.number) (QH.words user_header))
             hub.new }
         ensures has { HasValue hub.new self.now.node self.now.number kinds.RequestMutUninit }
+        ensures asker { AsksAs hub.old self.now.node self.now.number hub.new self.now.node
+            self.now.number }
+        ensures comes { NothingComes hub.old hub.new }
         ensures keeps { KeepsOthers hub.old self.now.node self.now.number hub.new }
         ensures shapes { HaveSameShapes hub.old hub.new }
+        ensures asks { KeepsAsking hub.old hub.new }
+        ensures room { KeepsRoom hub.old hub.new }
+        ensures requests { KeepsRequests hub.old hub.new }
     {
         hub.set_request_header(self.node, self.number, self.hint, user_header);
     }
@@ -66,8 +78,14 @@ impl<Q: Payload, QH: Words, P: Payload, PH: Words> RequestMutUninit<Q, QH, P, PH
             (written_next (message_in hub.old self.now.node self.now.number)
             (Q.Element.words value)) hub.new }
         ensures has { HasValue hub.new self.now.node self.now.number kinds.RequestMutUninit }
+        ensures asker { AsksAs hub.old self.now.node self.now.number hub.new self.now.node
+            self.now.number }
+        ensures comes { NothingComes hub.old hub.new }
         ensures keeps { KeepsOthers hub.old self.now.node self.now.number hub.new }
         ensures shapes { HaveSameShapes hub.old hub.new }
+        ensures asks { KeepsAsking hub.old hub.new }
+        ensures room { KeepsRoom hub.old hub.new }
+        ensures requests { KeepsRequests hub.old hub.new }
     {
         hub.write_next_request(self.node, self.number, self.hint, value);
     }
@@ -87,8 +105,14 @@ impl<Q: Payload, QH: Words, P: Payload, PH: Words> RequestMutUninit<Q, QH, P, PH
             HasValue hub.new filled.node filled.number kinds.RequestMut) }
         ensures node { IfOk result (λ filled. filled.node ≡ self.node) }
         ensures number { IfOk result (λ filled. filled.number ≡ self.number) }
+        ensures asker { IfOk result (λ filled. AsksAs hub.old self.node self.number
+            hub.new filled.node filled.number) }
+        ensures comes { NothingComes hub.old hub.new }
         ensures keeps { KeepsOthers hub.old self.node self.number hub.new }
         ensures shapes { HaveSameShapes hub.old hub.new }
+        ensures asks { KeepsAsking hub.old hub.new }
+        ensures room { KeepsRoom hub.old hub.new }
+        ensures requests { KeepsRequests hub.old hub.new }
         ensures unchanged { OnErr result (hub.new ≡ hub.old) }
         ensures same { IfErr result (λ loan. loan ≡ self) }
     {
@@ -120,11 +144,19 @@ impl<Q: Payload, QH: Words, P: Payload, PH: Words> RequestMutUninit<Q, QH, P, PH
         requires callable { F.IsAlwaysCallable f }
         ensures answered { FillsByAnswers Q.Element.words F.step f
             (message_in hub.old self.node self.number) (message_in hub.new self.node self.number) }
+        ensures carries { CarriesAnswers Q.Element.words F.step f 0
+            (message_in hub.old self.node self.number).elements
+            (message_in hub.new self.node self.number).payload }
         ensures filled { FillsLoan hub.old self.node self.number true
             (message_in hub.new self.node self.number) hub.new }
         ensures has { HasValue hub.new self.node self.number kinds.RequestMut }
+        ensures asker { AsksAs hub.old self.node self.number hub.new self.node self.number }
+        ensures comes { NothingComes hub.old hub.new }
         ensures keeps { KeepsOthers hub.old self.node self.number hub.new }
         ensures shapes { HaveSameShapes hub.old hub.new }
+        ensures asks { KeepsAsking hub.old hub.new }
+        ensures room { KeepsRoom hub.old hub.new }
+        ensures requests { KeepsRequests hub.old hub.new }
         ensures node { result.node ≡ self.node }
         ensures number { result.number ≡ self.number }
     {
@@ -152,8 +184,14 @@ impl<Q: Payload, QH: Words, P: Payload, PH: Words> RequestMut<Q, QH, P, PH> {
             (with_user (message_in hub.old self.now.node self.now.number) (QH.words user_header))
             hub.new }
         ensures has { HasValue hub.new self.now.node self.now.number kinds.RequestMut }
+        ensures asker { AsksAs hub.old self.now.node self.now.number hub.new self.now.node
+            self.now.number }
+        ensures comes { NothingComes hub.old hub.new }
         ensures keeps { KeepsOthers hub.old self.now.node self.now.number hub.new }
         ensures shapes { HaveSameShapes hub.old hub.new }
+        ensures asks { KeepsAsking hub.old hub.new }
+        ensures room { KeepsRoom hub.old hub.new }
+        ensures requests { KeepsRequests hub.old hub.new }
     {
         hub.set_request_header(self.node, self.number, self.hint, user_header);
     }

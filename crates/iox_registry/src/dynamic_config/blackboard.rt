@@ -5,7 +5,7 @@ ghost use Rattle.iox_sets.specs.Refusals.{IsRefusal};
 ghost use Rattle.iox_registry.specs.declared.refusals.RegistryNewError.TheVariants.{WantOfMemory};
 ghost use Rattle.iox_registry.specs.declared.roles.Role.TheVariants.{Reader, Writer};
 ghost use Rattle.iox_registry.specs.Registers.{Adds, KeepsOrLoses, Removes, add_refusal, details_of, limits_refusal, listed, new_register, recovered, release_refusal};
-ghost use Rattle.iox_attributes.specs.Visits.{Visits};
+ghost use Rattle.iox_attributes.specs.Visits.{VisitsInOrder};
 
 pub use crate::details::{ReaderDetails, WriterDetails};
 use crate::handle::RegistryHandle;
@@ -94,7 +94,7 @@ impl DynamicConfig {
     /// Calls `callback` with what is told of each reader, as far as it says `Continue`.
     pub fn list_readers<F: FnMut(&ReaderDetails) -> CallbackProgression>(&self, callback: F)
         requires { F.IsAlwaysCallable callback }
-        ensures { Visits (CalledAt F.FnMut) callback (listed self.now.readers) }
+        ensures { VisitsInOrder (CalledAt F.FnMut) callback (listed self.now.readers) }
     {
         self.readers.list(callback)
     }
@@ -140,7 +140,7 @@ impl DynamicConfig {
     /// Calls `callback` with what is told of each writer, as far as it says `Continue`.
     pub fn list_writers<F: FnMut(&WriterDetails) -> CallbackProgression>(&self, callback: F)
         requires { F.IsAlwaysCallable callback }
-        ensures { Visits (CalledAt F.FnMut) callback (listed self.now.writers) }
+        ensures { VisitsInOrder (CalledAt F.FnMut) callback (listed self.now.writers) }
     {
         self.writers.list(callback)
     }

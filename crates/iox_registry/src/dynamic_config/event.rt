@@ -5,7 +5,7 @@ ghost use Rattle.iox_sets.specs.Refusals.{IsRefusal};
 ghost use Rattle.iox_registry.specs.declared.refusals.RegistryNewError.TheVariants.{WantOfMemory};
 ghost use Rattle.iox_registry.specs.declared.roles.Role.TheVariants.{Notifier, Listener};
 ghost use Rattle.iox_registry.specs.Registers.{Adds, KeepsOrLoses, Removes, add_refusal, details_of, limits_refusal, listed, new_register, recovered, release_refusal};
-ghost use Rattle.iox_attributes.specs.Visits.{Visits};
+ghost use Rattle.iox_attributes.specs.Visits.{VisitsInOrder};
 
 pub use crate::details::{ListenerDetails, NotifierDetails};
 use crate::handle::RegistryHandle;
@@ -97,7 +97,7 @@ impl DynamicConfig {
     /// Calls `callback` with what is told of each notifier, as far as it says `Continue`.
     pub fn list_notifiers<F: FnMut(&NotifierDetails) -> CallbackProgression>(&self, callback: F)
         requires { F.IsAlwaysCallable callback }
-        ensures { Visits (CalledAt F.FnMut) callback (listed self.now.notifiers) }
+        ensures { VisitsInOrder (CalledAt F.FnMut) callback (listed self.now.notifiers) }
     {
         self.notifiers.list(callback)
     }
@@ -143,7 +143,7 @@ impl DynamicConfig {
     /// Calls `callback` with what is told of each listener, as far as it says `Continue`.
     pub fn list_listeners<F: FnMut(&ListenerDetails) -> CallbackProgression>(&self, callback: F)
         requires { F.IsAlwaysCallable callback }
-        ensures { Visits (CalledAt F.FnMut) callback (listed self.now.listeners) }
+        ensures { VisitsInOrder (CalledAt F.FnMut) callback (listed self.now.listeners) }
     {
         self.listeners.list(callback)
     }

@@ -5,7 +5,7 @@ ghost use Rattle.iox_sets.specs.Refusals.{IsRefusal};
 ghost use Rattle.iox_registry.specs.declared.refusals.RegistryNewError.TheVariants.{WantOfMemory};
 ghost use Rattle.iox_registry.specs.declared.roles.Role.TheVariants.{Node};
 ghost use Rattle.iox_registry.specs.Registers.{Adds, KeepsOrLoses, Removes, details_of, limit_refusal, listed, new_register, recovered, register_refusal, release_refusal, remaining};
-ghost use Rattle.iox_attributes.specs.Visits.{Visits};
+ghost use Rattle.iox_attributes.specs.Visits.{VisitsInOrder};
 
 use crate::handle::RegistryHandle;
 use crate::refusals::{RegisterNodeError, RegistryNewError, ReleaseError};
@@ -103,7 +103,7 @@ impl Nodes {
     /// Calls `callback` with the node of each entry, as far as it says `Continue`.
     pub fn list_node_ids<F: FnMut(&UniqueNodeId) -> CallbackProgression>(&self, callback: F)
         requires { F.IsAlwaysCallable callback }
-        ensures { Visits (CalledAt F.FnMut) callback (listed self.now) }
+        ensures { VisitsInOrder (CalledAt F.FnMut) callback (listed self.now) }
     {
         self.register.list(callback)
     }

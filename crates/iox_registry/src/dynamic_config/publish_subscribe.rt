@@ -5,7 +5,7 @@ ghost use Rattle.iox_sets.specs.Refusals.{IsRefusal};
 ghost use Rattle.iox_registry.specs.declared.refusals.RegistryNewError.TheVariants.{WantOfMemory};
 ghost use Rattle.iox_registry.specs.declared.roles.Role.TheVariants.{Publisher, Subscriber};
 ghost use Rattle.iox_registry.specs.Registers.{Adds, KeepsOrLoses, Removes, add_refusal, details_of, limits_refusal, listed, new_register, recovered, release_refusal};
-ghost use Rattle.iox_attributes.specs.Visits.{Visits};
+ghost use Rattle.iox_attributes.specs.Visits.{VisitsInOrder};
 
 pub use crate::details::{PublisherDetails, SubscriberDetails};
 use crate::handle::RegistryHandle;
@@ -98,7 +98,7 @@ impl DynamicConfig {
     /// Calls `callback` with what is told of each publisher, as far as it says `Continue`.
     pub fn list_publishers<F: FnMut(&PublisherDetails) -> CallbackProgression>(&self, callback: F)
         requires { F.IsAlwaysCallable callback }
-        ensures { Visits (CalledAt F.FnMut) callback (listed self.now.publishers) }
+        ensures { VisitsInOrder (CalledAt F.FnMut) callback (listed self.now.publishers) }
     {
         self.publishers.list(callback)
     }
@@ -145,7 +145,7 @@ impl DynamicConfig {
     /// Calls `callback` with what is told of each subscriber, as far as it says `Continue`.
     pub fn list_subscribers<F: FnMut(&SubscriberDetails) -> CallbackProgression>(&self, callback: F)
         requires { F.IsAlwaysCallable callback }
-        ensures { Visits (CalledAt F.FnMut) callback (listed self.now.subscribers) }
+        ensures { VisitsInOrder (CalledAt F.FnMut) callback (listed self.now.subscribers) }
     {
         self.subscribers.list(callback)
     }

@@ -5,7 +5,7 @@ ghost use Rattle.iox_sets.specs.Refusals.{IsRefusal};
 ghost use Rattle.iox_registry.specs.declared.refusals.RegistryNewError.TheVariants.{WantOfMemory};
 ghost use Rattle.iox_registry.specs.declared.roles.Role.TheVariants.{Client, Server};
 ghost use Rattle.iox_registry.specs.Registers.{Adds, KeepsOrLoses, Removes, add_refusal, details_of, limits_refusal, listed, new_register, recovered, release_refusal};
-ghost use Rattle.iox_attributes.specs.Visits.{Visits};
+ghost use Rattle.iox_attributes.specs.Visits.{VisitsInOrder};
 
 pub use crate::details::{ClientDetails, ServerDetails};
 use crate::handle::RegistryHandle;
@@ -95,7 +95,7 @@ impl DynamicConfig {
     /// Calls `callback` with what is told of each client, as far as it says `Continue`.
     pub fn list_clients<F: FnMut(&ClientDetails) -> CallbackProgression>(&self, callback: F)
         requires { F.IsAlwaysCallable callback }
-        ensures { Visits (CalledAt F.FnMut) callback (listed self.now.clients) }
+        ensures { VisitsInOrder (CalledAt F.FnMut) callback (listed self.now.clients) }
     {
         self.clients.list(callback)
     }
@@ -141,7 +141,7 @@ impl DynamicConfig {
     /// Calls `callback` with what is told of each server, as far as it says `Continue`.
     pub fn list_servers<F: FnMut(&ServerDetails) -> CallbackProgression>(&self, callback: F)
         requires { F.IsAlwaysCallable callback }
-        ensures { Visits (CalledAt F.FnMut) callback (listed self.now.servers) }
+        ensures { VisitsInOrder (CalledAt F.FnMut) callback (listed self.now.servers) }
     {
         self.servers.list(callback)
     }

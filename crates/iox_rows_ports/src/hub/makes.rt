@@ -88,64 +88,101 @@ fn client(hub: &mut TheHub, alloc: Global, options: Options) -> Result<u64, NotM
     make(hub, alloc, 0, Role::Client, options)
 }
 
+/// What that tells of a new hub.
+fn in_hub<T, F: FnOnce(&mut TheHub, Global) -> T + Drop>(
+    alloc: Global,
+    client_allocation: AllocationStrategy,
+    told: F,
+) -> Result<T, AllocError>
+    requires { F.IsAlwaysCallable told }
+{
+    let mut hub = hub(alloc, client_allocation)?;
+    Ok(told(&mut hub, alloc))
+}
+
+/// A port's number, or why it is not made.
+type Made = Result<u64, NotMade>;
+
+/// A client and a server are made: the two, what each node has then, and how many calls were counted.
+fn client_and_server(hub: &mut TheHub, alloc: Global) -> ((Made, Made), [bool; 3], u64) {
+    let made = client(hub, alloc, OPTIONS);
+    let server = make(hub, alloc, 1, Role::Server, OPTIONS);
+    let had = [
+        hub.has(0, 0, Kind::Client, 0),
+        hub.has(1, 1, Kind::Server, 0),
+        hub.has(0, 1, Kind::Server, 0),
+    ];
+    ((made, server), had, hub.calls())
+}
+
 #[test]
 fn a_client_and_a_server_are_made(rt: HostRuntime) -> Result<(), Fail> {
-    let mut hub = hub(rt.alloc(), AllocationStrategy::Static)?;
-    let made = client(&mut hub, rt.alloc(), OPTIONS);
-    equal(&rt, made, Ok(0));
-    let server = make(&mut hub, rt.alloc(), 1, Role::Server, OPTIONS);
-    equal(&rt, server, Ok(1));
-    holds(&rt, hub.has(0, 0, Kind::Client, 0));
-    holds(&rt, hub.has(1, 1, Kind::Server, 0));
-    holds(&rt, !hub.has(0, 1, Kind::Server, 0));
-    equal(&rt, hub.calls(), 0);
+    let (made, had, calls) = in_hub(rt.alloc(), AllocationStrategy::Static, client_and_server)?;
+    equal(&rt, made, (Ok(0), Ok(1)));
+    equal(&rt, had, [true, true, false]);
+    equal(&rt, calls, 0);
     Ok(())
+}
+
+/// Nine clients are made: whether the first eight have the numbers from 0 on, the ninth, and what has
+/// the number 8 then.
+fn nine_clients(hub: &mut TheHub, alloc: Global) -> (bool, Made, Option<Kind>) {
+    let mut are_eight = true;
+    for expected in 0..8u64 {
+        let made = client(hub, alloc, OPTIONS);
+        are_eight = are_eight && made == Ok(expected);
+    }
+    let ninth = client(hub, alloc, OPTIONS);
+    (are_eight, ninth, hub.kind(0, 8, 0))
 }
 
 #[test]
 fn the_ninth_client_of_eight_is_refused(rt: HostRuntime) -> Result<(), Fail> {
-    let mut hub = hub(rt.alloc(), AllocationStrategy::Static)?;
-    for expected in 0..8u64 {
-        let made = client(&mut hub, rt.alloc(), OPTIONS);
-        equal(&rt, made, Ok(expected));
-    }
-    let ninth = client(&mut hub, rt.alloc(), OPTIONS);
+    let (are_eight, ninth, eighth) = in_hub(rt.alloc(), AllocationStrategy::Static, nine_clients)?;
+    holds(&rt, are_eight);
     equal(&rt, ninth, Err(NotMade::TooManyPorts));
-    equal(&rt, hub.kind(0, 8, 0), None);
+    equal(&rt, eighth, None);
     Ok(())
+}
+
+/// A server of single elements whose messages are to grow so.
+fn growing_server(hub: &mut TheHub, alloc: Global, allocation: AllocationStrategy) -> Made {
+    let growing = Options {
+        allocation: Some(allocation),
+        ..OPTIONS
+    };
+    make(hub, alloc, 0, Role::Server, growing)
+}
+
+/// Two such servers, and a client.
+fn growing_servers(hub: &mut TheHub, alloc: Global) -> (Made, Made, Made) {
+    let first = growing_server(hub, alloc, AllocationStrategy::BestFit);
+    let second = growing_server(hub, alloc, AllocationStrategy::PowerOfTwo);
+    (first, second, client(hub, alloc, OPTIONS))
 }
 
 #[test]
 fn a_server_of_single_elements_is_made_though_its_messages_are_to_grow(
     rt: HostRuntime,
 ) -> Result<(), Fail> {
-    let mut hub = hub(rt.alloc(), AllocationStrategy::BestFit)?;
-    for (expected, allocation) in [
-        (0, AllocationStrategy::BestFit),
-        (1, AllocationStrategy::PowerOfTwo),
-    ] {
-        let growing = Options {
-            allocation: Some(allocation),
-            ..OPTIONS
-        };
-        let server = make(&mut hub, rt.alloc(), 0, Role::Server, growing);
-        equal(&rt, server, Ok(expected));
-    }
-    let made = client(&mut hub, rt.alloc(), OPTIONS);
-    equal(&rt, made, Ok(2));
+    let made = in_hub(rt.alloc(), AllocationStrategy::BestFit, growing_servers)?;
+    equal(&rt, made, (Ok(0), Ok(1), Ok(2)));
     Ok(())
 }
 
-#[test]
-fn a_port_that_is_too_large_is_refused_though_it_would_grow(rt: HostRuntime) -> Result<(), Fail> {
-    let mut hub = hub(rt.alloc(), AllocationStrategy::BestFit)?;
+/// A client that is too large, and one that is not.
+fn large_and_small(hub: &mut TheHub, alloc: Global) -> (Made, Made) {
     let large = Options {
         max_slice_len: 1 << 60,
         ..OPTIONS
     };
-    let refused = client(&mut hub, rt.alloc(), large);
-    equal(&rt, refused, Err(NotMade::DataSegment));
-    let made = client(&mut hub, rt.alloc(), OPTIONS);
-    equal(&rt, made, Ok(0));
+    let refused = client(hub, alloc, large);
+    (refused, client(hub, alloc, OPTIONS))
+}
+
+#[test]
+fn a_port_that_is_too_large_is_refused_though_it_would_grow(rt: HostRuntime) -> Result<(), Fail> {
+    let made = in_hub(rt.alloc(), AllocationStrategy::BestFit, large_and_small)?;
+    equal(&rt, made, (Err(NotMade::DataSegment), Ok(0)));
     Ok(())
 }

@@ -33,11 +33,11 @@ pub(super) struct Player {
 impl Player {
     ghost use Rattle.std.specs.Prelude.{◌≡◌, ◌+◌, ◌*◌, ◌^◌, ◌<◌, ◌≤◌, [], ◌∷◌, ◌++◌, length, IfOk, OnOk, OnErr};
     ghost use Rattle.iox_run.specs.Cuts.{HasNoLineFeed};
-    ghost use Rattle.iox_run.specs.Standings.{Stands, Goes, IsSent, TakesUpTo, Sends, SendsAll, Waits, PlaysOn, Finishes};
+    ghost use Rattle.iox_run.specs.Standings.{IsAsFar, Goes, IsSent, TakesUpTo, Sends, SendsAll, Waits, PlaysOn, Finishes};
 
     /// A player before the script's first byte.
     pub(super) fn new(alloc: Global) -> Result<Player, AllocError>
-        ensures stands { IfOk result (λ player. Stands [] [] player) }
+        ensures stands { IfOk result (λ player. IsAsFar [] [] player) }
         ensures sent { IfOk result (λ player. IsSent player) }
     {
         Ok(Player {

@@ -1,7 +1,7 @@
 //! How messages are lent and filled.
 ghost use Rattle.std.specs.Prelude.{◌≡◌, ◌<◌, ◌≤◌, flat_map, length};
 ghost use Rattle.iox_store.specs.Answering.{FillsByAnswers};
-ghost use Rattle.iox_store.specs.Stored.{ChangesOnly, filled_with, lent, lent_uninit, room_with, stored_at, with_element, with_stored, with_user, written_next};
+ghost use Rattle.iox_store.specs.Stored.{ChangesOnly, filled_with, lent_filled, lent_uninit, room_with, stored_at, with_element, with_stored, with_user, written_next};
 
 use super::Store;
 use crate::spare::Spare;
@@ -45,7 +45,7 @@ impl<E: Words, H: Words> Store<E, H> {
         requires there { place < length self.old.messages }
         requires room { elements ≤ room_with (stored_at self.old place).room spare }
         ensures { self.new ≡ with_stored self.old place
-            (lent (stored_at self.old place) elements (H.words user) (E.words value)) }
+            (lent_filled (stored_at self.old place) elements (H.words user) (E.words value)) }
     {
         let cell = &mut self.cells[place];
         let unused = cell.lend_uninit(elements, user, spare);

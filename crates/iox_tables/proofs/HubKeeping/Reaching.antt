@@ -26,7 +26,7 @@ use Rattle.iox_tables.specs.HubMaking.NewPorts.{given_made, port_made}
 use Rattle.iox_tables.proofs.HubMaking.Ending.{ports_end}
 use Rattle.iox_tables.proofs.HubMaking.Pooling.{free_pools_may_go}
 use Rattle.iox_tables.proofs.HubMaking.Reaching.{makings_are_reached, starts_are_reached}
-use Rattle.iox_tables.specs.HubKeeping.Hubs.{HubsDropPools, HubsReleasePorts, HubsStart, HubsTakePorts, IsReleased, PortIsReleased}
+use Rattle.iox_tables.specs.HubKeeping.Hubs.{HubsDropPools, HubsReleasePorts, HubsStart, HubsTakePorts, LeavesTables, PortIsReleased}
 use Rattle.iox_tables.proofs.HubKeeping.GonePools.{pools_may_go}
 use Rattle.iox_tables.proofs.HubKeeping.LeftHandles.{disconnections_keep_order}
 use Rattle.iox_tables.proofs.HubKeeping.NewHandles.{makings_keep_order}
@@ -91,7 +91,7 @@ module _ (t : HubTables) (hub : IsHub t) (node n : ℕ) (p : PortState) (there :
   in_order : AreInOrder v
   in_order = values_keep_order t n hub.tables
 
-  released : (u : HubTables) → AreInOrder u → released_by (state_shown hub.given t) node n ≡ left_with (state_shown hub.given u) → IsReleased hub.given t node n u
+  released : (u : HubTables) → AreInOrder u → released_by (state_shown hub.given t) node n ≡ left_with (state_shown hub.given u) → LeavesTables hub.given t node n u
   released u order e =
       let r = reached_by u e in record {
         call = r.whole;

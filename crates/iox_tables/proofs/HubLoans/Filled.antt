@@ -20,11 +20,11 @@ use Rattle.iox_tables.proofs.HubStates.Ends.{each_handle_is_shown}
 use Rattle.iox_tables.proofs.HubStates.Frames.{others_may_change}
 use Rattle.iox_tables.proofs.HubStates.Naming.{handle_node, handle_number}
 use Rattle.iox_tables.specs.HubLoans.Fillings.{WordsMayChange}
-use Rattle.iox_tables.specs.HubLoans.Slots.{Contents, is_place, put_place, with_contents}
+use Rattle.iox_tables.specs.HubLoans.Slots.{SlotContents, is_place, put_place, with_contents}
 
 -- ---- messages
 
-module _ (x : Given) (pools : List (Option PoolState)) (pool k : ℕ) (w : Contents) where
+module _ (x : Given) (pools : List (Option PoolState)) (pool k : ℕ) (w : SlotContents) where
   abbrev x' : Given
   x' = with_contents x pool k w
 

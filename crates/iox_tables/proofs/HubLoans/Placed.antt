@@ -14,7 +14,7 @@ use Rattle.iox_tables.specs.HubStates.States.{Given, handle_of, message_of, no_i
 use Rattle.iox_tables.specs.HubStates.Steps.{HasSameMessages, places_on}
 use Rattle.iox_tables.specs.HubStates.Ends.{HasSameSettings, OfEachHandle, ShowsSame}
 use Rattle.iox_tables.proofs.HubStates.Ends.{free_slots_may_change}
-use Rattle.iox_tables.specs.HubLoans.Slots.{Contents, HasSlot, UnusedSlotsMayChange, is_place, put_place, with_contents, put_slot, put_slot_of}
+use Rattle.iox_tables.specs.HubLoans.Slots.{SlotContents, HasSlot, UnusedSlotsMayChange, is_place, put_place, with_contents, put_slot, put_slot_of}
 pub use Rattle.std.proofs.lemmas.Bool.{or_parts as or_false}
 pub use Rattle.iox_tables.proofs.HubStates.Keys.{set_else, set_there}
 
@@ -94,7 +94,7 @@ slot_is pools pool k slot has =
 
 -- ---- messages
 
-module _ (x : Given) (pools : List (Option PoolState)) (pool k : ℕ) (slot : SlotState) (w : Contents) where
+module _ (x : Given) (pools : List (Option PoolState)) (pool k : ℕ) (slot : SlotState) (w : SlotContents) where
   abbrev x' : Given
   x' = with_contents x pool k w
 
@@ -144,7 +144,7 @@ module _ (x : Given) (pools : List (Option PoolState)) (pool k : ℕ) (slot : Sl
       step true false ea eb = refl
       step false b ea eb = refl
 
-pub same_settings : (x : Given) (pool k : ℕ) (w : Contents) → HasSameSettings x (with_contents x pool k w)
+pub same_settings : (x : Given) (pool k : ℕ) (w : SlotContents) → HasSameSettings x (with_contents x pool k w)
 same_settings x pool k w = record { members = refl; acts = refl; handler = refl; request = refl; response = refl }
 
 pub unused_slots_may_change : UnusedSlotsMayChange

@@ -52,7 +52,7 @@ HubsTakePorts =
 -- ---- a port is released
 
 -- The release is a whole call, and what it leaves are the tables of a hub.
-pub record IsReleased (x : Given) (t : HubTables) (node n : ℕ) (left : HubTables) : Type 0 where
+pub record LeavesTables (x : Given) (t : HubTables) (node n : ℕ) (left : HubTables) : Type 0 where
   pub call : IsWholeCall (state_shown x t) node (Release n) Done (state_shown x left)
   pub hub : IsHubWith x left
 
@@ -61,11 +61,11 @@ pub record IsReleased (x : Given) (t : HubTables) (node n : ℕ) (left : HubTabl
 pub record PortIsReleased (x : Given) (t : HubTables) (node n : ℕ) : Type 0 where
   pub stays :
       is_unused (with_value_released t n) n ≡ false
-      → IsReleased x t node n (with_value_released t n)
+      → LeavesTables x t node n (with_value_released t n)
   pub goes :
       (pools : List (Option PoolState)) → is_unused (with_value_released t n) n ≡ true
       → HasFewerHolders t.pools pools (lost_uses (with_value_released t n) n)
-      → IsReleased x t node n
+      → LeavesTables x t node n
       (record (with_disconnected (with_value_released t n) n) { pools = pools })
 
 -- It is so of each port of the node whose own value is there.

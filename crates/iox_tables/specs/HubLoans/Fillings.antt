@@ -16,7 +16,7 @@ use Rattle.iox_tables.specs.HubStates.States.{Given, fixed_of, state_shown}
 use Rattle.iox_tables.specs.HubStates.Ends.{with_changed}
 use Rattle.iox_tables.specs.HubStates.Releases.{handle_shown}
 use Rattle.iox_tables.specs.HubStates.Wirings.{IsHandle}
-use Rattle.iox_tables.specs.HubLoans.Slots.{Contents, IsOnNoLane, is_place, with_contents}
+use Rattle.iox_tables.specs.HubLoans.Slots.{SlotContents, IsOnNoLane, is_place, with_contents}
 
 -- ---- the words of one handle
 
@@ -33,7 +33,7 @@ elements_of t h = (slot_at t.pools h.pool h.slot).elements
 -- then changes that handle, and nothing else.
 abbrev pub WordsMayChange : Type 0
 WordsMayChange =
-    (x : Given) (t : HubTables) (node n : ℕ) (old new : HandleState) (w : Contents)
+    (x : Given) (t : HubTables) (node n : ℕ) (old new : HandleState) (w : SlotContents)
     → IsHandle t node n old → (new.node ≡ old.node) × (new.number ≡ old.number)
     → IsOfOneHandle t old.pool old.slot
     → with_fixed (state_shown x t)
@@ -47,7 +47,7 @@ abbrev pub is_as_long_as : HubTables → HandleState → Payload → Bool
 is_as_long_as t h p = option_map_or (λ k. k == elements_of t h) p.elements false
 
 -- the same user header, that payload, and all elements filled
-abbrev pub written_contents : Given → HubTables → HandleState → List ℕ → Contents
+abbrev pub written_contents : Given → HubTables → HandleState → List ℕ → SlotContents
 written_contents x t h words =
     record { user = x.user h.pool h.slot; payload = words; filled = elements_of t h }
 
@@ -76,7 +76,7 @@ WritesAreMade =
 -- ---- loans in the hands of callers
 
 -- what the holder of a loan wrote
-abbrev pub contents_of : Filling → Contents
+abbrev pub contents_of : Filling → SlotContents
 contents_of z = record { user = z.user; payload = z.payload; filled = z.count }
 
 -- What the holder of a loan writes is what the machine may fill in.

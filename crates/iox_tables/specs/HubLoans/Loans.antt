@@ -15,7 +15,7 @@ use Rattle.iox_tables.specs.HubStates.Changes.{HasEachOnce, OfEachLane}
 use Rattle.iox_tables.specs.HubStates.Ends.{with_added, with_call, with_loan}
 use Rattle.iox_tables.specs.HubLoans.Counts.{AreOnNodes, is_lane_free}
 use Rattle.iox_tables.specs.HubLoans.Lenders.{IsActive, IsClient, IsLender, Lender, is_pool_dry, is_pool_to_be_dry, loan_refusal, shape_in, with_got_back}
-use Rattle.iox_tables.specs.HubLoans.Slots.{Contents, HasSlot, IsUnused, with_contents, put_slot}
+use Rattle.iox_tables.specs.HubLoans.Slots.{SlotContents, HasSlot, IsUnused, with_contents, put_slot}
 
 -- the call of a loan, unfilled or filled
 abbrev pub loan_call : Bool → ℕ → ℕ → Call
@@ -35,7 +35,7 @@ loaned_slot y k = record {
 }
 
 -- what the loan holds at first
-abbrev pub loaned_contents : Given → HubTables → Lender → List ℕ → Contents
+abbrev pub loaned_contents : Given → HubTables → Lender → List ℕ → SlotContents
 loaned_contents x t y payload =
     record { user = (shape_in x t y.port).user; payload = payload; filled = 0 }
 

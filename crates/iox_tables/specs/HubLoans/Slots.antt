@@ -12,7 +12,7 @@ use Rattle.iox_tables.specs.HubStates.Steps.{places_on}
 -- ---- words
 
 -- The words of a message, and how many elements of a loan are filled.
-pub record Contents : Type 0 where
+pub record SlotContents : Type 0 where
   pub user : List ℕ
   pub payload : List ℕ
   pub filled : ℕ
@@ -26,7 +26,7 @@ abbrev pub put_place : {A : Type 0} → (ℕ → ℕ → A) → ℕ → ℕ → 
 put_place f pool k a p j = if is_place pool k p j then a else f p j
 
 -- the message in that slot has these words
-abbrev pub with_contents : Given → ℕ → ℕ → Contents → Given
+abbrev pub with_contents : Given → ℕ → ℕ → SlotContents → Given
 with_contents x pool k w = record x {
   user = put_place x.user pool k w.user;
   payload = put_place x.payload pool k w.payload;
@@ -64,7 +64,7 @@ pub record IsUnused (t : HubTables) (pool k : ℕ) : Type 0 where
 -- A slot that nobody has may become any message, with any words: the state that is shown stays.
 abbrev pub UnusedSlotsMayChange : Type 0
 UnusedSlotsMayChange =
-    (x : Given) (t : HubTables) (pool k : ℕ) (slot : SlotState) (w : Contents)
+    (x : Given) (t : HubTables) (pool k : ℕ) (slot : SlotState) (w : SlotContents)
     → IsUnused t pool k
     → state_shown x t
     ≡ state_shown (with_contents x pool k w) (record t { pools = put_slot t.pools pool k slot })

@@ -7,7 +7,7 @@ ghost use Rattle.iox_wire_weaves.specs.Lendings.{next_handle};
 ghost use Rattle.iox_wire_weaves.specs.Lends.{MayLend};
 ghost use Rattle.iox_wire_weaves.specs.Nodes.{seat_in};
 ghost use Rattle.iox_wire_weaves.specs.NodesBegins.{MayBegin};
-ghost use Rattle.iox_wire_weaves.specs.ListRooms.{HasRoomFor};
+ghost use Rattle.iox_wire_weaves.specs.ListRooms.{ListsHaveRoom};
 ghost use Rattle.iox_wire_weaves.specs.Tables.{Setting};
 ghost use Rattle.iox_wire_weaves.specs.Terms.{IsSettingWith};
 ghost use Rattle.iox_wire_weaves.specs.WirePlans.{IsWirePlan};
@@ -73,7 +73,7 @@ impl Member {
             → 0 < self.old.node.seat.room → (p : Setting) → IsSettingWith map.now terms.now p
             → (port : ℕ)
             → MayLend self.old.node.seat (next_handle p self.old.node.seat.seat) port }
-        requires lists { HasRoomFor map.now lists.old }
+        requires lists { ListsHaveRoom map.now lists.old }
         requires rooms { HasRoomToBegin map.now self.old.node }
         ensures begun { OnOk result
             (HasBegun map.now terms.now self.old call.entry begun self.new) }
@@ -81,7 +81,7 @@ impl Member {
         ensures full { IfErr result (λ error. error ≡ WantOfMemory
             → FindsNoRoom self.old call.entry) }
         ensures unchanged { OnErr result (self.new ≡ self.old) }
-        ensures lists { HasRoomFor map.now lists.new }
+        ensures lists { ListsHaveRoom map.now lists.new }
     {
         let port = find_port(map, call.number());
         if self.lacks_room(call) {

@@ -19,11 +19,11 @@ impl CopyLending {
     ghost use Rattle.iox_wire_seats.specs.Aims.{QueuesInMemory};
     ghost use Rattle.iox_wire_seats.specs.Seats.{ways_of};
     ghost use Rattle.iox_wire_request_sends.specs.WireLoansAims.{IsOrdered, LeavesSeat, TellsOfSlot};
-    ghost use Rattle.iox_wire_request_sends.specs.Lenders.{AreReturning, IsClient, IsLender, IsWhole};
+    ghost use Rattle.iox_wire_request_sends.specs.Lenders.{AreReturning, HasClientLimits, LenderIsTold, IsWhole};
     ghost use Rattle.iox_wire_request_sends.specs.Orders.{IsRequest};
     ghost use Rattle.iox_wire_copies.specs.Copies.{ArePayloads};
     ghost use Rattle.iox_wire_copies.specs.CopyAims.{HasSamePeers, HasSameRooms, IsAimed};
-    ghost use Rattle.iox_wire_copies.specs.Payloads.{HasRoom};
+    ghost use Rattle.iox_wire_copies.specs.Payloads.{SlotsHold};
 
     /// Begins the loan of a copy by a client, which gets back on these ways first. What was under
     /// way would be lost.
@@ -41,23 +41,23 @@ impl CopyLending {
         requires seat { is_busy seat.old.seat.local ≡ false }
         requires whole { IsWhole lender.now }
         requires within { QueuesInMemory Index lender.now.room stops.now }
-        requires room { HasRoom lender.now.places places }
+        requires room { SlotsHold lender.now.places places }
         requires fits { elements ≤ lender.now.longest → length words.now ≤ places.room }
         requires ways { length stops.now ≤ self.old.lending.ways_room }
         requires words { lender.now.places.slot_words ≤ self.old.lending.words_room }
         requires payload { lender.now.places.slot_words ≤ self.old.payload_room }
-        ensures begun { (p : Setting) → IsLender p lender.now → IsClient p lender.now
+        ensures begun { (p : Setting) → LenderIsTold p lender.now → HasClientLimits p lender.now
             → number ≡ next_handle p seat.old.seat
             → ways_of stops.now
             ≡ request_ways (known p seat.old.seat) (p.port lender.now.port).node lender.now.port
             → placed seat.new.seat self.new.local
             ≡ lends_request p seat.old.seat (p.port lender.now.port) elements words.now true }
-        ensures aimed { (p : Setting) → IsLender p lender.now → IsClient p lender.now
+        ensures aimed { (p : Setting) → LenderIsTold p lender.now → HasClientLimits p lender.now
             → number ≡ next_handle p seat.old.seat → AreReturning p lender.now.room stops.now
             → ArePayloads p lender.now.port lender.now.places places
             → TellsOfSlot p self.new.local
             → IsAimed p seat.new.seat self.new }
-        ensures peers { (p : Setting) → IsLender p lender.now → IsClient p lender.now
+        ensures peers { (p : Setting) → LenderIsTold p lender.now → HasClientLimits p lender.now
             → number ≡ next_handle p seat.old.seat
             → ways_of stops.now
             ≡ request_ways (known p seat.old.seat) (p.port lender.now.port).node lender.now.port

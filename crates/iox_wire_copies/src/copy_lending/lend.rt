@@ -3,6 +3,7 @@ ghost use Rattle.std.specs.Prelude.{◌≡◌};
 
 use super::CopyLending;
 use crate::at::{CopyAt, CopyLent};
+use iox_wire_request_sends::LendReply;
 use iox_wire_seats::StoredSeat;
 
 impl CopyLending {
@@ -11,7 +12,7 @@ impl CopyLending {
     ghost use Rattle.iox_wire_seats.specs.Aims.{KeepsRoom};
     ghost use Rattle.iox_wire_seats.specs.Lends.{MayLend};
     ghost use Rattle.iox_wire_request_sends.specs.WireLoansAims.{GetsBackUsed, IsLoanAt, is_storing};
-    ghost use Rattle.iox_wire_copies.specs.CopyAims.{GoesOn, HoldsMade, IsLending, IsMade};
+    ghost use Rattle.iox_wire_copies.specs.CopyAims.{GoesOn, HoldsMade, IsLending, IsLoanOfOrder};
     ghost use Rattle.iox_wire_copies.specs.CopyAims.{IsMadeAt, IsSameCopy, KeepsPeers, MayLendMade};
     ghost use Rattle.iox_wire_copies.specs.CopyAims.{StaysAimed};
 
@@ -28,7 +29,7 @@ impl CopyLending {
         requires used { GetsBackUsed seat.old.seat self.old.local }
         ensures next { GoesOn seat.old self.old seen seat.new self.new result }
         ensures aimed { StaysAimed seat.old self.old seat.new self.new }
-        ensures made { IsMade self.new result }
+        ensures made { IsLoanOfOrder self.new result }
         ensures stored { IsMadeAt self.old.local result }
         ensures held { HoldsMade seat.old self.old seat.new self.new result }
         ensures busy { is_busy self.new.local ≡ is_none result }
@@ -41,9 +42,10 @@ impl CopyLending {
     {
         match self.lending.go_on(seat, seen) {
             None => None,
-            Some(reply) => {
+            Some(LendReply::Handle(_)) => unreachable!(),
+            Some(LendReply::Refused(refusal)) => {
                 self.at = CopyAt::Rest;
-                Some(CopyLent::Refused(reply))
+                Some(CopyLent::Refused(refusal))
             }
         }
     }

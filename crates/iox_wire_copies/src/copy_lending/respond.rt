@@ -21,11 +21,11 @@ impl CopyLending {
     ghost use Rattle.iox_wire_seats.specs.Aims.{QueuesInMemory};
     ghost use Rattle.iox_wire_seats.specs.Seats.{ways_of};
     ghost use Rattle.iox_wire_request_sends.specs.WireLoansAims.{IsOrdered, LeavesSeat, TellsOfSlot};
-    ghost use Rattle.iox_wire_request_sends.specs.Lenders.{AreReturning, IsLender, IsServer, IsWhole};
+    ghost use Rattle.iox_wire_request_sends.specs.Lenders.{AreReturning, LenderIsTold, HasServerLimits, IsWhole};
     ghost use Rattle.iox_wire_request_sends.specs.Orders.{IsResponse};
     ghost use Rattle.iox_wire_copies.specs.Copies.{ArePayloads};
     ghost use Rattle.iox_wire_copies.specs.CopyAims.{HasSameRooms, IsAimed};
-    ghost use Rattle.iox_wire_copies.specs.Payloads.{HasRoom};
+    ghost use Rattle.iox_wire_copies.specs.Payloads.{SlotsHold};
 
     /// Begins the loan of a copy by a server to a request that it received, which gets back on
     /// these ways first. What was under way would be lost.
@@ -44,18 +44,18 @@ impl CopyLending {
         requires seat { is_busy seat.old.seat.local ≡ false }
         requires whole { IsWhole lender.now }
         requires within { QueuesInMemory Index lender.now.room stops.now }
-        requires room { HasRoom lender.now.places places }
+        requires room { SlotsHold lender.now.places places }
         requires fits { elements ≤ lender.now.longest → length words.now ≤ places.room }
         requires ways { length stops.now ≤ self.old.lending.ways_room }
         requires words { lender.now.places.slot_words ≤ self.old.lending.words_room }
         requires payload { lender.now.places.slot_words ≤ self.old.payload_room }
-        ensures begun { (p : Setting) → IsLender p lender.now → IsServer p lender.now
+        ensures begun { (p : Setting) → LenderIsTold p lender.now → HasServerLimits p lender.now
             → request.port ≡ lender.now.port → number ≡ next_handle p seat.old.seat
             → ways_of stops.now
             ≡ response_ways (known p seat.old.seat) (p.port lender.now.port).node lender.now.port
             → placed seat.new.seat self.new.local
             ≡ lends_response p seat.old.seat request elements words.now true }
-        ensures aimed { (p : Setting) → IsLender p lender.now → IsServer p lender.now
+        ensures aimed { (p : Setting) → LenderIsTold p lender.now → HasServerLimits p lender.now
             → number ≡ next_handle p seat.old.seat → AreReturning p lender.now.room stops.now
             → ArePayloads p lender.now.port lender.now.places places
             → TellsOfSlot p self.new.local

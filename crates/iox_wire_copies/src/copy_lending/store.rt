@@ -10,7 +10,7 @@ impl CopyLending {
     ghost use Rattle.iox_wire_locals.specs.Begins.{is_busy};
     ghost use Rattle.iox_wire_seats.specs.Keeps.{counted};
     ghost use Rattle.iox_wire_request_sends.specs.WireLoansAims.{HasNextWord, IsLoanAt, IsStoring};
-    ghost use Rattle.iox_wire_copies.specs.CopyAims.{GoesOn, HoldsMade, IsLending, IsMade};
+    ghost use Rattle.iox_wire_copies.specs.CopyAims.{GoesOn, HoldsMade, IsLending, IsLoanOfOrder};
     ghost use Rattle.iox_wire_copies.specs.CopyAims.{IsMadeAt, IsSameCopy, IsWriting, StaysAimed};
 
     /// A word in front of the payload is stored. With the last it goes on to the payload, and
@@ -24,7 +24,7 @@ impl CopyLending {
         ensures seat { seat.new ≡ counted seat.old }
         ensures next { (seen : ℕ) → GoesOn seat.old self.old seen seat.new self.new result }
         ensures aimed { StaysAimed seat.old self.old seat.new self.new }
-        ensures made { IsMade self.new result }
+        ensures made { IsLoanOfOrder self.new result }
         ensures stored { IsMadeAt self.old.local result }
         ensures held { HoldsMade seat.old self.old seat.new self.new result }
         ensures busy { is_busy self.new.local ≡ is_none result }
@@ -53,7 +53,7 @@ impl CopyLending {
         ensures seat { seat.new ≡ counted seat.old }
         ensures next { (seen : ℕ) → GoesOn seat.old self.old seen seat.new self.new result }
         ensures aimed { StaysAimed seat.old self.old seat.new self.new }
-        ensures made { IsMade self.new result }
+        ensures made { IsLoanOfOrder self.new result }
         ensures stored { IsMadeAt self.old.local result }
         ensures held { HoldsMade seat.old self.old seat.new self.new result }
         ensures busy { is_busy self.new.local ≡ is_none result }

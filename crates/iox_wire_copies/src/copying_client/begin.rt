@@ -21,13 +21,13 @@ impl CopyingClient {
     ghost use Rattle.iox_wire_seats.specs.Lends.{MayLend};
     ghost use Rattle.iox_wire_seats.specs.Seats.{Placed, ways_of};
     ghost use Rattle.iox_wire_request_sends.specs.WireLoansAims.{IsOrdered, LeavesSeat};
-    ghost use Rattle.iox_wire_request_sends.specs.Lenders.{AreReturning, IsClient, IsLender, IsWhole};
+    ghost use Rattle.iox_wire_request_sends.specs.Lenders.{AreReturning, HasClientLimits, LenderIsTold, IsWhole};
     ghost use Rattle.iox_wire_request_sends.specs.Targets.{AreWithin};
     ghost use Rattle.iox_wire_copies.specs.Copiers.{MayBeMade};
     ghost use Rattle.iox_wire_copies.specs.Copies.{ArePayloads};
     ghost use Rattle.iox_wire_copies.specs.CopyAims.{HasSameRooms};
     ghost use Rattle.iox_wire_copies.specs.CopyCalls.{IsAimed, KnowsServersOnLane, TellsOfSlotAndLane};
-    ghost use Rattle.iox_wire_copies.specs.Payloads.{HasRoom};
+    ghost use Rattle.iox_wire_copies.specs.Payloads.{SlotsHold};
 
     /// Is told of the servers to which it sends. No copy may be under way.
     pub fn prepare(&mut self, terms: RequestTerms, targets: &[Target])
@@ -60,19 +60,19 @@ impl CopyingClient {
         requires seat { is_busy seat.old.seat.local ≡ false }
         requires whole { IsWhole lender.now }
         requires within { QueuesInMemory Index lender.now.room stops.now }
-        requires room { HasRoom lender.now.places places }
+        requires room { SlotsHold lender.now.places places }
         requires fits { (k : ℕ) → elements ≡ Some k → k ≤ lender.now.longest
             → length words.now ≤ places.room }
         requires ways { length stops.now ≤ self.old.lends.lending.ways_room }
         requires words { lender.now.places.slot_words ≤ self.old.lends.lending.words_room }
         requires payload { lender.now.places.slot_words ≤ self.old.lends.payload_room }
-        ensures begun { (p : Setting) → IsLender p lender.now → IsClient p lender.now
+        ensures begun { (p : Setting) → LenderIsTold p lender.now → HasClientLimits p lender.now
             → number ≡ next_handle p seat.old.seat
             → ways_of stops.now
             ≡ request_ways (known p seat.old.seat) (p.port lender.now.port).node lender.now.port
             → placed seat.new.seat self.new.local
             ≡ copies_request p seat.old.seat (p.port lender.now.port) elements words.now }
-        ensures aimed { (p : Setting) → IsLender p lender.now → IsClient p lender.now
+        ensures aimed { (p : Setting) → LenderIsTold p lender.now → HasClientLimits p lender.now
             → number ≡ next_handle p seat.old.seat → AreReturning p lender.now.room stops.now
             → ArePayloads p lender.now.port lender.now.places places
             → ways_of stops.now

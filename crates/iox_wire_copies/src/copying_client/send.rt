@@ -3,7 +3,7 @@ ghost use Rattle.std.specs.Prelude.{◌≡◌};
 
 use super::CopyingClient;
 use crate::at::{CopierAt, CopyLent, CopyReply};
-use crate::told::{request_lent, request_sent};
+use crate::told::request_sent;
 use iox_wire_locals::Entry;
 use iox_wire_seats::StoredSeat;
 
@@ -43,9 +43,9 @@ impl CopyingClient {
                 self.lends.place();
                 None
             }
-            Some(CopyLent::Refused(reply)) => {
+            Some(CopyLent::Refused(refusal)) => {
                 self.at = CopierAt::Rest;
-                Some(request_lent(reply))
+                Some(CopyReply::Refused(refusal))
             }
             Some(CopyLent::Made) => {
                 self.at = CopierAt::Rest;

@@ -22,13 +22,13 @@ impl CopyingServer {
     ghost use Rattle.iox_wire_seats.specs.Lends.{MayLend};
     ghost use Rattle.iox_wire_seats.specs.Seats.{Placed, ways_of};
     ghost use Rattle.iox_wire_request_sends.specs.WireLoansAims.{IsOrdered, LeavesSeat, TellsOfSlot};
-    ghost use Rattle.iox_wire_request_sends.specs.Lenders.{AreReturning, IsLender, IsServer, IsWhole};
+    ghost use Rattle.iox_wire_request_sends.specs.Lenders.{AreReturning, LenderIsTold, HasServerLimits, IsWhole};
     ghost use Rattle.iox_wire_request_sends.specs.Orders.{IsResponse};
     ghost use Rattle.iox_wire_copies.specs.Copiers.{MayBeMade};
     ghost use Rattle.iox_wire_copies.specs.Copies.{ArePayloads};
     ghost use Rattle.iox_wire_copies.specs.CopyAims.{HasSameRooms};
     ghost use Rattle.iox_wire_copies.specs.ResponseCopies.{IsAimed, KnowsWay};
-    ghost use Rattle.iox_wire_copies.specs.Payloads.{HasRoom};
+    ghost use Rattle.iox_wire_copies.specs.Payloads.{SlotsHold};
 
     /// Begins to copy a response of these words to a request that the server received, on a way
     /// that is told so: it gets back on these ways first. Without a number of elements the words
@@ -49,7 +49,7 @@ impl CopyingServer {
         requires seat { is_busy seat.old.seat.local ≡ false }
         requires whole { IsWhole lender.now }
         requires within { QueuesInMemory Index lender.now.room stops.now }
-        requires room { HasRoom lender.now.places places }
+        requires room { SlotsHold lender.now.places places }
         requires fits { (k : ℕ) → elements ≡ Some k → k ≤ lender.now.longest
             → length words.now ≤ places.room }
         requires messages { IsInMemory terms.messages }
@@ -57,13 +57,13 @@ impl CopyingServer {
         requires ways { length stops.now ≤ self.old.lends.lending.ways_room }
         requires words { lender.now.places.slot_words ≤ self.old.lends.lending.words_room }
         requires payload { lender.now.places.slot_words ≤ self.old.lends.payload_room }
-        ensures begun { (p : Setting) → IsLender p lender.now → IsServer p lender.now
+        ensures begun { (p : Setting) → LenderIsTold p lender.now → HasServerLimits p lender.now
             → request.port ≡ lender.now.port → number ≡ next_handle p seat.old.seat
             → ways_of stops.now
             ≡ response_ways (known p seat.old.seat) (p.port lender.now.port).node lender.now.port
             → placed seat.new.seat self.new.local
             ≡ copies_response p seat.old.seat request elements words.now }
-        ensures aimed { (p : Setting) → IsLender p lender.now → IsServer p lender.now
+        ensures aimed { (p : Setting) → LenderIsTold p lender.now → HasServerLimits p lender.now
             → request.port ≡ lender.now.port → number ≡ next_handle p seat.old.seat
             → AreReturning p lender.now.room stops.now
             → ArePayloads p lender.now.port lender.now.places places

@@ -3,7 +3,7 @@ ghost use Rattle.std.specs.Prelude.{◌≡◌};
 
 use super::CopyingServer;
 use crate::at::{CopierAt, CopyLent, ResponseCopyReply};
-use crate::told::{response_lent, response_sent};
+use crate::told::response_sent;
 use iox_wire_locals::Entry;
 use iox_wire_seats::StoredSeat;
 
@@ -39,9 +39,9 @@ impl CopyingServer {
     {
         match self.lends.go_on(seat, seen) {
             None => None,
-            Some(CopyLent::Refused(reply)) => {
+            Some(CopyLent::Refused(refusal)) => {
                 self.at = CopierAt::Rest;
-                Some(response_lent(reply))
+                Some(ResponseCopyReply::Refused(refusal))
             }
             Some(CopyLent::Made) => {
                 self.at = CopierAt::Rest;

@@ -16,7 +16,7 @@ use Rattle.iox_steps.specs.declared.side.QueueEvent.TheVariants.{HandOut, SeesEm
 use Rattle.iox_steps.specs.Accesses.{seen_by}
 use Rattle.iox_wire_words.specs.Programs.{program_access}
 use Rattle.iox_wire_words.specs.Fits.{WireContents, contents_after}
-use Rattle.iox_wire_words.specs.Laws.{IsMade}
+use Rattle.iox_wire_words.specs.Laws.{AccessIsMade}
 use Rattle.iox_wire_moments.specs.MomentsOf.{Pools}
 use Rattle.iox_wire_locals.specs.declared.local.Ending.TheVariants as endings
 use Rattle.iox_wire_locals.specs.declared.local.Local.{Local}
@@ -73,7 +73,7 @@ module _ (p : Setting) (held : Pools) (word word' : ℕ → ℕ) (c : WireConten
 
   module _ (free : FreeSlotsAreUnnamed p c seats w.state (seats n)) (owns : Owns p (seats n).node w.state.fixed w.state.request_state (seats n).local)
       (pools : FreeSlotsAreThePools p (seats n)) (limits : LimitsAreKnown p (seats n) w.state.fixed) (tells : WordsTell p (seats n).local seen)
-      (lent : TakesLane p (seats n).local y.local) (made : IsMade (program_access p.layout (program_of p (seats n).local)) word word') where
+      (lent : TakesLane p (seats n).local y.local) (made : AccessIsMade (program_access p.layout (program_of p (seats n).local)) word word') where
     go : (new : Pools) → ShowsWorld p new word c seats w → TellsLane new (seats n).local
         → ReliesOn p (accessed (seats n)) w.state new (seats n).local seen → Goal new
     go new shown lane relies = owners_go_on p new word word' c seats w n shown living owns pools lane limits tells relies lent made

@@ -14,7 +14,7 @@ use Rattle.iox_wire_moments.specs.Laws.{ShowsMoment}
 use Rattle.iox_wire_locals.specs.declared.seat.Seat.{Seat}
 use Rattle.iox_wire_locals.specs.Tables.{Setting}
 use Rattle.iox_wire_locals.specs.Doings.{doing_of}
-use Rattle.iox_wire_locals.specs.StepLaws.{GoesOn}
+use Rattle.iox_wire_locals.specs.StepLaws.{StandsAfter}
 use Rattle.iox_wire_laws.specs.WireKeeping.Shows.{StatesFit}
 use Rattle.iox_wire_laws.specs.WireKeeping.StepBeats.{ShowsStep}
 
@@ -33,7 +33,7 @@ May p c s node d m = MayMake s node d m × StatesAfter p c s m
 
 module _ (p : Setting) (held : Pools) (c : WireContents) (w : World) (x y : Seat) (d : Doing)
     (living : not_living w.state x.node ≡ None) (doing : w.doing x.node ≡ Some d) (same : y.node ≡ x.node) where
-  pub assembled : (m : Option Moment) → GoesOn p w.state held x.node d m y → ShowsMoment p.layout held c w.state m
+  pub assembled : (m : Option Moment) → StandsAfter p w.state held x.node d m y → ShowsMoment p.layout held c w.state m
       → May p c w.state x.node d m → ShowsStep p held c w x y m
   assembled None goes ties may =
       (subst (λ n. w.doing n ≡ doing_of p w.state.fixed held n y.local) (sym same) (doing ∙ sym goes), ties, may.1)
@@ -49,7 +49,7 @@ module _ (p : Setting) (held : Pools) (c : WireContents) (w : World) (x y : Seat
   )
 
   -- the moment of a queue
-  pub of_queue : (m : Option Moment) → GoesOn p w.state held x.node d (or_else m None) y → ShowsMoment p.layout held c w.state m
+  pub of_queue : (m : Option Moment) → StandsAfter p w.state held x.node d (or_else m None) y → ShowsMoment p.layout held c w.state m
       → May p c w.state x.node d m → ShowsStep p held c w x y (or_else m None)
   of_queue None goes ties may = assembled None goes ties may
   of_queue (Some m) goes shown may = assembled (Some m) goes shown may

@@ -7,7 +7,7 @@ use Rattle.iox_model.specs.declared.way.RequestState.{RequestState}
 use Rattle.iox_model.specs.Handles.{is_request_loan}
 use Rattle.iox_model.specs.Peers.{others}
 use Rattle.iox_model.specs.Settings.{is_client}
-use Rattle.iox_wire_words.specs.BeginLaws.{IsFresh}
+use Rattle.iox_wire_words.specs.BeginLaws.{HasMadeNoAccess}
 use Rattle.iox_wire_locals.specs.declared.table.Entry.{Entry}
 use Rattle.iox_wire_locals.specs.declared.table.NewLoan.{NewLoan}
 use Rattle.iox_wire_locals.specs.declared.local.Delivery.{Delivery}
@@ -30,7 +30,7 @@ use Rattle.iox_wire_laws.specs.WireKeeping.OwnParts.{KeepsOwn}
 
 -- the program of the node's place made no access yet
 pub record FreshAt (p : Setting) (y : Seat) : Type 0 where
-  pub fresh : IsFresh (program_of p y.local)
+  pub fresh : HasMadeNoAccess (program_of p y.local)
 
 -- from x to y, whose program made no access yet, the node's own part stays
 pub record Leads (p : Setting) (x y : Seat) : Type 0 where
@@ -70,7 +70,7 @@ module _ (p : Setting) (x : Seat) where
   either true y z k l = k
   either false y z k l = l
 
-  pub rests : (local : Local) → IsFresh (program_of p local) → K (sent.placed x local)
+  pub rests : (local : Local) → HasMadeNoAccess (program_of p local) → K (sent.placed x local)
   rests local fresh = record { fresh = record { fresh = fresh }; own = placed x local }
 
   -- ---- sends and loans

@@ -35,7 +35,7 @@ use Rattle.iox_wire_locals.specs.NewLoans.{loan_in, lane_in}
 use Rattle.iox_wire_locals.specs.Doings.{doing_of, receiver_in, send_of}
 use Rattle.iox_wire_locals.specs.Locals.{program_of, state_word, state_told}
 use Rattle.iox_wire_locals.specs.StateMoments.{moment_at}
-use Rattle.iox_wire_locals.specs.StepLaws.{ReliesOn, GoesOn}
+use Rattle.iox_wire_locals.specs.StepLaws.{ReliesOn, StandsAfter}
 use Rattle.iox_wire_locals.specs.Steps.{advance, accessed}
 use Rattle.iox_wire_locals.specs.BeginLaws.{Counts}
 use Rattle.iox_wire_locals.proofs.KnowingLemmas.{way_known}
@@ -80,7 +80,7 @@ module _ (p : Setting) (held : Pools) (word : ℕ → ℕ) (c : WireContents) (s
   -- the moment of an access of a queue is one that the law of the words tells
   on_queue : (local : Local) (d : Doing) → Runs local → MayRun p.layout x.node (program_of p local) → IsCountedFor s (program_of p local)
       → world.doing x.node ≡ Some d
-      → GoesOn p s held x.node d (or_else (moment_of p.layout held (program_of p local) (seen_at local)) None) (advance p z local (seen_at local))
+      → StandsAfter p s held x.node d (or_else (moment_of p.layout held (program_of p local) (seen_at local)) None) (advance p z local (seen_at local))
       → May p (after local (seen_at local)) s x.node d (moment_of p.layout held (program_of p local) (seen_at local))
       → ShowsStep p held (after local (seen_at local)) world x (advance p z local (seen_at local))
       (or_else (moment_of p.layout held (program_of p local) (seen_at local)) None)
@@ -115,7 +115,7 @@ module _ (p : Setting) (held : Pools) (word : ℕ → ℕ) (c : WireContents) (s
 
   -- an access of a request state sees its word
   on_state : (local : Local) (w : Way) (d : Doing) → seen_at local ≡ c.state w → world.doing x.node ≡ Some d
-      → GoesOn p s held x.node d (moment_at p held local (c.state w)) (advance p z local (c.state w))
+      → StandsAfter p s held x.node d (moment_at p held local (c.state w)) (advance p z local (c.state w))
       → state.Goes p held (after local (c.state w)) s x.node d (moment_at p held local (c.state w)) → StepOf local (seen_at local)
   on_state local w d sees doing goes all =
       subst (StepOf local) (sym sees)
@@ -123,7 +123,7 @@ module _ (p : Setting) (held : Pools) (word : ℕ → ℕ) (c : WireContents) (s
       (kept.advance p z local (c.state w)).node (moment_at p held local (c.state w)) goes all.0 all.1)
 
   -- an access of a message's word is quiet
-  on_word : (local : Local) (d : Doing) → world.doing x.node ≡ Some d → GoesOn p s held x.node d None (advance p z local (seen_at local))
+  on_word : (local : Local) (d : Doing) → world.doing x.node ≡ Some d → StandsAfter p s held x.node d None (advance p z local (seen_at local))
       → Ties p.layout held (after local (seen_at local)) s → StatesFit p (after local (seen_at local)) s
       → ShowsStep p held (after local (seen_at local)) world x (advance p z local (seen_at local)) None
   on_word local d doing goes ties states =

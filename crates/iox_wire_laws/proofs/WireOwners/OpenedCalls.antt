@@ -19,7 +19,7 @@ use Rattle.iox_wire_locals.specs.Courses as courses_of_sends
 use Rattle.iox_wire_locals.specs.ReceiveCourses as courses
 use Rattle.iox_wire_locals.specs.ReceiveFindings as findings
 use Rattle.iox_wire_locals.specs.Steps as steps
-use Rattle.iox_wire_laws.specs.WireOwners.SentStates.{IsOpened}
+use Rattle.iox_wire_laws.specs.WireOwners.SentStates.{StatesAreOpened}
 use Rattle.iox_wire_laws.proofs.WireOwners.OpenedSends as sent
 use Rattle.iox_wire_laws.proofs.WireOwners.OpenedSends.{OpenedThere, either, placed}
 
@@ -101,10 +101,10 @@ module _ (p : Setting) (shown : Way → RequestState) (x : Seat) where
   HasNext Idle = ⊥
   HasNext (Ends ending) = ⊥
   HasNext (SendEnds d last count) = ⊥
-  HasNext (SendOpens d w left full) = IsOpened shown d left
-  HasNext (SendPushes d last w place left count) = IsOpened shown d []
-  HasNext (SendEvicts d w place left count) = IsOpened shown d []
-  HasNext (SendGetsBack d w place left count) = IsOpened shown d []
+  HasNext (SendOpens d w left full) = StatesAreOpened shown d left
+  HasNext (SendPushes d last w place left count) = StatesAreOpened shown d []
+  HasNext (SendEvicts d w place left count) = StatesAreOpened shown d []
+  HasNext (SendGetsBack d w place left count) = StatesAreOpened shown d []
   HasNext local = Unit {0}
 
   pub advance : (local : Local) (seen : ℕ) → HasNext local → K (steps.advance p x local seen)

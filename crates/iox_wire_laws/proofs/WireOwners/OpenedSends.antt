@@ -24,7 +24,7 @@ use Rattle.iox_wire_locals.specs.Known.{known}
 use Rattle.iox_wire_locals.specs.Courses as courses
 use Rattle.iox_wire_locals.specs.Findings as findings
 use Rattle.iox_wire_laws.specs.WireShows.OwnedCalls.{states_to}
-use Rattle.iox_wire_laws.specs.WireOwners.SentStates.{HasOpened, IsOpened}
+use Rattle.iox_wire_laws.specs.WireOwners.SentStates.{HasOpened, StatesAreOpened}
 
 -- a place that opened nothing yet
 abbrev pub IsFree : Local → Type 0
@@ -55,11 +55,11 @@ module _ (p : Setting) (shown : Way → RequestState) (x : Seat) where
   abbrev K : Seat → Type 0
   K y = OpenedThere shown y
 
-  pub delivering : (d : Delivery) (last : Option Way) (left : List Way) (count : ℕ) → IsOpened shown d [] → K (courses.delivering x d last left count)
+  pub delivering : (d : Delivery) (last : Option Way) (left : List Way) (count : ℕ) → StatesAreOpened shown d [] → K (courses.delivering x d last left count)
   delivering d last [] count all = record { opened = all }
   delivering d last (w ∷ left) count all = record { opened = all }
 
-  pub opening : (d : Delivery) (left full : List Way) → IsOpened shown d left → K (courses.opening p x d left full)
+  pub opening : (d : Delivery) (left full : List Way) → StatesAreOpened shown d left → K (courses.opening p x d left full)
   opening d [] full all = delivering d None _ 0 all
   opening d (w ∷ left) full some = record { opened = some }
 
@@ -126,22 +126,22 @@ module _ (p : Setting) (shown : Way → RequestState) (x : Seat) where
   send_looked d w left full place SeesRoom = looking d left full
   send_looked d w left full place event = record { opened = tt }
 
-  pub send_evicted : (d : Delivery) (w : Way) (left : List Way) (count : ℕ) (place : Pushing) (event : QueueEvent) → IsOpened shown d []
+  pub send_evicted : (d : Delivery) (w : Way) (left : List Way) (count : ℕ) (place : Pushing) (event : QueueEvent) → StatesAreOpened shown d []
       → K (findings.send_evicted x d w left count place event)
   send_evicted d w left count place Evict all = record { opened = all }
   send_evicted d w left count place event all = delivering d (Some w) left count all
 
 send_delivered : (p : Setting) (shown : Way → RequestState) (x : Seat) (d : Delivery) (w : Way) (left : List Way) (count : ℕ) (place : Pushing)
-    → IsOpened shown d [] → OpenedThere shown (findings.send_delivered p x d w left count place)
+    → StatesAreOpened shown d [] → OpenedThere shown (findings.send_delivered p x d w left count place)
 send_delivered p shown x d w left count pushing.AtRest all = delivering p shown x d _ left count all
 send_delivered p shown x d w left count place all = record { opened = all }
 
 pub send_pushed : (p : Setting) (shown : Way → RequestState) (x : Seat) (d : Delivery) (last : Option Way) (w : Way) (left : List Way) (count : ℕ)
-    (place : Pushing) (event : QueueEvent) → IsOpened shown d [] → OpenedThere shown (findings.send_pushed p x d last w left count place event)
+    (place : Pushing) (event : QueueEvent) → StatesAreOpened shown d [] → OpenedThere shown (findings.send_pushed p x d last w left count place event)
 send_pushed p shown x d last w left count place (Publish slot) all = send_delivered p shown (at_desk x d.loan.port (delivers w slot)) d w left _ place all
 send_pushed p shown x d last w left count place event all = record { opened = all }
 
 pub send_got_back : (p : Setting) (shown : Way → RequestState) (x : Seat) (d : Delivery) (w : Way) (left : List Way) (count : ℕ) (place : Pushing)
-    (event : QueueEvent) → IsOpened shown d [] → OpenedThere shown (findings.send_got_back x d w left count place event)
+    (event : QueueEvent) → StatesAreOpened shown d [] → OpenedThere shown (findings.send_got_back x d w left count place event)
 send_got_back p shown x d w left count place (Learn slot) all = delivering p shown (at_desk x d.loan.port (gets_back w slot)) d None left count all
 send_got_back p shown x d w left count place event all = record { opened = all }

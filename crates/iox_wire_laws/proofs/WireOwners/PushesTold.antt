@@ -27,7 +27,7 @@ use Rattle.iox_wire_laws.specs.WireKeeping.Returns.{GivesBackOn}
 use Rattle.iox_wire_laws.specs.WireKeeping.Shows.{ShowsWorld, OwnsPlace}
 use Rattle.iox_wire_laws.proofs.WireKeeping.ReturnsFit.{returns_are_not_refused}
 use Rattle.iox_wire_laws.specs.WireShows.OwnedCalls.{LetsPush, WordsTell}
-use Rattle.iox_wire_laws.specs.WireOwners.Pushes.{DeliversAt, HasRoomFor, PushesAreTold, PushesInto}
+use Rattle.iox_wire_laws.specs.WireOwners.Pushes.{DeliversAt, ReturnsHaveRoom, PushesAreTold, PushesInto}
 use Rattle.iox_wire_laws.proofs.WireOwners.Pushes.{deliveries_are_not_refused}
 
 -- ---- what is seen
@@ -67,7 +67,7 @@ module _ (p : Setting) (held : Pools) (word : ℕ → ℕ) (c : WireContents) (s
       (is_full (site_of p.layout (MessageQueue y)) (seen_by (push_access (site_of p.layout (MessageQueue y)) (push.LoadsRead value write)) word) write)
       (λ index. fine.0 (is_index (overflows_on w.state.fixed y) (p.layout.kind (MessageQueue y)) (shows.suits.kind y way) index)) (fine.1 below)
 
-  returns_on : (y : Way) (value write : ℕ) → GivesBackOn (seats n).local y (push.LoadsRead value write) → HasRoomFor p w.state.fixed n (ReturningQueue y)
+  returns_on : (y : Way) (value write : ℕ) → GivesBackOn (seats n).local y (push.LoadsRead value write) → ReturnsHaveRoom p w.state.fixed n (ReturningQueue y)
       → write_of (site_of p.layout (ReturningQueue y)) word < last_position
       → LetsPush (site_of p.layout (ReturningQueue y)) write (seen_by (push_access (site_of p.layout (ReturningQueue y)) (push.LoadsRead value write)) word)
   returns_on y value write at room below =
@@ -77,7 +77,7 @@ module _ (p : Setting) (held : Pools) (word : ℕ → ℕ) (c : WireContents) (s
       (is_full (site_of p.layout (ReturningQueue y)) (seen_by (push_access (site_of p.layout (ReturningQueue y)) (push.LoadsRead value write)) word) write)
       (λ index. fine.0) (fine.1 below)
 
-  by_place : (local : Local) (q : WireQueue) → (seats n).local ≡ local → PushesInto local q → HasRoomFor p w.state.fixed n q
+  by_place : (local : Local) (q : WireQueue) → (seats n).local ≡ local → PushesInto local q → ReturnsHaveRoom p w.state.fixed n q
       → write_of (site_of p.layout q) word < last_position → WordsTell p local (seen_in local)
   by_place (SendPushes d last u (pushing.Pushes (push.LoadsRead value write)) left count) q is into room below =
       delivers u value write (subst (λ l. DeliversAt l u (push.LoadsRead value write)) (sym is) (refl, refl))
@@ -85,10 +85,10 @@ module _ (p : Setting) (held : Pools) (word : ℕ → ℕ) (c : WireContents) (s
       (subst (λ v. write_of (site_of p.layout v) word < last_position) (sym into) below)
   by_place (ReceiveReturns v u slot (pushing.Pushes (push.LoadsRead value write)) left waiting) q is into room below =
       returns_on u value write (subst (λ l. GivesBackOn l u (push.LoadsRead value write)) (sym is) (refl, refl))
-      (subst (HasRoomFor p w.state.fixed n) (sym into) room) (subst (λ v. write_of (site_of p.layout v) word < last_position) (sym into) below)
+      (subst (ReturnsHaveRoom p w.state.fixed n) (sym into) room) (subst (λ v. write_of (site_of p.layout v) word < last_position) (sym into) below)
   by_place (ReleaseReturns e (pushing.Pushes (push.LoadsRead value write))) q is into room below =
       returns_on (way_in e) value write (subst (λ l. GivesBackOn l (way_in e) (push.LoadsRead value write)) (sym is) (refl, refl))
-      (subst (HasRoomFor p w.state.fixed n) (sym into) room) (subst (λ v. write_of (site_of p.layout v) word < last_position) (sym into) below)
+      (subst (ReturnsHaveRoom p w.state.fixed n) (sym into) room) (subst (λ v. write_of (site_of p.layout v) word < last_position) (sym into) below)
   by_place (SendPushes d last u (pushing.Pushes place) left count) q is into room below = tt
   by_place (ReceiveReturns v u slot (pushing.Pushes place) left waiting) q is into room below = tt
   by_place (ReleaseReturns e (pushing.Pushes place)) q is into room below = tt

@@ -39,7 +39,7 @@ use Rattle.iox_wire_laws.specs.WireRegions.OwnedWords.{Owns}
 use Rattle.iox_wire_laws.proofs.WireRegions.OwnPorts.{connected, is_response}
 use Rattle.iox_wire_laws.proofs.WireRegions.QuestionBegins.{questions_begin_as_owners}
 use Rattle.iox_wire_laws.specs.WireOwners.FirmOwners.{IsOfNode, OwnsFirmly}
-use Rattle.iox_wire_laws.specs.WireOwners.Releases.{HasOwnStates, IsReleased, ReleasesBeginAsOwners, OthersLeaveStates, MomentsLeaveStates, OpenedStatesAreOwn}
+use Rattle.iox_wire_laws.specs.WireOwners.Releases.{HasOwnStates, ReleasesOwnHandle, ReleasesBeginAsOwners, OthersLeaveStates, MomentsLeaveStates, OpenedStatesAreOwn}
 use Rattle.iox_wire_laws.specs.WireOwners.RequestStates.{NamesNoOther}
 use Rattle.iox_wire_laws.proofs.WireOwners.FirmOwners.{client_at, own_states}
 use Rattle.iox_wire_laws.proofs.WireOwners.RequestStates.{closed_still, hinted_still, others_open_nothing}
@@ -57,7 +57,7 @@ module _ (p : Setting) (w : World) (n : ℕ) (reach : IsReachable w) (living : n
         (connected w.state.fixed other y.sender sender, connected w.state.fixed role y.receiver own.0) own.1;
   }
 
-  module _ (e : Entry) (has : IsReleased w.state.fixed n e) where
+  module _ (e : Entry) (has : ReleasesOwnHandle w.state.fixed n e) where
     -- the way that its message came on, and the request state of an active request
     abbrev Came : Way → Type 0
     Came y = ReceivesOn p n w.state.fixed y × (y.sender ≡ e.sender)
@@ -87,7 +87,7 @@ checked p x f shown e (y ∷ left) owns = owns
 
 -- the states of a pending response are the wire's
 pub states : (p : Setting) (x : Seat) (f : Fixed) (held : Pools) (shown : Way → RequestState) (e : Entry) → LayoutFits p f → Knows p x f held
-    → IsReleased f x.node e → same_kind e.kind PendingResponse ≡ true → Each (IsResponseWay p.layout.sizes) (states_for p x e)
+    → ReleasesOwnHandle f x.node e → same_kind e.kind PendingResponse ≡ true → Each (IsResponseWay p.layout.sizes) (states_for p x e)
 states p x f held shown e fits knows has is =
     checked p x f shown e (states_for p x e)
     (questions_begin_as_owners p x f held shown e false fits knows
@@ -99,7 +99,7 @@ closes_each p shown e [] each own = tt
 closes_each p shown e (y ∷ ways) each own = ((each.0, own.0), closes_each p shown e ways each.1 own.1)
 
 module _ (p : Setting) (held : Pools) (w : World) (x : Seat) (e : Entry) (reach : IsReachable w) (living : not_living w.state x.node ≡ None)
-    (fits : LayoutFits p w.state.fixed) (knows : Knows p x w.state.fixed held) (has : IsReleased w.state.fixed x.node e)
+    (fits : LayoutFits p w.state.fixed) (knows : Knows p x w.state.fixed held) (has : ReleasesOwnHandle w.state.fixed x.node e)
     (named : same_kind e.kind PendingResponse ≡ true → HasOwnStates p x w.state.request_state e) where
   abbrev K : Seat → Type 0
   K y = OwnsFirmly p x.node w.state.fixed w.state.request_state y.local

@@ -39,7 +39,7 @@ use Rattle.iox_wire_laws.proofs.WireKeeping.CountsKept.{steps_keep_own}
 use Rattle.iox_wire_laws.specs.WireShows.OwnedCalls.{Each, states_to, state_after}
 use Rattle.iox_wire_laws.specs.WireOwners.Releases.{HasOwnStates}
 use Rattle.iox_wire_laws.specs.WireOwners.RequestStates.{NamesNoOther}
-use Rattle.iox_wire_laws.specs.WireOwners.SentStates.{HasOpened, IsOpened, AccessesLeaveOpened, AccessesLeaveStates, OpensElsewhere, OthersLeaveOpened, SentRequestsHaveStates}
+use Rattle.iox_wire_laws.specs.WireOwners.SentStates.{HasOpened, StatesAreOpened, AccessesLeaveOpened, AccessesLeaveStates, OpensElsewhere, OthersLeaveOpened, SentRequestsHaveStates}
 use Rattle.iox_wire_laws.proofs.WireOwners.OpenedCalls as calls
 use Rattle.iox_wire_laws.proofs.WireOwners.OwnMoments.{OpensNone, opens_none}
 use Rattle.iox_wire_laws.proofs.WireOwners.Releases.{moments_leave_states, opened_states_are_own}
@@ -54,12 +54,12 @@ still s (Some (Open z other)) id y none is = absurd none
 still s (Some m) id y none is = moments_leave_states s m id y tt is
 
 module _ (p : Setting) (held : Pools) (s : State) where
-  all_still : (d : Delivery) (o : Option Moment) → OpensNone o → IsOpened s.request_state d [] → IsOpened (state_after s o).request_state d []
+  all_still : (d : Delivery) (o : Option Moment) → OpensNone o → StatesAreOpened s.request_state d [] → StatesAreOpened (state_after s o).request_state d []
   all_still d o none all y there left = still s o d.loan.request y none (all y there left)
 
   -- one more is open
-  one_more : (d : Delivery) (w : Way) (left : List Way) → IsOpened s.request_state d (w ∷ left)
-      → IsOpened (state_after s (Some (Open w d.loan.request))).request_state d left
+  one_more : (d : Delivery) (w : Way) (left : List Way) → StatesAreOpened s.request_state d (w ∷ left)
+      → StatesAreOpened (state_after s (Some (Open w d.loan.request))).request_state d left
   one_more d w left some y there not_left =
       by_cases (same_way y w)
       (λ same. subst (λ v. NamesNoOther ((state_after s (Some (Open v d.loan.request))).request_state y) d.loan.request) (same_way-true y w same)
@@ -144,8 +144,8 @@ state_of d y there =
     (λ is among. absurd (true≢false (sym among))) there
 
 module _ (p : Setting) (held : Pools) (w u : World) (b : Beat) (n : ℕ) (reach : IsReachable w) (beat : IsBeat w b u) (other : (n == node_of_beat b) ≡ false) where
-  opened_still : (d : Delivery) (left : List Way) → node_of_port w.state.fixed d.loan.port ≡ n → IsOpened w.state.request_state d left
-      → IsOpened u.state.request_state d left
+  opened_still : (d : Delivery) (left : List Way) → node_of_port w.state.fixed d.loan.port ≡ n → StatesAreOpened w.state.request_state d left
+      → StatesAreOpened u.state.request_state d left
   opened_still d left mine some y there not_left =
       others_open_nothing w u b n d.loan.request y reach beat other (ap (node_of_port w.state.fixed) (state_of d y there) ∙ mine) (some y there not_left)
 

@@ -22,11 +22,11 @@ use Rattle.iox_wire_locals.specs.Tables.{Setting}
 use Rattle.iox_wire_locals.proofs.KnowingLemmas.{others_known}
 use Rattle.iox_wire_laws.specs.WireShows.OwnedCalls.{Each, OwnsCall}
 use Rattle.iox_wire_laws.specs.WireRegions.OwnedBegins.{LayoutFits}
-use Rattle.iox_wire_laws.specs.WireRegions.QuestionBegins.{IsAsked, QuestionsBeginAsOwners}
+use Rattle.iox_wire_laws.specs.WireRegions.QuestionBegins.{AsksOwnHandle, QuestionsBeginAsOwners}
 use Rattle.iox_wire_laws.proofs.WireRegions.OwnPorts.{each_map, is_response, of_role}
 use Rattle.iox_wire_laws.proofs.WireRegions.OwnedNext.{raised}
 
-module _ (p : Setting) (x : Seat) (f : Fixed) (held : Pools) (e : Entry) (fits : LayoutFits p f) (knows : Knows p x f held) (asked : IsAsked f x.node e) where
+module _ (p : Setting) (x : Seat) (f : Fixed) (held : Pools) (e : Entry) (fits : LayoutFits p f) (knows : Knows p x f held) (asked : AsksOwnHandle f x.node e) where
   abbrev R : Way → Type 0
   R y = IsResponseWay p.layout.sizes y
 

@@ -55,11 +55,11 @@ PushesInto local q = ⊥
 
 -- A returning queue has room for the buffer, the borrow limit and one more, and the node did not
 -- forget who sends on its way.
-abbrev pub HasRoomFor : Setting → Fixed → ℕ → WireQueue → Type 0
-HasRoomFor p f node (ReturningQueue y) =
+abbrev pub ReturnsHaveRoom : Setting → Fixed → ℕ → WireQueue → Type 0
+ReturnsHaveRoom p f node (ReturningQueue y) =
     ComesTo f node y
     × (p.layout.capacity (ReturningQueue y) ≡ buffer_on f y + borrow_limit_on f y + 1)
-HasRoomFor p f node (MessageQueue y) = Unit {0}
+ReturnsHaveRoom p f node (MessageQueue y) = Unit {0}
 
 -- So what a push sees of its queue's positions lets it go on, with overflow and without: of a
 -- delivery as of a return.
@@ -69,6 +69,6 @@ PushesAreTold =
     (n : ℕ) (q : WireQueue)
     → ShowsWorld p held word c seats w → not_living w.state n ≡ None
     → OwnsPlace p held w.state (seats n) → PushesInto (seats n).local q
-    → HasRoomFor p w.state.fixed n q → write_of (site_of p.layout q) word < last_position
+    → ReturnsHaveRoom p w.state.fixed n q → write_of (site_of p.layout q) word < last_position
     → let local = (seats n).local in
     WordsTell p local (seen_by (program_access p.layout (program_of p local)) word)

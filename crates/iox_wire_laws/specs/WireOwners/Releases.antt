@@ -29,7 +29,7 @@ use Rattle.iox_wire_laws.specs.WireOwners.RequestStates.{NamesNoOther}
 
 -- A pending response is of a client of the node, on one of its lanes; so is a response, which came
 -- from a server. An active request came to a server of the node from its client.
-pub record IsReleased (f : Fixed) (node : ℕ) (e : Entry) : Type 0 where
+pub record ReleasesOwnHandle (f : Fixed) (node : ℕ) (e : Entry) : Type 0 where
   pub pending : same_kind e.kind PendingResponse ≡ true
       → IsPortOf f node Client e.port × (e.lane < lanes_of f e.port)
   pub request : same_kind e.kind ActiveRequest ≡ true
@@ -50,7 +50,7 @@ abbrev pub ReleasesBeginAsOwners : Type 0
 ReleasesBeginAsOwners =
     (p : Setting) (held : Pools) (w : World) (x : Seat) (e : Entry)
     → IsReachable w → not_living w.state x.node ≡ None → LayoutFits p w.state.fixed
-    → Knows p x w.state.fixed held → IsReleased w.state.fixed x.node e
+    → Knows p x w.state.fixed held → ReleasesOwnHandle w.state.fixed x.node e
     → (same_kind e.kind PendingResponse ≡ true → HasOwnStates p x w.state.request_state e)
     → OwnsFirmly p x.node w.state.fixed w.state.request_state (releasing p x e).local
 
@@ -61,7 +61,7 @@ abbrev pub OthersLeaveStates : Type 0
 OthersLeaveStates =
     (p : Setting) (held : Pools) (w u : World) (b : Beat) (x : Seat) (e : Entry)
     → IsReachable w → IsBeat w b u → (x.node == node_of_beat b) ≡ false → LayoutFits p w.state.fixed
-    → Knows p x w.state.fixed held → IsReleased w.state.fixed x.node e
+    → Knows p x w.state.fixed held → ReleasesOwnHandle w.state.fixed x.node e
     → same_kind e.kind PendingResponse ≡ true
     → HasOwnStates p x w.state.request_state e → HasOwnStates p x u.state.request_state e
 

@@ -28,18 +28,18 @@ use Rattle.iox_wire_laws.specs.WireOwners.Releases.{HasOwnStates}
 use Rattle.iox_wire_laws.specs.WireOwners.RequestStates.{NamesNoOther}
 
 -- the states of a send but those left to open name no other request
-abbrev pub IsOpened : (Way → RequestState) → Delivery → List Way → Type 0
-IsOpened shown d left =
+abbrev pub StatesAreOpened : (Way → RequestState) → Delivery → List Way → Type 0
+StatesAreOpened shown d left =
     (y : Way) → has_way y (states_to d) ≡ true → has_way y left ≡ false
     → NamesNoOther (shown y) d.loan.request
 
 -- what a send has opened at its place: once it delivers, all its states
 abbrev pub HasOpened : (Way → RequestState) → Local → Type 0
-HasOpened shown (SendOpens d w left full) = IsOpened shown d (w ∷ left)
-HasOpened shown (SendPushes d last w place left count) = IsOpened shown d []
-HasOpened shown (SendEvicts d w place left count) = IsOpened shown d []
-HasOpened shown (SendGetsBack d w place left count) = IsOpened shown d []
-HasOpened shown (SendEnds d last count) = IsOpened shown d []
+HasOpened shown (SendOpens d w left full) = StatesAreOpened shown d (w ∷ left)
+HasOpened shown (SendPushes d last w place left count) = StatesAreOpened shown d []
+HasOpened shown (SendEvicts d w place left count) = StatesAreOpened shown d []
+HasOpened shown (SendGetsBack d w place left count) = StatesAreOpened shown d []
+HasOpened shown (SendEnds d last count) = StatesAreOpened shown d []
 HasOpened shown local = Unit {0}
 
 -- After an access the send has opened what its next place says.

@@ -14,8 +14,8 @@ use Rattle.iox_wire_locals.specs.Known.{known}
 use Rattle.iox_wire_locals.specs.WorkedCalls.{fresh}
 use Rattle.iox_wire_locals.specs.WorkedWires.{ones}
 use Rattle.iox_wire_laws.specs.WireOwners.FirmOwners.{ClosesOwn, OwnsFirmly}
-use Rattle.iox_wire_laws.specs.WireOwners.Pushes.{HasRoomFor}
-use Rattle.iox_wire_laws.specs.WireOwners.Releases.{HasOwnStates, IsReleased}
+use Rattle.iox_wire_laws.specs.WireOwners.Pushes.{ReturnsHaveRoom}
+use Rattle.iox_wire_laws.specs.WireOwners.Releases.{HasOwnStates, ReleasesOwnHandle}
 
 -- a handle of a port, on lane 0, to the request of id 7, with a message of that sender
 abbrev pub entry_of_ones : Kind → (port sender : ℕ) → Entry
@@ -39,9 +39,9 @@ ports_of_ones = known ones fresh.client
 -- A pending response and a response of node 0, and an active request of node 1.
 abbrev pub WorkedAreReleased : Type 0
 WorkedAreReleased =
-    IsReleased ports_of_ones 0 (entry_of_ones PendingResponse 0 0)
-    × IsReleased ports_of_ones 0 (entry_of_ones Response 0 1)
-    × IsReleased ports_of_ones 1 (entry_of_ones ActiveRequest 1 0)
+    ReleasesOwnHandle ports_of_ones 0 (entry_of_ones PendingResponse 0 0)
+    × ReleasesOwnHandle ports_of_ones 0 (entry_of_ones Response 0 1)
+    × ReleasesOwnHandle ports_of_ones 1 (entry_of_ones ActiveRequest 1 0)
 
 -- all request states name the request of that id
 abbrev pub naming : ℕ → Way → RequestState
@@ -62,5 +62,5 @@ WorkedIsFirm =
 -- The returning queues of both nodes have room: node 0 gives responses back, node 1 requests.
 abbrev pub WorkedHaveRoom : Type 0
 WorkedHaveRoom =
-    HasRoomFor ones ports_of_ones 0 (ReturningQueue (response_way 0 0 1))
-    × HasRoomFor ones ports_of_ones 1 (ReturningQueue (request_way 0 1))
+    ReturnsHaveRoom ones ports_of_ones 0 (ReturningQueue (response_way 0 0 1))
+    × ReturnsHaveRoom ones ports_of_ones 1 (ReturningQueue (request_way 0 1))

@@ -9,7 +9,7 @@ use Rattle.iox_model.specs.Weaves.{World}
 use Rattle.iox_steps.specs.Accesses.{seen_by}
 use Rattle.iox_wire_words.specs.Programs.{program_access}
 use Rattle.iox_wire_words.specs.Fits.{WireContents, contents_after}
-use Rattle.iox_wire_words.specs.Laws.{IsMade}
+use Rattle.iox_wire_words.specs.Laws.{AccessIsMade}
 use Rattle.iox_wire_moments.specs.MomentsOf.{Pools}
 use Rattle.iox_wire_locals.specs.declared.local.Local.{Local}
 use Rattle.iox_wire_locals.specs.declared.local.Local.TheVariants.{LendEmpties, LendStores}
@@ -73,7 +73,7 @@ GoOnAsOwners owns =
     owns p x.node w.state.fixed w.state.request_state x.local → FreeSlotsAreThePools p x
     → TellsLane held x.local → LimitsAreKnown p x w.state.fixed → WordsTell p x.local seen
     → ReliesOn p (accessed x) w.state held x.local seen → TakesLane p x.local y.local
-    → IsMade (program_access p.layout program) word word'
+    → AccessIsMade (program_access p.layout program) word word'
     → ShowsNext p held word' (contents_after p.layout program seen c) (put_at seats n y) w n
     (moment_at p held x.local seen)
     × owns p y.node t.fixed t.request_state y.local

@@ -18,7 +18,7 @@ use Rattle.iox_wire_laws.specs.WireRegions.OwnedBegins.{IsPortOf, LayoutFits}
 
 -- A pending response is of a client of the node, on one of its lanes; any other handle that is
 -- asked is of a server of the node, on a lane of its client.
-pub record IsAsked (f : Fixed) (node : ℕ) (e : Entry) : Type 0 where
+pub record AsksOwnHandle (f : Fixed) (node : ℕ) (e : Entry) : Type 0 where
   pub pending : same_kind e.kind PendingResponse ≡ true
       → IsPortOf f node Client e.port × (e.lane < lanes_of f e.port)
   pub active : same_kind e.kind PendingResponse ≡ false
@@ -29,6 +29,6 @@ abbrev pub QuestionsBeginAsOwners : Type 0
 QuestionsBeginAsOwners =
     (p : Setting) (x : Seat) (f : Fixed) (held : Pools) (shown : Way → RequestState) (e : Entry)
     (hinted : Bool)
-    → LayoutFits p f → Knows p x f held → IsAsked f x.node e
+    → LayoutFits p f → Knows p x f held → AsksOwnHandle f x.node e
     → Owns p x.node f shown (checking x e hinted (states_for p x e)).local
     × (e.request < 2 ^ 62 → Owns p x.node f shown (hinting x e (states_for p x e)).local)

@@ -5,7 +5,7 @@ use Rattle.iox_model.specs.declared.way.Way.{Way}
 use Rattle.iox_word_map.specs.WordMaps.{WireQueue, QueueWords, IsQueue, IsResponseWay, piece_place, piece_size}
 use Rattle.iox_wire_words.specs.Programs.{StoresWord, program_access, state_place}
 use Rattle.iox_wire_words.specs.Fits.{WireContents, contents_after}
-use Rattle.iox_wire_words.specs.Laws.{IsMade}
+use Rattle.iox_wire_words.specs.Laws.{AccessIsMade}
 use Rattle.iox_wire_locals.specs.Tables.{Setting, region_word}
 use Rattle.iox_wire_locals.specs.WorkedWires.{ones}
 use Rattle.iox_wire_laws.specs.WireRegions.Regions.{HasRegion, IsSlotWord, slot_word}
@@ -31,7 +31,7 @@ AreOthers port i k q j l = port ≡ q → i ≡ j → k ≡ l → ⊥
 abbrev pub StoresLeaveTheRest : Type 0
 StoresLeaveTheRest =
     (p : Setting) (word word' : ℕ → ℕ) (port slot k value : ℕ) → IsSlotWord p port slot k
-    → IsMade (program_access p.layout (StoresWord port (region_word p port slot k) value))
+    → AccessIsMade (program_access p.layout (StoresWord port (region_word p port slot k) value))
     word word'
     → (word' (slot_word p port slot k) ≡ value)
     × ((q j l : ℕ) → IsSlotWord p q j l → AreOthers q j l port slot k

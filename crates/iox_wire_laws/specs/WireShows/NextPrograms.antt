@@ -6,7 +6,7 @@ use Rattle.iox_model.specs.Weaves.{World}
 use Rattle.iox_steps.specs.Accesses.{seen_by}
 use Rattle.iox_wire_words.specs.Programs.{program_access}
 use Rattle.iox_wire_words.specs.Fits.{WireContents, WordsFit, contents_after}
-use Rattle.iox_wire_words.specs.Laws.{IsMade}
+use Rattle.iox_wire_words.specs.Laws.{AccessIsMade}
 use Rattle.iox_wire_moments.specs.MomentsOf.{Pools}
 use Rattle.iox_wire_locals.specs.declared.seat.Seat.{Seat}
 use Rattle.iox_wire_locals.specs.Tables.{Setting}
@@ -26,7 +26,7 @@ NextProgramsFit =
     → let x = seats n in let program = program_of p x.local in
     let seen = seen_by (program_access p.layout program) word in
     OwnsPlace p held w.state x → ReliesOn p (accessed x) w.state held x.local seen
-    → IsMade (program_access p.layout program) word word'
+    → AccessIsMade (program_access p.layout program) word word'
     → WordsFit p.layout word'
     (programs_of p (put_at seats n (advance p (accessed x) x.local seen)))
     (contents_after p.layout program seen c)

@@ -7,7 +7,7 @@ use Rattle.iox_model.specs.Weaves.{World, Makes, IsBeat}
 use Rattle.iox_steps.specs.Accesses.{seen_by}
 use Rattle.iox_wire_words.specs.Programs.{program_access}
 use Rattle.iox_wire_words.specs.Fits.{WireContents, contents_after}
-use Rattle.iox_wire_words.specs.Laws.{IsMade}
+use Rattle.iox_wire_words.specs.Laws.{AccessIsMade}
 use Rattle.iox_wire_moments.specs.MomentsOf.{Pools}
 use Rattle.iox_wire_locals.specs.declared.seat.Seat.{Seat}
 use Rattle.iox_wire_locals.specs.Tables.{Setting}
@@ -37,6 +37,6 @@ StepsShowTheWorld =
     let seen = seen_by (program_access p.layout program) word in
     OwnsPlace p held w.state x → NamesSmall x.local
     → ReliesOn p (accessed x) w.state held x.local seen
-    → IsMade (program_access p.layout program) word word'
+    → AccessIsMade (program_access p.layout program) word word'
     → ShowsNext p held word' (contents_after p.layout program seen c)
     (put_at seats n (advance p (accessed x) x.local seen)) w n (moment_at p held x.local seen)

@@ -27,8 +27,8 @@ impl Lending {
     ghost use Rattle.iox_wire_seats.specs.Aims.{QueuesInMemory};
     ghost use Rattle.iox_wire_seats.specs.Seats.{ways_of};
     ghost use Rattle.iox_wire_loans.specs.Aims.{HasSameRooms, IsAimed, IsOrdered, LeavesSeat, TellsOfSlot};
-    ghost use Rattle.iox_wire_loans.specs.Lenders.{AreReturning, AreSlots, IsClient, IsLender};
-    ghost use Rattle.iox_wire_loans.specs.Lenders.{IsServer};
+    ghost use Rattle.iox_wire_loans.specs.Lenders.{AreReturning, AreSlots, HasClientLimits, LenderIsTold};
+    ghost use Rattle.iox_wire_loans.specs.Lenders.{HasServerLimits};
     ghost use Rattle.iox_wire_loans.specs.Orders.{IsRequest, IsResponse, loan_of};
 
     /// Begins the loan of a request by a client, which gets back on these ways first. What was
@@ -47,13 +47,13 @@ impl Lending {
         requires within { QueuesInMemory Index lender.now.room stops.now }
         requires fits { length stops.now ≤ self.old.ways_room }
         requires words { lender.now.places.slot_words ≤ self.old.words_room }
-        ensures begun { (p : Setting) → IsLender p lender.now → IsClient p lender.now
+        ensures begun { (p : Setting) → LenderIsTold p lender.now → HasClientLimits p lender.now
             → number ≡ next_handle p seat.old.seat
             → ways_of stops.now
             ≡ request_ways (known p seat.old.seat) (p.port lender.now.port).node lender.now.port
             → placed seat.new.seat self.new.local
             ≡ lends_request p seat.old.seat (p.port lender.now.port) elements [] false }
-        ensures aimed { (p : Setting) → IsLender p lender.now → IsClient p lender.now
+        ensures aimed { (p : Setting) → LenderIsTold p lender.now → HasClientLimits p lender.now
             → number ≡ next_handle p seat.old.seat → AreReturning p lender.now.room stops.now
             → TellsOfSlot p self.new.local
             → IsAimed p seat.new.seat self.new }
@@ -100,13 +100,13 @@ impl Lending {
         requires within { QueuesInMemory Index lender.now.room stops.now }
         requires fits { length stops.now ≤ self.old.ways_room }
         requires words { lender.now.places.slot_words ≤ self.old.words_room }
-        ensures begun { (p : Setting) → IsLender p lender.now → IsServer p lender.now
+        ensures begun { (p : Setting) → LenderIsTold p lender.now → HasServerLimits p lender.now
             → request.port ≡ lender.now.port → number ≡ next_handle p seat.old.seat
             → ways_of stops.now
             ≡ response_ways (known p seat.old.seat) (p.port lender.now.port).node lender.now.port
             → placed seat.new.seat self.new.local
             ≡ lends_response p seat.old.seat request elements [] false }
-        ensures aimed { (p : Setting) → IsLender p lender.now → IsServer p lender.now
+        ensures aimed { (p : Setting) → LenderIsTold p lender.now → HasServerLimits p lender.now
             → number ≡ next_handle p seat.old.seat → AreReturning p lender.now.room stops.now
             → TellsOfSlot p self.new.local
             → IsAimed p seat.new.seat self.new }

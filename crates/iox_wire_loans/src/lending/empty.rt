@@ -19,7 +19,7 @@ impl Lending {
     ghost use Rattle.iox_wire_seats.specs.Lends.{MayLend};
     ghost use Rattle.iox_wire_seats.specs.Seats.{ways_of};
     ghost use Rattle.iox_wire_loans.specs.Aims.{Answers, FitsSlots, GetsBackUsed, GoesOn, IsAimed};
-    ghost use Rattle.iox_wire_loans.specs.Aims.{IsEmptying, IsSameLoan, IsStoring, Knows};
+    ghost use Rattle.iox_wire_loans.specs.Aims.{IsEmptying, IsNoHandle, IsSameLoan, IsStoring, Knows};
     ghost use Rattle.iox_wire_loans.specs.Aims.{LeavesSeat, StaysAimed, TellsOfSlot, after, answered};
     ghost use Rattle.iox_wire_loans.specs.Lenders.{AreReturning};
     ghost use Rattle.iox_wire_loans.specs.Loans.{reply_in};
@@ -71,6 +71,7 @@ impl Lending {
             → TellsOfSlot p self.new.local → IsAimed p seat.new.seat self.new }
         ensures busy { is_busy self.new.local ≡ is_none result }
         ensures visits { 0 < length self.old.left → result ≡ None }
+        ensures refused { IsNoHandle result }
         ensures leaves { LeavesSeat seat.old seat.new }
         ensures same { IsSameLoan self.old self.new }
     {
@@ -108,6 +109,7 @@ impl Lending {
         ensures room { KeepsRoom seat.old seat.new }
         ensures rests { is_busy seat.new.seat.local ≡ false }
         ensures may { MayLend seat.new self.new.order.number self.new.order.port }
+        ensures refused { IsNoHandle result }
         ensures same { IsSameLoan self.old self.new }
     {
         seat.count_access();

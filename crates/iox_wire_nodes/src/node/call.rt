@@ -2,7 +2,7 @@
 ghost use Rattle.std.specs.Prelude.{◌≡◌, ◌<◌, IfErr, IfSome, None, OnErr, OnOk, false, length};
 ghost use Rattle.std.specs.Prelude.{true};
 ghost use Rattle.iox_model.specs.declared.call.WireCall.TheVariants.{Port};
-ghost use Rattle.iox_wire_begins.specs.ListRooms.{HasRoomFor};
+ghost use Rattle.iox_wire_begins.specs.ListRooms.{ListsHaveRoom};
 ghost use Rattle.iox_wire_begins.specs.Plans.{number_at, port_of};
 ghost use Rattle.iox_wire_begins.specs.WirePlans.{IsWirePlan};
 ghost use Rattle.iox_wire_begins.specs.HandleCalls.{refusal_in};
@@ -38,7 +38,7 @@ impl StoredNode {
         requires within { IfSome port (λ place. place < length map.now.ports.items) }
         requires there { IfSome port (λ place. number_at map.now place ≡ number_in call) }
         requires none { port ≡ None → port_of map.now (number_in call) ≡ None }
-        requires lists { HasRoomFor map.now lists.old }
+        requires lists { ListsHaveRoom map.now lists.old }
         requires rooms { HasRoomToBegin map.now self.old }
         ensures begun { (p : Setting) → IsSettingWith map.now terms.now p
             → OnOk result
@@ -51,7 +51,7 @@ impl StoredNode {
             self.old.seat.seat.table (Port (call_in p (seat_in self.old) call.entry))) }
         ensures adds { OnOk result (AddsHandle self.new.at → may_add_handle call.entry ≡ true) }
         ensures unchanged { OnErr result (self.new ≡ self.old) }
-        ensures lists { HasRoomFor map.now lists.new }
+        ensures lists { ListsHaveRoom map.now lists.new }
         ensures rooms { OnOk result (KeepsRooms self.old self.new) }
     {
         if self.is_busy() {
@@ -76,7 +76,7 @@ impl StoredNode {
         requires may { MayBegin map.now terms.now self.old.seat.seat }
         requires within { port < length map.now.ports.items }
         requires there { number_at map.now port ≡ number_in call }
-        requires lists { HasRoomFor map.now lists.old }
+        requires lists { ListsHaveRoom map.now lists.old }
         requires rooms { HasRoomToBegin map.now self.old }
         ensures begun { (p : Setting) → IsSettingWith map.now terms.now p
             → OnOk result
@@ -89,7 +89,7 @@ impl StoredNode {
             self.old.seat.seat.table (Port (call_in p (seat_in self.old) call.entry))) }
         ensures adds { OnOk result (AddsHandle self.new.at → may_add_handle call.entry ≡ true) }
         ensures unchanged { OnErr result (self.new ≡ self.old) }
-        ensures lists { HasRoomFor map.now lists.new }
+        ensures lists { ListsHaveRoom map.now lists.new }
         ensures rooms { OnOk result (KeepsRooms self.old self.new) }
     {
         let node = self.node();
@@ -142,7 +142,7 @@ impl StoredNode {
         requires plan { IsWirePlan map.now terms.now }
         requires may { MayBegin map.now terms.now self.old.seat.seat }
         requires no_port { port_of map.now (number_in call) ≡ None }
-        requires lists { HasRoomFor map.now lists.old }
+        requires lists { ListsHaveRoom map.now lists.old }
         requires rooms { HasRoomToBegin map.now self.old }
         ensures begun { (p : Setting) → IsSettingWith map.now terms.now p
             → OnOk result
@@ -155,7 +155,7 @@ impl StoredNode {
             self.old.seat.seat.table (Port (call_in p (seat_in self.old) call.entry))) }
         ensures adds { OnOk result (AddsHandle self.new.at → may_add_handle call.entry ≡ true) }
         ensures unchanged { OnErr result (self.new ≡ self.old) }
-        ensures lists { HasRoomFor map.now lists.new }
+        ensures lists { ListsHaveRoom map.now lists.new }
         ensures rooms { OnOk result (KeepsRooms self.old self.new) }
     {
         let (sources, stops) = (&mut lists.sources, &mut lists.stops);

@@ -3,7 +3,7 @@ ghost use Rattle.std.specs.Prelude.{◌≡◌, ◌+◌, ◌<◌, ◌≤◌, ◌^
 ghost use Rattle.iox_model.specs.declared.call.Call.TheVariants.{SendCopy};
 ghost use Rattle.iox_model.specs.declared.call.WireCall.TheVariants.{Port};
 ghost use Rattle.iox_model.specs.declared.kind.Role.TheVariants.{Client};
-ghost use Rattle.iox_wire_begins.specs.ListRooms.{HasRoomFor, HasRoomToCopy};
+ghost use Rattle.iox_wire_begins.specs.ListRooms.{ListsHaveRoom, HasRoomToCopy};
 ghost use Rattle.iox_wire_begins.specs.Plans.{most_ways, number_at};
 ghost use Rattle.iox_wire_begins.specs.WirePlans.{IsWirePlan};
 ghost use Rattle.iox_wire_begins.specs.HandleCalls.{refusal_in};
@@ -39,7 +39,7 @@ impl StoredNode {
         requires next { terms.now.first_number + self.old.seat.seat.handles_made < 2 ^ 64 }
         requires within { port < length map.now.ports.items }
         requires there { number_at map.now port ≡ number }
-        requires lists { HasRoomFor map.now lists.old }
+        requires lists { ListsHaveRoom map.now lists.old }
         requires rooms { HasRoomToCopy map.now self.old.copies_request.lends }
         requires servers { most_ways map.now ≤ self.old.copies_request.sends.room }
         ensures begun { (p : Setting) → IsSettingWith map.now terms.now p → OnOk result
@@ -50,7 +50,7 @@ impl StoredNode {
         ensures at { OnOk result (self.new.at ≡ CopiesRequest) }
         ensures role { OnOk result (role ≡ Client) }
         ensures unchanged { OnErr result (self.new ≡ self.old) }
-        ensures lists { HasRoomFor map.now lists.new }
+        ensures lists { ListsHaveRoom map.now lists.new }
         ensures rooms { OnOk result (KeepsRooms self.old self.new) }
     {
         self.name_at_port(map, terms, Asked::SendCopy(role), number, port)?;

@@ -15,7 +15,7 @@ impl Receiving {
     ghost use Rattle.iox_wire_locals.specs.declared.local.Local.TheVariants.{ReceivePops};
     ghost use Rattle.iox_wire_locals.specs.declared.local.Local.TheVariants.{ReceiveReturns};
     ghost use Rattle.iox_wire_seats.specs.Keeps.{counted};
-    ghost use Rattle.iox_wire_receives.specs.Aims.{Answers, GoesOn, HasRoomFor, IsOnSameWay};
+    ghost use Rattle.iox_wire_receives.specs.Aims.{Answers, GoesOn, MayTakeOneMore, IsOnSameWay};
     ghost use Rattle.iox_wire_receives.specs.Aims.{IsOnWay, IsReturning, StaysAimed};
     ghost use Rattle.iox_wire_receives.specs.Sources.{messages_at, returning_at, ways_of};
 
@@ -53,12 +53,12 @@ impl Receiving {
     pub(super) fn return_on(&mut self, seat: &mut StoredSeat, seen: u64) -> Option<ReceiveReply>
         requires there { IsReturning self.old.local }
         requires accesses { seat.old.seat.accesses + 1 < 2 ^ 64 }
-        requires counts { HasRoomFor seat.old.seat self.old.local }
+        requires counts { MayTakeOneMore seat.old.seat self.old.local }
         ensures next { GoesOn seat.old self.old seen seat.new self.new }
         ensures over { Answers seat.old self.old seen result }
         ensures aimed { StaysAimed seat.old self.old seat.new self.new }
         ensures seat { seat.new ≡ counted seat.old }
-        ensures counts { HasRoomFor seat.new.seat self.new.local }
+        ensures counts { MayTakeOneMore seat.new.seat self.new.local }
         ensures terms { self.new.terms ≡ self.old.terms }
         ensures ways { self.new.room ≡ self.old.room }
     {

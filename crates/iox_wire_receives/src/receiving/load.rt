@@ -13,7 +13,7 @@ use iox_wire_seats::StoredSeat;
 impl Receiving {
     ghost use Rattle.std.specs.Prelude.{◌≡◌, ◌+◌, ◌<◌, ◌^◌, None};
     ghost use Rattle.iox_wire_seats.specs.Aims.{KeepsRoom};
-    ghost use Rattle.iox_wire_receives.specs.Aims.{Answers, GoesOn, HasRoomFor, IsAsking};
+    ghost use Rattle.iox_wire_receives.specs.Aims.{Answers, GoesOn, MayTakeOneMore, IsAsking};
     ghost use Rattle.iox_wire_receives.specs.Aims.{IsLoading, MayReceive, StaysAimed};
 
     /// A word of the header is loaded.
@@ -21,7 +21,7 @@ impl Receiving {
     pub(super) fn load_on(&mut self, seat: &mut StoredSeat, seen: u64) -> Option<ReceiveReply>
         requires there { IsLoading self.old.local }
         requires accesses { seat.old.seat.accesses + 1 < 2 ^ 64 }
-        requires counts { HasRoomFor seat.old.seat self.old.local }
+        requires counts { MayTakeOneMore seat.old.seat self.old.local }
         requires may { MayReceive seat.old self.old.terms.number }
         ensures next { GoesOn seat.old self.old seen seat.new self.new }
         ensures over { Answers seat.old self.old seen result }
@@ -30,7 +30,7 @@ impl Receiving {
         ensures room { KeepsRoom seat.old seat.new }
         ensures rests { seat.new.seat.local ≡ seat.old.seat.local }
         ensures may { result ≡ None → MayReceive seat.new self.new.terms.number }
-        ensures counts { HasRoomFor seat.new.seat self.new.local }
+        ensures counts { MayTakeOneMore seat.new.seat self.new.local }
         ensures terms { self.new.terms ≡ self.old.terms }
         ensures ways { self.new.room ≡ self.old.room }
     {
@@ -67,7 +67,7 @@ impl Receiving {
     pub(super) fn ask_on(&mut self, seat: &mut StoredSeat, seen: u64) -> Option<ReceiveReply>
         requires there { IsAsking self.old.local }
         requires accesses { seat.old.seat.accesses + 1 < 2 ^ 64 }
-        requires counts { HasRoomFor seat.old.seat self.old.local }
+        requires counts { MayTakeOneMore seat.old.seat self.old.local }
         requires may { MayReceive seat.old self.old.terms.number }
         ensures next { GoesOn seat.old self.old seen seat.new self.new }
         ensures over { Answers seat.old self.old seen result }
@@ -76,7 +76,7 @@ impl Receiving {
         ensures room { KeepsRoom seat.old seat.new }
         ensures rests { seat.new.seat.local ≡ seat.old.seat.local }
         ensures may { result ≡ None → MayReceive seat.new self.new.terms.number }
-        ensures counts { HasRoomFor seat.new.seat self.new.local }
+        ensures counts { MayTakeOneMore seat.new.seat self.new.local }
         ensures terms { self.new.terms ≡ self.old.terms }
         ensures ways { self.new.room ≡ self.old.room }
     {

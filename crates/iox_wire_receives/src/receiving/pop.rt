@@ -9,7 +9,7 @@ use iox_wire_seats::StoredSeat;
 
 impl Receiving {
     ghost use Rattle.std.specs.Prelude.{◌≡◌, ◌+◌, ◌<◌, ◌^◌};
-    ghost use Rattle.iox_wire_receives.specs.Aims.{Answers, GoesOn, HasRoomFor, IsLooking};
+    ghost use Rattle.iox_wire_receives.specs.Aims.{Answers, GoesOn, MayTakeOneMore, IsLooking};
     ghost use Rattle.iox_wire_receives.specs.Aims.{IsPopping, StaysAimed};
     ghost use Rattle.iox_wire_seats.specs.Keeps.{counted};
 
@@ -22,7 +22,7 @@ impl Receiving {
         ensures over { Answers seat.old self.old seen result }
         ensures aimed { StaysAimed seat.old self.old seat.new self.new }
         ensures seat { seat.new ≡ counted seat.old }
-        ensures counts { HasRoomFor seat.new.seat self.new.local }
+        ensures counts { MayTakeOneMore seat.new.seat self.new.local }
         ensures terms { self.new.terms ≡ self.old.terms }
         ensures ways { self.new.room ≡ self.old.room }
     {
@@ -42,12 +42,12 @@ impl Receiving {
     pub(super) fn pop_on(&mut self, seat: &mut StoredSeat, seen: u64) -> Option<ReceiveReply>
         requires there { IsPopping self.old.local }
         requires accesses { seat.old.seat.accesses + 1 < 2 ^ 64 }
-        requires counts { HasRoomFor seat.old.seat self.old.local }
+        requires counts { MayTakeOneMore seat.old.seat self.old.local }
         ensures next { GoesOn seat.old self.old seen seat.new self.new }
         ensures over { Answers seat.old self.old seen result }
         ensures aimed { StaysAimed seat.old self.old seat.new self.new }
         ensures seat { seat.new ≡ counted seat.old }
-        ensures counts { HasRoomFor seat.new.seat self.new.local }
+        ensures counts { MayTakeOneMore seat.new.seat self.new.local }
         ensures terms { self.new.terms ≡ self.old.terms }
         ensures ways { self.new.room ≡ self.old.room }
     {

@@ -12,7 +12,7 @@ impl Receiving {
     ghost use Rattle.iox_wire_locals.specs.declared.local.Local.TheVariants.{Idle};
     ghost use Rattle.iox_wire_locals.specs.NewLoans.{received_entry, received_length, request_in};
     ghost use Rattle.iox_wire_seats.specs.Counts.{IsBelow};
-    ghost use Rattle.iox_wire_seats.specs.Keeps.{received};
+    ghost use Rattle.iox_wire_seats.specs.Keeps.{gains_received};
     ghost use Rattle.iox_wire_receives.specs.declared.at.ReceiveReply.TheVariants.{Handle};
     ghost use Rattle.iox_wire_receives.specs.Aims.{MayReceive};
 
@@ -59,7 +59,7 @@ impl Receiving {
         requires may { MayReceive seat.old self.old.terms.number }
         requires below { IsBelow (2 ^ 64 - 1) self.old.source.way seat.old.seat.borrowed }
         ensures seat { seat.new
-            ≡ received seat.old
+            ≡ gains_received seat.old
             (received_entry self.old.terms.number self.old.visit self.old.source.way self.old.slot
             self.old.header) self.old.source.way }
         ensures over { self.new.local ≡ Idle }

@@ -17,7 +17,7 @@ impl Receiving {
     ghost use Rattle.iox_wire_locals.specs.NewLoans.{received_length};
     ghost use Rattle.iox_wire_locals.specs.ReceiveCourses.{visiting};
     ghost use Rattle.iox_wire_locals.specs.Tables.{Setting};
-    ghost use Rattle.iox_wire_receives.specs.Aims.{HasRoomFor, IsAimed, KnowsTerms};
+    ghost use Rattle.iox_wire_receives.specs.Aims.{MayTakeOneMore, IsAimed, KnowsTerms};
     ghost use Rattle.iox_wire_receives.specs.Aims.{after, answered};
     ghost use Rattle.iox_wire_receives.specs.Receipts.{reply_in};
     ghost use Rattle.iox_wire_receives.specs.Sources.{AreSources, AreWithin, ways_of};
@@ -38,7 +38,7 @@ impl Receiving {
             ≡ visiting p seat.now.seat visit (ways_of sources.now) false }
         ensures aimed { (p : Setting) → AreSources p terms (received_length visit) sources.now
             → KnowsTerms p seat.now.seat terms → IsAimed p seat.now.seat self.new }
-        ensures counts { HasRoomFor seat.now.seat self.new.local }
+        ensures counts { MayTakeOneMore seat.now.seat self.new.local }
         ensures terms { self.new.terms ≡ terms }
         ensures ways { self.new.room ≡ self.old.room }
     {
@@ -71,7 +71,7 @@ impl Receiving {
         ensures aimed { (p : Setting)
             → AreSources p self.old.terms (received_length self.old.visit) self.old.left
             → KnowsTerms p seat.now.seat self.old.terms → IsAimed p seat.now.seat self.new }
-        ensures counts { HasRoomFor seat.now.seat self.new.local }
+        ensures counts { MayTakeOneMore seat.now.seat self.new.local }
         ensures terms { self.new.terms ≡ self.old.terms }
         ensures ways { self.new.room ≡ self.old.room }
     {

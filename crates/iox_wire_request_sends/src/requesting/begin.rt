@@ -24,7 +24,7 @@ impl Requesting {
     ghost use Rattle.iox_wire_seats.specs.Desks.{MayGiveUp};
     ghost use Rattle.iox_wire_seats.specs.Lends.{MayLend};
     ghost use Rattle.iox_wire_seats.specs.Seats.{Placed};
-    ghost use Rattle.iox_wire_request_sends.specs.Aims.{FindsUsed, IsAimed, IsToldOf, MayEnd};
+    ghost use Rattle.iox_wire_request_sends.specs.Aims.{FindsUsed, IsAimed, IsToldOf, LoanMayEnd};
     ghost use Rattle.iox_wire_request_sends.specs.Targets.{AreTargets, AreWithin, servers_of};
 
     /// Begins to send a loaned request to these servers. No send may be under way.
@@ -41,7 +41,7 @@ impl Requesting {
         ensures aimed { (p : Setting) → IsToldOf p loan terms → AreTargets p terms loan targets.now
             → IsAimed p seat.now.seat self.new }
         ensures busy { is_busy self.new.local ≡ true }
-        ensures may { (x : Placed) → MayGiveUp loan x.seat.desks → MayEnd x self.new }
+        ensures may { (x : Placed) → MayGiveUp loan x.seat.desks → LoanMayEnd x self.new }
         ensures first { (x : Placed) → (seen : ℕ) → FindsUsed x self.new seen }
         ensures loan { self.new.loan ≡ loan }
         ensures own { self.new.copied ≡ false }
@@ -80,7 +80,7 @@ impl Requesting {
             → IsAimed p seat.now.seat self.new }
         ensures busy { is_busy self.new.local ≡ true }
         ensures may { (x : Placed) → MayGiveUp loan x.seat.desks
-            → (copied ≡ true → MayLend x loan.number loan.port) → MayEnd x self.new }
+            → (copied ≡ true → MayLend x loan.number loan.port) → LoanMayEnd x self.new }
         ensures first { (x : Placed) → (seen : ℕ) → FindsUsed x self.new seen }
         ensures loan { self.new.loan ≡ loan }
         ensures copied { self.new.copied ≡ copied }

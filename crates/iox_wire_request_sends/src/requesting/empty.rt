@@ -7,10 +7,11 @@ use iox_steps::QueueEvent;
 use iox_wire_seats::StoredSeat;
 
 impl Requesting {
-    ghost use Rattle.std.specs.Prelude.{◌≡◌, ◌+◌, ◌<◌, ◌^◌, ℕ, false, is_none};
+    ghost use Rattle.std.specs.Prelude.{◌≡◌, ◌+◌, ◌<◌, ◌^◌, ℕ, IfSome, false, is_none};
     ghost use Rattle.iox_wire_locals.specs.Begins.{is_busy};
     ghost use Rattle.iox_wire_request_sends.specs.Aims.{Answers, FindsUsed, GoesOn, IsEmptying};
-    ghost use Rattle.iox_wire_request_sends.specs.Aims.{IsOneStep, IsSameSend, MayEnd, StaysAimed};
+    ghost use Rattle.iox_wire_request_sends.specs.Aims.{IsOneStep, IsSameSend, IsToldBy, LoanMayEnd};
+    ghost use Rattle.iox_wire_request_sends.specs.Aims.{StaysAimed};
 
     /// An access of a pop of what returned.
     #[inline(always)]
@@ -18,12 +19,13 @@ impl Requesting {
         requires there { IsEmptying self.old.local }
         requires accesses { seat.old.seat.accesses + 1 < 2 ^ 64 }
         requires rests { is_busy seat.old.seat.local ≡ false }
-        requires may { MayEnd seat.old self.old }
+        requires may { LoanMayEnd seat.old self.old }
         requires finds { FindsUsed seat.old self.old seen }
         ensures next { GoesOn seat.old self.old seen seat.new self.new }
         ensures over { Answers seat.old self.old seen result }
         ensures aimed { StaysAimed seat.old self.old seat.new self.new }
         ensures busy { is_busy self.new.local ≡ is_none result }
+        ensures told { IfSome result (IsToldBy self.new.copied) }
         ensures same { IsSameSend self.old self.new }
         ensures step { IsOneStep seat.old seat.new }
     {

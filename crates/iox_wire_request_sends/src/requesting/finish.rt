@@ -6,7 +6,7 @@ use crate::at::{RequestAt, RequestReply};
 use iox_wire_seats::{StoredSeat, pending_entry};
 
 impl Requesting {
-    ghost use Rattle.std.specs.Prelude.{◌≡◌, Some, false, true};
+    ghost use Rattle.std.specs.Prelude.{◌≡◌, IfSome, Some, false, true};
     ghost use Rattle.iox_wire_locals.specs.declared.local.Local.TheVariants.{Idle};
     ghost use Rattle.iox_wire_locals.specs.Begins.{is_busy};
     ghost use Rattle.iox_wire_locals.specs.Courses.{placed};
@@ -15,8 +15,9 @@ impl Requesting {
     ghost use Rattle.iox_wire_seats.specs.Aims.{KeepsRoom};
     ghost use Rattle.iox_wire_seats.specs.Desks.{MayGiveUp};
     ghost use Rattle.iox_wire_seats.specs.Lends.{MayLend};
-    ghost use Rattle.iox_wire_request_sends.specs.Aims.{IsSameSend, Knows, LeadsTo, LeavesSeat};
-    ghost use Rattle.iox_wire_request_sends.specs.Aims.{MayEnd, is_ending};
+    ghost use Rattle.iox_wire_request_sends.specs.Aims.{IsSameSend, IsToldBy, Knows, LeadsTo};
+    ghost use Rattle.iox_wire_request_sends.specs.Aims.{LeavesSeat};
+    ghost use Rattle.iox_wire_request_sends.specs.Aims.{LoanMayEnd, is_ending};
     ghost use Rattle.iox_wire_request_sends.specs.RequestDispatches.{told_sent};
 
     /// The loan is sent: it is a pending response.
@@ -31,6 +32,7 @@ impl Requesting {
         ensures same { IsSameSend self.old self.new }
         ensures reply { result
             ≡ Some (told_sent self.old.loan self.old.copied self.old.count) }
+        ensures told { IfSome result (IsToldBy self.new.copied) }
     {
         self.at = RequestAt::Rest;
         if self.copied {
@@ -79,7 +81,7 @@ impl Requesting {
     pub fn tell(&mut self, seat: &mut StoredSeat) -> Option<RequestReply>
         requires there { is_ending self.old.local ≡ true }
         requires rests { is_busy seat.old.seat.local ≡ false }
-        requires may { MayEnd seat.old self.old }
+        requires may { LoanMayEnd seat.old self.old }
         ensures next { (p : Setting) → Knows p seat.old.seat self.old
             → LeadsTo p (placed seat.old.seat self.old.local) seat.new self.new result }
         ensures leaves { LeavesSeat seat.old seat.new self.new result }

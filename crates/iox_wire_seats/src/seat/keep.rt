@@ -11,7 +11,7 @@ impl StoredSeat {
     ghost use Rattle.iox_model.specs.Maps.{has_number};
     ghost use Rattle.iox_wire_locals.specs.Known.{count_on};
     ghost use Rattle.iox_wire_seats.specs.Counts.{IsBelow};
-    ghost use Rattle.iox_wire_seats.specs.Keeps.{counted, received};
+    ghost use Rattle.iox_wire_seats.specs.Keeps.{counted, gains_received};
     ghost use Rattle.iox_wire_seats.specs.Rows.{AreBelow};
 
     /// Counts one more access.
@@ -46,7 +46,7 @@ impl StoredSeat {
         requires newer { AreBelow entry.number self.old.seat.table }
         requires handles { self.old.seat.handles_made + 1 < 2 ^ 64 }
         requires below { IsBelow (2 ^ 64 - 1) way self.old.seat.borrowed }
-        ensures { self.new ≡ received self.old entry way }
+        ensures { self.new ≡ gains_received self.old entry way }
     {
         self.entries.add(entry);
         self.counts.add(way);

@@ -10,7 +10,7 @@ impl StoredSeat {
     ghost use Rattle.iox_wire_locals.specs.Begins.{is_busy};
     ghost use Rattle.iox_wire_locals.specs.Known.{free_lanes, free_slots, loans_at};
     ghost use Rattle.iox_wire_locals.specs.Lendings.{first_lane};
-    ghost use Rattle.iox_wire_seats.specs.Lends.{MayLend, lent, picked};
+    ghost use Rattle.iox_wire_seats.specs.Lends.{MayLend, gains_loan, picked};
 
     /// Its handles, oldest first.
     #[inline(always)]
@@ -55,7 +55,7 @@ impl StoredSeat {
     pub fn lend(&mut self, entry: Entry)
         requires rests { is_busy self.old.seat.local ≡ false }
         requires may { MayLend self.old entry.number entry.port }
-        ensures { self.new ≡ lent self.old entry }
+        ensures { self.new ≡ gains_loan self.old entry }
     {
         self.entries.add(entry);
         self.desks.count_loan(entry.port);

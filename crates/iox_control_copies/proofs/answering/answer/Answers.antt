@@ -1,7 +1,7 @@
 use Rattle.std.proofs.Common.{ap, subst, sym, ◌∙◌}
 use Rattle.std.specs.Option.{option_map}
 use Rattle.iox_slots.specs.Pools.{free_count}
-use Rattle.iox_control_lending.specs.Lends.{IsTold, lender_of, refusal_of}
+use Rattle.iox_control_lending.specs.Lends.{IsLoanRefusal, lender_of, refusal_of}
 use Rattle.iox_control_copies.proofs.Outcomes.{answers_in_order, answers_left, dry_left, shut_of, some_of, sound_of, still_of}
 use Rattle.iox_control_copies.proofs.answering.answer.Goals as goal
 
@@ -9,20 +9,20 @@ pub returns-then-free_len-eq0-clause-left : goal.returns-then-free_len-eq0-claus
 returns-then-free_len-eq0-clause-left c =
     dry_left c.args.control.now c.retrieve_all.new.control c.args.lender c.requires.port c.requires.order c.requires.server c.args.asked
     c.retrieve_all.ensures.left c.retrieve_all.ensures.back
-    (λ p is. subst (λ o. IsTold c.args.control.now.tables (lender_of p c.args.lender) c.args.asked (option_map refusal_of o)) c.in_default.is (c.loan_refusal.ensures.told p is))
+    (λ p is. subst (λ o. IsLoanRefusal c.args.control.now.tables (lender_of p c.args.lender) c.args.asked (option_map refusal_of o)) c.in_default.is (c.loan_refusal.ensures.told p is))
     (ap (λ ps. free_count ps c.args.lender.port.pool) (sym c.pools.ensures) ∙ sym c.free_len.ensures ∙ c.if-free_len-eq0.true)
 
 pub copy_free-requires-clause-port : goal.copy_free-requires-clause-port
 copy_free-requires-clause-port c =
     still_of c.args.control.now c.retrieve_all.new.control c.args.lender c.requires.port c.requires.order c.requires.server c.args.asked
     c.retrieve_all.ensures.left c.retrieve_all.ensures.back
-    (λ p is. subst (λ o. IsTold c.args.control.now.tables (lender_of p c.args.lender) c.args.asked (option_map refusal_of o)) c.in_default.is (c.loan_refusal.ensures.told p is))
+    (λ p is. subst (λ o. IsLoanRefusal c.args.control.now.tables (lender_of p c.args.lender) c.args.asked (option_map refusal_of o)) c.in_default.is (c.loan_refusal.ensures.told p is))
 
 pub returns-clause-left : goal.returns-clause-left
 returns-clause-left c =
     answers_left c.args.control.now c.retrieve_all.new.control c.args.lender c.requires.port c.requires.order c.requires.server c.args.asked
     c.retrieve_all.ensures.left c.retrieve_all.ensures.back
-    (λ p is. subst (λ o. IsTold c.args.control.now.tables (lender_of p c.args.lender) c.args.asked (option_map refusal_of o)) c.in_default.is (c.loan_refusal.ensures.told p is))
+    (λ p is. subst (λ o. IsLoanRefusal c.args.control.now.tables (lender_of p c.args.lender) c.args.asked (option_map refusal_of o)) c.in_default.is (c.loan_refusal.ensures.told p is))
     c.retrieve_all.ensures.order
     (some_of c.free_len.result (free_count c.retrieve_all.new.control.tables.pools c.args.lender.port.pool)
     (c.free_len.ensures ∙ ap (λ ps. free_count ps c.args.lender.port.pool) c.pools.ensures) c.if-free_len-eq0.false)
@@ -36,7 +36,7 @@ pub returns-clause-order : goal.returns-clause-order
 returns-clause-order c =
     answers_in_order c.args.control.now c.retrieve_all.new.control c.args.lender c.requires.port c.requires.order c.requires.server c.args.asked
     c.retrieve_all.ensures.left c.retrieve_all.ensures.back
-    (λ p is. subst (λ o. IsTold c.args.control.now.tables (lender_of p c.args.lender) c.args.asked (option_map refusal_of o)) c.in_default.is (c.loan_refusal.ensures.told p is))
+    (λ p is. subst (λ o. IsLoanRefusal c.args.control.now.tables (lender_of p c.args.lender) c.args.asked (option_map refusal_of o)) c.in_default.is (c.loan_refusal.ensures.told p is))
     c.retrieve_all.ensures.order
     (some_of c.free_len.result (free_count c.retrieve_all.new.control.tables.pools c.args.lender.port.pool)
     (c.free_len.ensures ∙ ap (λ ps. free_count ps c.args.lender.port.pool) c.pools.ensures) c.if-free_len-eq0.false)

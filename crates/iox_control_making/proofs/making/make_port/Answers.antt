@@ -1,7 +1,7 @@
 use Rattle.std.proofs.Common.{◌≡◌, ◌⊎◌, false, refl, subst}
 use Rattle.iox_control_making.specs.declared.asked.NotMade.TheVariants.{DataSegment}
 use Rattle.iox_control_making.specs.declared.sizes.Sizes.{Sizes}
-use Rattle.iox_control_making.specs.Making.{HasRoomFor}
+use Rattle.iox_control_making.specs.Making.{HasRoomForPorts}
 use Rattle.iox_control_making.proofs.Made.{control_is, fresh_is, more_room, tables_are, tests}
 use Rattle.iox_control_making.proofs.Told.{made_whole, no_memory, refused_whole}
 use Rattle.iox_control_making.proofs.making.make_port.Goals as goal
@@ -17,7 +17,7 @@ returns-in-Err-clause-whole_refused c x o is =
 pub returns-in_default-clause-order : goal.returns-in_default-clause-order
 returns-in_default-clause-order c =
     more_room c.args.control.now c.prepare.new.control c.args.role c.args.asked.size c.requires.order c.in_default.ensures.unchanged c.in_default.ensures.more
-    (subst (λ (s : Sizes). (c.prepare.new.control.room ≡ c.args.control.now.room) ⊎ HasRoomFor c.prepare.new.control s) c.in-Ok.ensures.after c.in_default.ensures.counted)
+    (subst (λ (s : Sizes). (c.prepare.new.control.room ≡ c.args.control.now.room) ⊎ HasRoomForPorts c.prepare.new.control s) c.in-Ok.ensures.after c.in_default.ensures.counted)
 
 pub returns-in_default-clause-whole_refused : goal.returns-in_default-clause-whole_refused
 returns-in_default-clause-whole_refused c x o is =
@@ -47,7 +47,7 @@ returns-clause-order c =
     c.requires.order.order c.requires.order.ports c.requires.order.counted
     c.prepare.new.control c.join.new.control c.in-Ok-prepare.parts c.in-Ok-prepare.ensures.pool c.in-Ok-prepare.ensures.parts c.join.ensures
     c.requires.order.buffers
-    (subst (HasRoomFor c.prepare.new.control) c.in-Ok.ensures.after c.in-Ok-prepare.ensures.handles)
+    (subst (HasRoomForPorts c.prepare.new.control) c.in-Ok.ensures.after c.in-Ok-prepare.ensures.handles)
 
 pub returns-clause-whole : goal.returns-clause-whole
 returns-clause-whole c x words o is others =

@@ -3,7 +3,7 @@ use Rattle.std.proofs.lemmas.Grind.{common_steps}
 use Rattle.std.proofs.lemmas.Fn.{called_at}
 use Rattle.std.specs.Fn.{CalledAt}
 use Rattle.iox_words.specs.declared.callback_progression.CallbackProgression.TheVariants.{Continue, Stop}
-use Rattle.iox_attributes.specs.Visits.{Visits}
+use Rattle.iox_attributes.specs.Visits.{VisitsInOrder}
 use Rattle.iox_hub.proofs.VisitLemmas.{none_visited, one_visited}
 use Rattle.iox_hub.proofs.listings.list_ids.Goals as goal
 
@@ -12,7 +12,7 @@ loop-at-preserved-in_default g c = record {
   callable = c.loop-at.invariant.callable;
   visits = λ rest.
       c.loop-at.invariant.visits
-      (subst (Visits (CalledAt g.F.FnMut) c.loop-at.callback)
+      (subst (VisitsInOrder (CalledAt g.F.FnMut) c.loop-at.callback)
       (sym (none_visited c.args.role c.args.ports.now.ports c.loop-at.at (omega (arith, c.loop-at-test.true, c.loop-at.invariant.size))
       (sym c.id_at.ensures ∙ c.in_default.is)))
       rest);
@@ -24,7 +24,7 @@ returns-then-eq g c =
     let stop : c.callback.result ≡ Stop = first_of (search rules, grind (arith, common_steps)) in
     let call : CalledAt g.F.FnMut c.loop-at.callback c.new.result Stop c.callback.new.self = called_at g.F.FnMut c.callback.ensures stop in
     c.loop-at.invariant.visits
-    (subst (Visits (CalledAt g.F.FnMut) c.loop-at.callback)
+    (subst (VisitsInOrder (CalledAt g.F.FnMut) c.loop-at.callback)
     (sym (one_visited c.args.role c.args.ports.now.ports c.loop-at.at c.in-Some.id
     (omega (arith, c.loop-at-test.true, c.loop-at.invariant.size)) (sym c.id_at.ensures ∙ c.in-Some.is)))
     (c.callback.new.self, inl (subst (λ id. CalledAt g.F.FnMut c.loop-at.callback id Stop c.callback.new.self) c.new.ensures call)))
@@ -37,7 +37,7 @@ loop-at-preserved g c =
       callable = search (rules, of_calls);
       visits = λ rest.
           c.loop-at.invariant.visits
-          (subst (Visits (CalledAt g.F.FnMut) c.loop-at.callback)
+          (subst (VisitsInOrder (CalledAt g.F.FnMut) c.loop-at.callback)
           (sym (one_visited c.args.role c.args.ports.now.ports c.loop-at.at c.in-Some.id
           (omega (arith, c.loop-at-test.true, c.loop-at.invariant.size)) (sym c.id_at.ensures ∙ c.in-Some.is))) (
             c.callback.new.self,

@@ -1,7 +1,7 @@
 use Rattle.std.proofs.Common.{length}
 use Rattle.std.specs.Prelude.{map}
 use Rattle.std.specs.Fn.{CalledAt}
-use Rattle.iox_attributes.specs.Visits.{Visits}
+use Rattle.iox_attributes.specs.Visits.{VisitsInOrder}
 use Rattle.iox_members.specs.declared.member.Member.{Member}
 use Rattle.iox_members.proofs.lists.list_ids.Given as goal
 
@@ -9,8 +9,8 @@ use Rattle.iox_members.proofs.lists.list_ids.Given as goal
 abbrev pub invariant-loop-first : goal.invariant-loop-first
 invariant-loop-first g l = record {
   callable : goal.F-IsAlwaysCallable g l.callback;
-  visits : Visits (CalledAt g.F.FnMut) l.callback (map (λ (m : Member). m.id) l.rest) →
-      Visits (CalledAt g.F.FnMut) l.fn.callback (map (λ (m : Member). m.id) l.fn.nodes);
+  visits : VisitsInOrder (CalledAt g.F.FnMut) l.callback (map (λ (m : Member). m.id) l.rest) →
+      VisitsInOrder (CalledAt g.F.FnMut) l.fn.callback (map (λ (m : Member). m.id) l.fn.nodes);
 }
 
 abbrev pub decreases-loop-first : goal.decreases-loop-first

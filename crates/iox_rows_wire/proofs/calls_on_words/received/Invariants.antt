@@ -1,5 +1,5 @@
 use Rattle.std.proofs.Common.{◌≡◌, ◌≤◌}
-use Rattle.iox_wire_nodes.specs.ReceivesAims.{HasRoomFor, MayReceive}
+use Rattle.iox_wire_nodes.specs.ReceivesAims.{MayTakeOneMore, MayReceive}
 use Rattle.iox_rows_wire.proofs.calls_on_words.received.Given as goal
 
 abbrev pub invariant-loop-made : goal.invariant-loop-made
@@ -7,5 +7,5 @@ invariant-loop-made l = record {
   accesses : l.seat.seat.accesses ≡ l.made;
   below : l.made ≤ 30;
   may : MayReceive l.seat l.receiving.terms.number;
-  counts : HasRoomFor l.seat.seat l.receiving.local;
+  counts : MayTakeOneMore l.seat.seat l.receiving.local;
 }

@@ -2,7 +2,7 @@ use Rattle.std.proofs.Common.{◌≤◌, ◌*◌, sym, subst}
 use Rattle.iox_wire_messages.specs.Plans.{number_at}
 use Rattle.iox_wire_copies.specs.declared.payload_places.PayloadPlaces.{PayloadPlaces}
 use Rattle.iox_wire_copies.specs.Copies.{ArePayloads}
-use Rattle.iox_wire_copies.specs.Payloads.{HasRoom}
+use Rattle.iox_wire_copies.specs.Payloads.{SlotsHold}
 use Rattle.iox_wire_messages.specs.Tables.{port_shape}
 use Rattle.iox_wire_ways.specs.PlannedSlots.{element_words, planned_slots}
 use Rattle.iox_wire_ways.proofs.SlotLemmas.{are_payloads, longest_there, payloads_have_room, planned_fits}
@@ -15,7 +15,7 @@ returns-clause-payloads c p setting =
 
 pub returns-clause-room : goal.returns-clause-room
 returns-clause-room c =
-    subst (HasRoom (planned_slots c.args.map.now c.args.port)) (sym c.planned_behind.ensures)
+    subst (SlotsHold (planned_slots c.args.map.now c.args.port)) (sym c.planned_behind.ensures)
     (payloads_have_room c.args.map.now c.plan-plan.ensures.plan c.args.port c.requires.slot c.requires.header)
 
 pub returns-clause-fits : goal.returns-clause-fits

@@ -11,6 +11,7 @@ use Rattle.iox_hub_laws.specs.HandlerWords.{shown_by}
 use Rattle.iox_hub_laws.specs.Waiting.{server_of}
 use Rattle.iceoryx2_ports.specs.Makings.{IsMadeAs}
 use Rattle.iceoryx2_ports.proofs.Idle.{made_is_idle, making_brings_nothing, making_keeps_room}
+use Rattle.iceoryx2_ports.proofs.Making.{making_asks_as_before, making_keeps_requests}
 use Rattle.iceoryx2_ports.proofs.MadeAs.{server_made_as}
 use Rattle.iceoryx2_ports.proofs.Telling.{made_as}
 use Rattle.iceoryx2_ports.proofs.SameShapes.{made_shapes}
@@ -110,3 +111,43 @@ returns-in-Ok-clause-made g c =
     subst (λ (n : ℕ). IsMadeAs c.make_port.new.self n c.args.hub.now.response c.args.self.options) (sym c.new.ensures.number)
     (server_made_as c.args.hub.now c.make_port.new.self c.is_in_order.ensures c.args.self.node c.args.self.node_id c.args.self.options
     (option_map (shown_by g.H.Backpressure.action) c.args.self.handler) c.in-Ok.number c.in-Ok.ensures.whole)
+
+pub returns-in-Ok-clause-asks : goal.returns-in-Ok-clause-asks
+returns-in-Ok-clause-asks g c =
+    making_asks_as_before c.args.hub.now c.make_port.new.self c.is_in_order.ensures c.args.self.node roles.Server c.args.self.node_id
+    (options_with c.args.self.options (option_map (shown_by g.H.Backpressure.action) c.args.self.handler)) (reply_of_making roles.Server c.make_port.result) c.make_port.ensures.whole
+
+pub returns-in-Ok-clause-requests : goal.returns-in-Ok-clause-requests
+returns-in-Ok-clause-requests g c =
+    making_keeps_requests c.args.hub.now c.make_port.new.self c.is_in_order.ensures c.args.self.node roles.Server c.args.self.node_id
+    (options_with c.args.self.options (option_map (shown_by g.H.Backpressure.action) c.args.self.handler)) (reply_of_making roles.Server c.make_port.result) c.make_port.ensures.whole
+
+pub returns-in-Err-PortTag-clause-asks : goal.returns-in-Err-PortTag-clause-asks
+returns-in-Err-PortTag-clause-asks g c =
+    making_asks_as_before c.args.hub.now c.make_port.new.self c.is_in_order.ensures c.args.self.node roles.Server c.args.self.node_id
+    (options_with c.args.self.options (option_map (shown_by g.H.Backpressure.action) c.args.self.handler)) (reply_of_making roles.Server c.make_port.result) c.make_port.ensures.whole
+
+pub returns-in-Err-PortTag-clause-requests : goal.returns-in-Err-PortTag-clause-requests
+returns-in-Err-PortTag-clause-requests g c =
+    making_keeps_requests c.args.hub.now c.make_port.new.self c.is_in_order.ensures c.args.self.node roles.Server c.args.self.node_id
+    (options_with c.args.self.options (option_map (shown_by g.H.Backpressure.action) c.args.self.handler)) (reply_of_making roles.Server c.make_port.result) c.make_port.ensures.whole
+
+pub returns-in-Err-DataSegment-clause-asks : goal.returns-in-Err-DataSegment-clause-asks
+returns-in-Err-DataSegment-clause-asks g c =
+    making_asks_as_before c.args.hub.now c.make_port.new.self c.is_in_order.ensures c.args.self.node roles.Server c.args.self.node_id
+    (options_with c.args.self.options (option_map (shown_by g.H.Backpressure.action) c.args.self.handler)) (reply_of_making roles.Server c.make_port.result) c.make_port.ensures.whole
+
+pub returns-in-Err-DataSegment-clause-requests : goal.returns-in-Err-DataSegment-clause-requests
+returns-in-Err-DataSegment-clause-requests g c =
+    making_keeps_requests c.args.hub.now c.make_port.new.self c.is_in_order.ensures c.args.self.node roles.Server c.args.self.node_id
+    (options_with c.args.self.options (option_map (shown_by g.H.Backpressure.action) c.args.self.handler)) (reply_of_making roles.Server c.make_port.result) c.make_port.ensures.whole
+
+pub returns-in-Err-TooManyPorts-clause-asks : goal.returns-in-Err-TooManyPorts-clause-asks
+returns-in-Err-TooManyPorts-clause-asks g c =
+    making_asks_as_before c.args.hub.now c.make_port.new.self c.is_in_order.ensures c.args.self.node roles.Server c.args.self.node_id
+    (options_with c.args.self.options (option_map (shown_by g.H.Backpressure.action) c.args.self.handler)) (reply_of_making roles.Server c.make_port.result) c.make_port.ensures.whole
+
+pub returns-in-Err-TooManyPorts-clause-requests : goal.returns-in-Err-TooManyPorts-clause-requests
+returns-in-Err-TooManyPorts-clause-requests g c =
+    making_keeps_requests c.args.hub.now c.make_port.new.self c.is_in_order.ensures c.args.self.node roles.Server c.args.self.node_id
+    (options_with c.args.self.options (option_map (shown_by g.H.Backpressure.action) c.args.self.handler)) (reply_of_making roles.Server c.make_port.result) c.make_port.ensures.whole

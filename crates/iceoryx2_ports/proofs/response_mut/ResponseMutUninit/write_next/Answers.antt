@@ -1,5 +1,6 @@
-use Rattle.std.specs.Prelude.{false}
+use Rattle.std.specs.Prelude.{false, refl}
 use Rattle.iox_model.specs.declared.kind.Kind.TheVariants.{ResponseMutUninit}
+use Rattle.iceoryx2_ports.proofs.FilledLoans.{filled_answers_as, filled_asks, filled_comes, filled_requests, filled_room}
 use Rattle.iceoryx2_ports.proofs.SameShapes.{filled_keeps, filled_shapes}
 use Rattle.iceoryx2_ports.proofs.response_mut.ResponseMutUninit.write_next.Goals as goal
 
@@ -8,3 +9,18 @@ returns-clause-keeps g c = filled_keeps c.args.hub.now c.write_next_response.new
 
 pub returns-clause-shapes : goal.returns-clause-shapes
 returns-clause-shapes g c = filled_shapes c.args.hub.now c.write_next_response.new.self c.args.self.now.node c.args.self.now.number false _ c.write_next_response.ensures ResponseMutUninit c.requires.has
+
+pub returns-clause-answers : goal.returns-clause-answers
+returns-clause-answers g c = filled_answers_as c.args.hub.now c.write_next_response.new.self c.args.self.now.node c.args.self.now.number false _ c.write_next_response.ensures ResponseMutUninit refl refl c.requires.has
+
+pub returns-clause-comes : goal.returns-clause-comes
+returns-clause-comes g c = filled_comes c.args.hub.now c.write_next_response.new.self c.args.self.now.node c.args.self.now.number false _ c.write_next_response.ensures ResponseMutUninit refl refl c.requires.has
+
+pub returns-clause-asks : goal.returns-clause-asks
+returns-clause-asks g c = filled_asks c.args.hub.now c.write_next_response.new.self c.args.self.now.node c.args.self.now.number false _ c.write_next_response.ensures ResponseMutUninit refl refl c.requires.has
+
+pub returns-clause-room : goal.returns-clause-room
+returns-clause-room g c = filled_room c.args.hub.now c.write_next_response.new.self c.args.self.now.node c.args.self.now.number false _ c.write_next_response.ensures ResponseMutUninit refl refl c.requires.has
+
+pub returns-clause-requests : goal.returns-clause-requests
+returns-clause-requests g c = filled_requests c.args.hub.now c.write_next_response.new.self c.args.self.now.node c.args.self.now.number false _ c.write_next_response.ensures ResponseMutUninit refl refl c.requires.has

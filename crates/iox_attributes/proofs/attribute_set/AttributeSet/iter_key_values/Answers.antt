@@ -3,7 +3,7 @@ use Rattle.std.proofs.lemmas.Grind.{common_steps}
 use Rattle.std.specs.Fn.{CalledAt}
 use Rattle.iox_names.specs.Texts.{text_eq}
 use Rattle.iox_attributes.specs.Sets.{values_of}
-use Rattle.iox_attributes.specs.Visits.{Visits}
+use Rattle.iox_attributes.specs.Visits.{VisitsInOrder}
 use Rattle.iox_words.specs.declared.callback_progression.CallbackProgression.TheVariants.{Stop}
 use Rattle.iox_attributes.proofs.ValueLemmas.{values-here}
 use Rattle.iox_attributes.proofs.attribute_set.AttributeSet.iter_key_values.Goals as goal
@@ -20,5 +20,5 @@ returns-then-eq-2 g c =
     let call : CalledAt g.F.FnMut c.loop-first.callback c.in-Some.first.now.value Stop c.callback.new.self =
     search (rules, of_calls) in
     c.loop-first.invariant.visits
-    (subst (λ (items : List (List ℕ)). Visits (CalledAt g.F.FnMut) c.loop-first.callback items) (sym values)
+    (subst (λ (items : List (List ℕ)). VisitsInOrder (CalledAt g.F.FnMut) c.loop-first.callback items) (sym values)
     (c.callback.new.self, inl call))

@@ -5,7 +5,7 @@ use Rattle.std.proofs.lemmas.Fn.{called_at}
 use Rattle.iox_words.specs.declared.callback_progression.CallbackProgression.TheVariants.{Stop, Continue}
 use Rattle.iox_registry.specs.Registers.{details_in}
 use Rattle.iox_registry.specs.Standing.{shown_slots}
-use Rattle.iox_attributes.specs.Visits.{Visits}
+use Rattle.iox_attributes.specs.Visits.{VisitsInOrder}
 use Rattle.iox_registry.proofs.register.Register.list.Goals as goal
 
 pub returns-then-eq : goal.returns-then-eq

@@ -2,7 +2,7 @@ use Rattle.std.specs.Prelude.{is_none, option_map}
 use Rattle.std.proofs.Common.{ap, subst, ◌∙◌}
 use Rattle.iox_model.specs.declared.call.WireCall.TheVariants.{Port}
 use Rattle.iox_wire_weaves.specs.Calls.{call_in}
-use Rattle.iox_wire_weaves.specs.Nodes.{Node, seat_in}
+use Rattle.iox_wire_weaves.specs.Nodes.{NodeView, seat_in}
 use Rattle.iox_wire_weaves.specs.NodesBegins.{IsUnderWay, begun_at}
 use Rattle.iox_wire_weaves.specs.Rooms.{KeepsRooms}
 use Rattle.iox_wire_weaves.specs.Wires.{WireNode}
@@ -24,12 +24,12 @@ returns-clause-begun c =
       read = c.self.inside.read.items;
     })
     c.keep.new.self c.requires.setting
-    (λ p setting. subst (λ (k : Node). IsUnderWay p k (Port (call_in p (seat_in k) c.args.call)) c.begin.new.self)
+    (λ p setting. subst (λ (k : NodeView). IsUnderWay p k (Port (call_in p (seat_in k) c.args.call)) c.begin.new.self)
     (ap (λ (m : WireNode). m.node) c.self.view_is) (c.in_default.ensures.begun p setting))
     c.in_default.ensures.adds c.in_default.ensures.at
     (λ p. c.in_default.ensures.role p ∙ ap (λ (m : WireNode). begun_at m.node.seat.seat.table (Port (call_in p (seat_in m.node) c.args.call))) c.self.view_is)
     c.if-lacks_room.ensures.room c.requires.lends
-    (subst (λ (k : Node). KeepsRooms k c.begin.new.self) (ap (λ (m : WireNode). m.node) c.self.view_is) c.in_default.ensures.rooms)
+    (subst (λ (k : NodeView). KeepsRooms k c.begin.new.self) (ap (λ (m : WireNode). m.node) c.self.view_is) c.in_default.ensures.rooms)
     (ap (λ (m : WireNode). m.number) c.self.view_is)
     (record { alive = ap (λ (m : WireNode). m.alive) c.self.view_is; died = ap (λ (m : WireNode). m.died) c.self.view_is; longest = ap (λ (m : WireNode). m.longest) c.self.view_is })
     (ap (λ (m : WireNode). m.read) c.self.view_is)

@@ -2,7 +2,7 @@ use Rattle.std.specs.Prelude.{IfSome, position, vec_capacity, vec_len}
 use Rattle.std.proofs.Common.{◌≡◌, ℕ, ◌+◌, ◌-◌, ◌<◌, ◌≤◌, ◌==◌, ◌++◌, List, None, Some, ap, arith, length, refl, subst, sym, ◌∙◌, slice_set}
 use Rattle.std.proofs.lemmas.List.{length-map}
 use Rattle.iox_steps.specs.declared.access.Progress.TheVariants.{Done, Going}
-use Rattle.iox_wire_weaves.specs.Nodes.{Node, answered_at}
+use Rattle.iox_wire_weaves.specs.Nodes.{NodeView, answered_at}
 use Rattle.iox_wire_weaves.specs.Replies.{most_words}
 use Rattle.iox_wire_weaves.specs.Steps.{IsWireCallAt, MakesOneAccess, finished_by, read_after, recorded, step_refusal}
 use Rattle.iox_wire_weaves.specs.Wires.{Shows, WireData, WireNode, node_at}
@@ -131,7 +131,7 @@ returns-in_default-clause-weave c p r shows =
     c.make_access-seen.result c.make_access-seen.new.words.items c.event-told.result c.make_access-seen.ensures.seen c.make_access-seen.ensures.words (λ q aimed. c.event-told.ensures q aimed)
     None c.go_on.new.self c.go_on.new.self c.in_default.ensures.made c.in_default.ensures.number c.in_default.ensures.lives c.in_default.ensures.call c.in_default.ensures.rooms (goes_on c.go_on.new.self)
     c.self.inside.replies.finished (events_by c.note.new.events.items) _ noted replied p r (subst (λ (v : WireData). Shows p v r) (sym c.self.view_is) shows) in
-    (s.1, s.2, s.3, s.4, s.5, s.6)
+    s.1
 
 pub returns-in_default-clause-read : goal.returns-in_default-clause-read
 returns-in_default-clause-read c x y before after =
@@ -195,7 +195,7 @@ returns-clause-weave c p r shows =
     c.make_access-seen.result c.make_access-seen.new.words.items c.event-told.result c.make_access-seen.ensures.seen c.make_access-seen.ensures.words (λ q aimed. c.event-told.ensures q aimed)
     (Some c.in-Some.reply) c.go_on.new.self c.tell.new.self c.in-Some.ensures.made c.in-Some.ensures.number c.in-Some.ensures.lives c.in-Some.ensures.call c.in-Some.ensures.rooms
     (is_over c.in-Some.reply c.go_on.new.self c.tell.new.self _ c.tell.ensures.over) c.tell.new.replies.finished (events_by c.note.new.events.items) _ noted replied p r (subst (λ (v : WireData). Shows p v r) (sym c.self.view_is) shows) in
-    (s.1, s.2, s.3, s.4, s.5, s.6)
+    s.1
 
 pub returns-clause-own : goal.returns-clause-own
 returns-clause-own c =
@@ -216,5 +216,5 @@ returns-clause-read c x y before after =
     c.make_access-seen.result c.make_access-seen.new.words.items c.event-told.result c.make_access-seen.ensures.seen c.make_access-seen.ensures.words (λ q aimed. c.event-told.ensures q aimed)
     (Done c.in-Some.reply) c.go_on.new.self c.tell.new.self _ refl (ap (λ (m : WireNode). m.number) c.tell.ensures.over ∙ c.in-Some.ensures.number) c.in-Some.ensures.read
     (ap (λ (m : WireNode). m.read) c.tell.ensures.over
-    ∙ ap (λ (k : Node). read_after c.go_on.new.self.read k.seat.words (Some c.in-Some.reply)) (sym (ap (λ (m : WireNode). m.node) c.tell.ensures.over)))
+    ∙ ap (λ (k : NodeView). read_after c.go_on.new.self.read k.seat.words (Some c.in-Some.reply)) (sym (ap (λ (m : WireNode). m.node) c.tell.ensures.over)))
     x y (ap (λ (v : WireData). node_at c.args.node v.nodes) c.self.view_is ∙ before) after

@@ -5,7 +5,7 @@ use Rattle.iox_wire_openings.proofs.OpenedLemmas.{one_more}
 use Rattle.iox_wire.specs.declared.entry.WireEntry.{WireEntry}
 use Rattle.iox_wire.specs.declared.entry.WireEntry.TheVariants.{Begin}
 use Rattle.iox_wire_weaves.specs.NodeCall.TheVariants.{Loan}
-use Rattle.iox_wire.specs.Schedules.{AreEntered, IsPlayed, WantsMemory}
+use Rattle.iox_wire.specs.Schedules.{AreEntered, EntriesArePlayed, WantsMemory}
 use Rattle.iox_wire.proofs.Playing as playing
 use Rattle.iox_wire.proofs.Playing.{played, so_on_err, take_whole, woven_by, woven_on}
 use Rattle.iox_wire.proofs.wire.Wire.run.Goals as goal
@@ -30,7 +30,7 @@ returns-clause-weave c = (
 
 pub returns-clause-whole : goal.returns-clause-whole
 returns-clause-whole c =
-    subst (λ es. IsPlayed c.args.self.now es c.loop-entry.self)
+    subst (λ es. EntriesArePlayed c.args.self.now es c.loop-entry.self)
     (take_whole c.args.schedule.now c.loop-entry.entry-index (omega (arith, c.loop-entry-test.false)))
     (played c.args.self.now c.loop-entry.self (take c.loop-entry.entry-index c.args.schedule.now) c.loop-entry.invariant.entered)
 

@@ -46,7 +46,7 @@ returns-in-Some-Made-clause-next c p aimed =
     let led : copies.GoesOn c.args.seat.now c.self.inside.lends c.args.seen c.go_on.new.seat c.go_on.new.self (Some Made) =
     subst (λ (o : Option CopyLent). copies.GoesOn c.args.seat.now c.self.inside.lends c.args.seen c.go_on.new.seat c.go_on.new.self o) (c.in-Some-Made.is ∙ ap (λ (l : CopyLent). Some l) c.in-Some-Made.field-0-is) c.go_on.ensures.next in
     let made : c.go_on.new.self.loan ≡ entry_in (loan_of c.go_on.new.self.lending.order) c.go_on.new.self.loan.slot =
-    subst (copies.IsMade c.go_on.new.self) (c.in-Some-Made.is ∙ ap (λ (l : CopyLent). Some l) c.in-Some-Made.field-0-is) c.go_on.ensures.made in
+    subst (copies.IsLoanOfOrder c.go_on.new.self) (c.in-Some-Made.is ∙ ap (λ (l : CopyLent). Some l) c.in-Some-Made.field-0-is) c.go_on.ensures.made in
     let aim : IsAimed p c.args.seat.now.seat (the_view c.self.inside) = subst (IsAimed p c.args.seat.now.seat) (sym c.self.view_is) aimed in
     let leads : LeadsTo p c.go_on.new.seat.seat c.go_on.new.self.loan c.send.new.seat c.send.new.self c.send.result =
     made_leads p c.args.seat.now c.go_on.new.seat c.send.new.seat (the_view c.self.inside) c.send.new.self c.go_on.new.self c.args.seen c.send.result lends
@@ -63,7 +63,7 @@ returns-in-Some-Made-clause-over c p aimed =
     let led : copies.GoesOn c.args.seat.now c.self.inside.lends c.args.seen c.go_on.new.seat c.go_on.new.self (Some Made) =
     subst (λ (o : Option CopyLent). copies.GoesOn c.args.seat.now c.self.inside.lends c.args.seen c.go_on.new.seat c.go_on.new.self o) (c.in-Some-Made.is ∙ ap (λ (l : CopyLent). Some l) c.in-Some-Made.field-0-is) c.go_on.ensures.next in
     let made : c.go_on.new.self.loan ≡ entry_in (loan_of c.go_on.new.self.lending.order) c.go_on.new.self.loan.slot =
-    subst (copies.IsMade c.go_on.new.self) (c.in-Some-Made.is ∙ ap (λ (l : CopyLent). Some l) c.in-Some-Made.field-0-is) c.go_on.ensures.made in
+    subst (copies.IsLoanOfOrder c.go_on.new.self) (c.in-Some-Made.is ∙ ap (λ (l : CopyLent). Some l) c.in-Some-Made.field-0-is) c.go_on.ensures.made in
     let aim : IsAimed p c.args.seat.now.seat (the_view c.self.inside) = subst (IsAimed p c.args.seat.now.seat) (sym c.self.view_is) aimed in
     let leads : LeadsTo p c.go_on.new.seat.seat c.go_on.new.self.loan c.send.new.seat c.send.new.self c.send.result =
     made_leads p c.args.seat.now c.go_on.new.seat c.send.new.seat (the_view c.self.inside) c.send.new.self c.go_on.new.self c.args.seen c.send.result lends
@@ -80,7 +80,7 @@ returns-in-Some-Made-clause-aimed c p aimed of_slot =
     let led : copies.GoesOn c.args.seat.now c.self.inside.lends c.args.seen c.go_on.new.seat c.go_on.new.self (Some Made) =
     subst (λ (o : Option CopyLent). copies.GoesOn c.args.seat.now c.self.inside.lends c.args.seen c.go_on.new.seat c.go_on.new.self o) (c.in-Some-Made.is ∙ ap (λ (l : CopyLent). Some l) c.in-Some-Made.field-0-is) c.go_on.ensures.next in
     let made : c.go_on.new.self.loan ≡ entry_in (loan_of c.go_on.new.self.lending.order) c.go_on.new.self.loan.slot =
-    subst (copies.IsMade c.go_on.new.self) (c.in-Some-Made.is ∙ ap (λ (l : CopyLent). Some l) c.in-Some-Made.field-0-is) c.go_on.ensures.made in
+    subst (copies.IsLoanOfOrder c.go_on.new.self) (c.in-Some-Made.is ∙ ap (λ (l : CopyLent). Some l) c.in-Some-Made.field-0-is) c.go_on.ensures.made in
     let aim : IsAimed p c.args.seat.now.seat (the_view c.self.inside) = subst (IsAimed p c.args.seat.now.seat) (sym c.self.view_is) aimed in
     let leads : LeadsTo p c.go_on.new.seat.seat c.go_on.new.self.loan c.send.new.seat c.send.new.self c.send.result =
     made_leads p c.args.seat.now c.go_on.new.seat c.send.new.seat (the_view c.self.inside) c.send.new.self c.go_on.new.self c.args.seen c.send.result lends

@@ -12,9 +12,9 @@ use Rattle.iox_wire_copies.specs.declared.at.CopierAt.TheVariants as at
 use Rattle.iox_wire_copies.specs.declared.at.CopyLent.{CopyLent}
 use Rattle.iox_wire_copies.specs.declared.at.CopyLent.TheVariants.{Made}
 use Rattle.iox_wire_copies.specs.CopyAims as copies
-use Rattle.iox_wire_copies.specs.CopyAims.{IsHeld, IsHeldMade}
+use Rattle.iox_wire_copies.specs.CopyAims.{MayBeGivenUp, IsHeldMade}
 use Rattle.iox_wire_copies.specs.Copiers.{IsLending, local_of}
-use Rattle.iox_wire_copies.specs.ResponseCopies.{Answers, ResponseCopy, IsAimed, LeadsTo, MayEnd, MayEndCall, SendsTo, StaysAimed}
+use Rattle.iox_wire_copies.specs.ResponseCopies.{Answers, ResponseCopy, IsAimed, LeadsTo, LoanMayEnd, MayEndCall, SendsTo, StaysAimed}
 use Rattle.iox_wire_copies.proofs.CopierLemmas.{copier_lends}
 use Rattle.iox_wire_copies.proofs.RespondLemmas.{Lends, held_is_used, lends_aimed, lends_over, made_leads, made_next, made_over}
 use Rattle.iox_wire_copies.proofs.copying_server.CopyingServer.lend_on.Goals as goal
@@ -44,7 +44,7 @@ returns-in-Some-Made-clause-next c p aimed =
     let led : copies.GoesOn c.args.seat.now c.self.inside.lends c.args.seen c.go_on.new.seat c.go_on.new.self (Some Made) =
     subst (λ (o : Option CopyLent). copies.GoesOn c.args.seat.now c.self.inside.lends c.args.seen c.go_on.new.seat c.go_on.new.self o) (c.in-Some-Made.is ∙ ap (λ (l : CopyLent). Some l) c.in-Some-Made.field-0-is) c.go_on.ensures.next in
     let made : c.go_on.new.self.loan ≡ entry_in (loan_of c.go_on.new.self.lending.order) c.go_on.new.self.loan.slot =
-    subst (copies.IsMade c.go_on.new.self) (c.in-Some-Made.is ∙ ap (λ (l : CopyLent). Some l) c.in-Some-Made.field-0-is) c.go_on.ensures.made in
+    subst (copies.IsLoanOfOrder c.go_on.new.self) (c.in-Some-Made.is ∙ ap (λ (l : CopyLent). Some l) c.in-Some-Made.field-0-is) c.go_on.ensures.made in
     let aim : IsAimed p c.args.seat.now.seat (the_view c.self.inside) = subst (IsAimed p c.args.seat.now.seat) (sym c.self.view_is) aimed in
     let leads : LeadsTo p c.go_on.new.seat.seat c.go_on.new.self.loan c.send.new.seat c.send.new.self c.send.result =
     made_leads p c.args.seat.now c.go_on.new.seat c.send.new.seat (the_view c.self.inside) c.send.new.self c.go_on.new.self c.send.result lends
@@ -59,7 +59,7 @@ returns-in-Some-Made-clause-over c p aimed =
     let led : copies.GoesOn c.args.seat.now c.self.inside.lends c.args.seen c.go_on.new.seat c.go_on.new.self (Some Made) =
     subst (λ (o : Option CopyLent). copies.GoesOn c.args.seat.now c.self.inside.lends c.args.seen c.go_on.new.seat c.go_on.new.self o) (c.in-Some-Made.is ∙ ap (λ (l : CopyLent). Some l) c.in-Some-Made.field-0-is) c.go_on.ensures.next in
     let made : c.go_on.new.self.loan ≡ entry_in (loan_of c.go_on.new.self.lending.order) c.go_on.new.self.loan.slot =
-    subst (copies.IsMade c.go_on.new.self) (c.in-Some-Made.is ∙ ap (λ (l : CopyLent). Some l) c.in-Some-Made.field-0-is) c.go_on.ensures.made in
+    subst (copies.IsLoanOfOrder c.go_on.new.self) (c.in-Some-Made.is ∙ ap (λ (l : CopyLent). Some l) c.in-Some-Made.field-0-is) c.go_on.ensures.made in
     let aim : IsAimed p c.args.seat.now.seat (the_view c.self.inside) = subst (IsAimed p c.args.seat.now.seat) (sym c.self.view_is) aimed in
     let leads : LeadsTo p c.go_on.new.seat.seat c.go_on.new.self.loan c.send.new.seat c.send.new.self c.send.result =
     made_leads p c.args.seat.now c.go_on.new.seat c.send.new.seat (the_view c.self.inside) c.send.new.self c.go_on.new.self c.send.result lends
@@ -74,7 +74,7 @@ returns-in-Some-Made-clause-aimed c p aimed of_slot =
     let led : copies.GoesOn c.args.seat.now c.self.inside.lends c.args.seen c.go_on.new.seat c.go_on.new.self (Some Made) =
     subst (λ (o : Option CopyLent). copies.GoesOn c.args.seat.now c.self.inside.lends c.args.seen c.go_on.new.seat c.go_on.new.self o) (c.in-Some-Made.is ∙ ap (λ (l : CopyLent). Some l) c.in-Some-Made.field-0-is) c.go_on.ensures.next in
     let made : c.go_on.new.self.loan ≡ entry_in (loan_of c.go_on.new.self.lending.order) c.go_on.new.self.loan.slot =
-    subst (copies.IsMade c.go_on.new.self) (c.in-Some-Made.is ∙ ap (λ (l : CopyLent). Some l) c.in-Some-Made.field-0-is) c.go_on.ensures.made in
+    subst (copies.IsLoanOfOrder c.go_on.new.self) (c.in-Some-Made.is ∙ ap (λ (l : CopyLent). Some l) c.in-Some-Made.field-0-is) c.go_on.ensures.made in
     let aim : IsAimed p c.args.seat.now.seat (the_view c.self.inside) = subst (IsAimed p c.args.seat.now.seat) (sym c.self.view_is) aimed in
     let leads : LeadsTo p c.go_on.new.seat.seat c.go_on.new.self.loan c.send.new.seat c.send.new.self c.send.result =
     made_leads p c.args.seat.now c.go_on.new.seat c.send.new.seat (the_view c.self.inside) c.send.new.self c.go_on.new.self c.send.result lends
@@ -85,9 +85,9 @@ pub send-requires-clause-used : goal.send-requires-clause-used
 send-requires-clause-used c =
     let at' : c.self.inside.at ≡ at.Lends = copier_lends c.self.inside.at (subst (λ (r : ResponseCopy). IsLending r.at) (sym c.self.view_is) c.requires.there) in
     let lends : Lends (the_view c.self.inside) = record { at = at'; local = ap (λ (a : CopierAt). local_of a c.self.inside.lends.local c.self.inside.sends.local) at' } in
-    let may : MayEnd c.args.seat.now at.Lends (the_view c.self.inside) =
-    subst (λ (a : CopierAt). MayEnd c.args.seat.now a (the_view c.self.inside)) at' (subst (MayEndCall c.args.seat.now) (sym c.self.view_is) c.requires.may) in
+    let may : LoanMayEnd c.args.seat.now at.Lends (the_view c.self.inside) =
+    subst (λ (a : CopierAt). LoanMayEnd c.args.seat.now a (the_view c.self.inside)) at' (subst (MayEndCall c.args.seat.now) (sym c.self.view_is) c.requires.may) in
     subst (λ (e : Entry). IsUsed e.port e.slot c.go_on.new.seat.seat.desks) (sym c.loan-loan.ensures)
     (held_is_used c.go_on.new.self.loan c.go_on.new.seat.seat.desks
     (subst (IsHeldMade c.go_on.new.seat.seat c.go_on.new.self.loan) (c.in-Some-Made.is ∙ ap (λ (l : CopyLent). Some l) c.in-Some-Made.field-0-is)
-    (c.go_on.ensures.held (subst (IsHeld c.args.seat.now.seat) lends.local may.1))))
+    (c.go_on.ensures.held (subst (MayBeGivenUp c.args.seat.now.seat) lends.local may.1))))

@@ -10,7 +10,7 @@ use Rattle.iox_wire_begins.specs.Begins.{begins_at_port, refusal_at}
 use Rattle.iox_wire_begins.specs.ReceiveCourses.{seeking}
 use Rattle.iox_wire_begins.specs.Aims.{AreQueues}
 use Rattle.iox_wire_begins.specs.Seats.{ways_of}
-use Rattle.iox_wire_nodes.specs.Nodes.{Node, seat_in}
+use Rattle.iox_wire_nodes.specs.Nodes.{NodeView, seat_in}
 use Rattle.iox_wire_nodes.proofs.RestLemmas.{begun_in, looks_at_server, refusal_alike}
 use Rattle.iox_wire_begins.specs.Plans.{most_ways}
 use Rattle.iox_wire_nodes.proofs.RoomsKept.{keeps_seat}
@@ -51,6 +51,6 @@ returns-clause-rooms c = keeps_seat c.self.view_is c.seek.new.self c.seek.ensure
 
 pub seek-requires-clause-fits : goal.seek-requires-clause-fits
 seek-requires-clause-fits c =
-    let room : most_ways c.args.map.now ≤ c.self.inside.seat.ways_room = subst (λ (n : Node). most_ways c.args.map.now ≤ n.seat.ways_room) (sym c.self.view_is) c.requires.rooms.ways in
+    let room : most_ways c.args.map.now ≤ c.self.inside.seat.ways_room = subst (λ (n : NodeView). most_ways c.args.map.now ≤ n.seat.ways_room) (sym c.self.view_is) c.requires.rooms.ways in
     let few = c.list_waiting_requests-queue.ensures.few in let len = ap length c.deref.ensures.value in
     omega (arith, room, few, len)

@@ -1,4 +1,5 @@
-use Rattle.std.proofs.Common.{◌≡◌, None, refl, ap, sym, ◌∙◌}
+use Rattle.std.proofs.Common.{◌≡◌, None, Option, refl, ap, sym, subst, ◌∙◌}
+use Rattle.std.specs.Prelude.{IfSome}
 use Rattle.std.proofs.lemmas.Option.{none-some}
 use Rattle.std.specs.Option.{option_map}
 use Rattle.iox_wire_begins.specs.Seats.{reply_with}
@@ -9,8 +10,11 @@ use Rattle.iox_wire_begins.specs.Dispatches as responses
 use Rattle.iox_wire_begins.specs.CopyCalls as request_copies
 use Rattle.iox_wire_begins.specs.ResponseCopies as response_copies
 use Rattle.iox_wire_nodes.specs.declared.call_at.CallAt.TheVariants as at
-use Rattle.iox_wire_nodes.specs.Nodes.{reply_in}
-use Rattle.iox_wire_nodes.proofs.ReplyLemmas.{over_told}
+use Rattle.iox_wire_begins.specs.RequestReply.{RequestReply}
+use Rattle.iox_wire_begins.specs.RequestSendsAims.{IsToldBy}
+use Rattle.iox_wire_nodes.specs.declared.call_at.NodeReply.{NodeReply}
+use Rattle.iox_wire_nodes.specs.Nodes.{NodeView, answered_at, reply_in}
+use Rattle.iox_wire_nodes.proofs.ReplyLemmas.{over_told, sent_own}
 use Rattle.iox_wire_nodes.proofs.StayLemmas.{request_copy_ready, response_copy_ready, stays_ready}
 use Rattle.iox_wire_nodes.proofs.node.StoredNode.go_on.Goals as goal
 use Rattle.iox_wire_nodes.proofs.node.StoredNode.go_on.Goals.{in-Some, in-None, in-Some-go_on, in-None-go_on, in-Some-go_on-2, in-None-go_on-2, in-Some-go_on-3, in-None-go_on-3, in-Some-go_on-4, in-None-go_on-4, in-Some-go_on-5, in-None-go_on-5, in-Some-go_on-6, in-None-go_on-6}
@@ -124,3 +128,12 @@ returns-after-go_on-7-clause-ready c =
     response_copy_ready p c.self.inside.seat c.go_on-in-CopiesResponse.new.seat c.self.inside.copying_server.local c.go_on-in-CopiesResponse.new.self.local c.args.seen (c.go_on-in-CopiesResponse.ensures.next p aimed) tells_none
     c.self.inside.copying_server c.go_on-in-CopiesResponse.new.self c.go_on-in-CopiesResponse.ensures.same c.go_on-in-CopiesResponse.ensures.loan
     (c.go_on-in-CopiesResponse.ensures.works quiet) c.go_on-in-CopiesResponse.ensures.step.room may))
+
+pub returns-after-go_on-4-clause-own : goal.returns-after-go_on-4-clause-own
+returns-after-go_on-4-clause-own c = elim c.match-go_on-4.branch [
+  | in-Some-go_on-3 w ↦ subst (λ (o : Option NodeReply). IfSome o (λ r. answered_at r ≡ c.args.self.now.at)) (sym w.result-is)
+      (sent_own c.go_on-in-SendsRequest.new.self.copied w.in-Some-go_on-3.reply (c.go_on-in-SendsRequest.ensures.same.copied ∙ c.self.invariant.7)
+      (subst (λ (o : Option RequestReply). IfSome o (IsToldBy c.go_on-in-SendsRequest.new.self.copied)) w.in-Some-go_on-3.is c.go_on-in-SendsRequest.ensures.told)
+      ∙ sym c.in-SendsRequest.is ∙ ap (λ (n : NodeView). n.at) c.self.view_is)
+  | in-None-go_on-3 w ↦ subst (λ (o : Option NodeReply). IfSome o (λ r. answered_at r ≡ c.args.self.now.at)) (sym w.result-is) tt
+]

@@ -4,7 +4,7 @@ use Rattle.iox_wire_begins.specs.HandleCalls.{call_of, refusal_in}
 use Rattle.iox_wire_nodes.proofs.NameLemmas.{is_held}
 use Rattle.iox_wire_begins.specs.Seat.{Seat}
 use Rattle.iox_wire_begins.specs.Begins.{begin, begins_at_port, refusal_at}
-use Rattle.iox_wire_nodes.specs.Nodes.{Node, seat_in}
+use Rattle.iox_wire_nodes.specs.Nodes.{NodeView, seat_in}
 use Rattle.iox_wire_nodes.proofs.RestLemmas.{own_alike, refusal_alike}
 use Rattle.iox_wire_nodes.proofs.node.StoredNode.name_at_port.Goals as goal
 
@@ -17,7 +17,7 @@ returns-in_err-name_port-clause-refused c p y with role =
 
 pub returns-clause-own : goal.returns-clause-own
 returns-clause-own c =
-    own_alike c.self.view_is c.self.invariant.0 (sym c.is_busy.ensures ∙ c.if-is_busy.false) ∙ ap (λ (o : Node). o.seat.seat) c.self.view_is
+    own_alike c.self.view_is c.self.invariant.0 (sym c.is_busy.ensures ∙ c.if-is_busy.false) ∙ ap (λ (o : NodeView). o.seat.seat) c.self.view_is
 
 pub returns-clause-allowed : goal.returns-clause-allowed
 returns-clause-allowed c p y with role =

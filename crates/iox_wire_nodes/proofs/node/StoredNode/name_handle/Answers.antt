@@ -4,7 +4,7 @@ use Rattle.iox_wire_begins.specs.HandleCalls.{call_of, refusal_in}
 use Rattle.iox_wire_begins.specs.Seat.{Seat}
 use Rattle.iox_wire_begins.specs.Begins.{begin, begins_at_entry, refusal_at}
 use Rattle.iox_wire_begins.specs.Tables.{entry_at}
-use Rattle.iox_wire_nodes.specs.Nodes.{Node, seat_in}
+use Rattle.iox_wire_nodes.specs.Nodes.{NodeView, seat_in}
 use Rattle.iox_wire_nodes.proofs.RestLemmas.{own_alike, refusal_alike}
 use Rattle.iox_wire_nodes.proofs.node.StoredNode.name_handle.Goals as goal
 
@@ -17,11 +17,11 @@ returns-in_err-entry-clause-refused c p y setting role =
 
 pub returns-clause-own : goal.returns-clause-own
 returns-clause-own c =
-    own_alike c.self.view_is c.self.invariant.0 (sym c.is_busy.ensures ∙ c.if-is_busy.false) ∙ ap (λ (o : Node). o.seat.seat) c.self.view_is
+    own_alike c.self.view_is c.self.invariant.0 (sym c.is_busy.ensures ∙ c.if-is_busy.false) ∙ ap (λ (o : NodeView). o.seat.seat) c.self.view_is
 
 pub returns-clause-found : goal.returns-clause-found
 returns-clause-found c =
-    ap (λ (o : Node). entry_at c.args.number o.seat.seat.table) (sym c.self.view_is) ∙ c.in_ok-entry.ensures.found
+    ap (λ (o : NodeView). entry_at c.args.number o.seat.seat.table) (sym c.self.view_is) ∙ c.in_ok-entry.ensures.found
 
 pub returns-clause-allowed : goal.returns-clause-allowed
 returns-clause-allowed c p y setting role =

@@ -2,7 +2,7 @@ use Rattle.std.proofs.Common.{◌++◌, ◌∷◌, [], List, length, ap, sym, su
 use Rattle.iox_wire_locals.specs.declared.table.Recorded.{Recorded}
 use Rattle.iox_wire_locals.specs.Desks.{delivers, uses_more}
 use Rattle.iox_wire_seats.specs.Desks.{MayDeliverAt}
-use Rattle.iox_wire_seats.specs.Records.{HaveRoomFor, recorded_in}
+use Rattle.iox_wire_seats.specs.Records.{NotesHaveRoom, recorded_in}
 use Rattle.iox_wire_seats.proofs.RecordLemmas.{recorded_noted, room_to_note, rooms_noted}
 use Rattle.iox_wire_seats.proofs.desk.StoredDesk.deliver.Goals as goal
 
@@ -17,7 +17,7 @@ invariant_of-self c = (
   c.self.invariant.1,
   c.self.invariant.2,
   c.self.invariant.3,
-  subst (HaveRoomFor (length c.self.inside.uses.items)) (sym c.note.ensures)
+  subst (NotesHaveRoom (length c.self.inside.uses.items)) (sym c.note.ensures)
       (rooms_noted (length c.self.inside.uses.items) c.args.way (λ slots. slots ++ c.args.slot ∷ []) c.self.inside.recorded c.self.invariant.4),
 )
 

@@ -2,7 +2,7 @@ use Rattle.std.proofs.Common.{List, length, ap, sym, subst, ◌∙◌}
 use Rattle.iox_model.specs.Maps.{without_number}
 use Rattle.iox_wire_locals.specs.declared.table.Recorded.{Recorded}
 use Rattle.iox_wire_locals.specs.Desks.{gets_back, uses_less}
-use Rattle.iox_wire_seats.specs.Records.{HaveRoomFor, recorded_in}
+use Rattle.iox_wire_seats.specs.Records.{NotesHaveRoom, recorded_in}
 use Rattle.iox_wire_seats.proofs.RecordLemmas.{recorded_noted, rooms_noted}
 use Rattle.iox_wire_seats.proofs.desk.StoredDesk.get_back.Goals as goal
 
@@ -12,7 +12,7 @@ invariant_of-self c = (
   c.self.invariant.1,
   c.self.invariant.2,
   c.self.invariant.3,
-  subst (HaveRoomFor (length c.self.inside.uses.items)) (sym c.take_back.ensures)
+  subst (NotesHaveRoom (length c.self.inside.uses.items)) (sym c.take_back.ensures)
       (rooms_noted (length c.self.inside.uses.items) c.args.way (without_number c.args.slot) c.self.inside.recorded c.self.invariant.4),
 )
 

@@ -1,5 +1,5 @@
 use Rattle.std.proofs.Common.{length, ap, subst, sym, ◌∙◌}
-use Rattle.iox_wire_seats.specs.Records.{HaveRoomFor}
+use Rattle.iox_wire_seats.specs.Records.{NotesHaveRoom}
 use Rattle.iox_wire_seats.proofs.SlotLemmas.{all_free, lanes_fit}
 use Rattle.iox_wire_seats.proofs.PickLemmas.{all_pickable}
 use Rattle.iox_wire_seats.proofs.desk.StoredDesk.new.Goals as goal
@@ -10,5 +10,5 @@ invariant_of-result c = (
   lanes_fit _ c.args.pool _ c.in_ok-zeros-2.ensures c.in_ok-numbers-2.ensures.room,
   all_pickable _ _ c.args.pool c.in_ok-zeros-2.ensures c.in_ok-numbers.ensures.numbers,
   ap length c.in_ok-zeros.ensures ∙ sym (ap length c.in_ok-zeros-2.ensures),
-  subst (HaveRoomFor _) (sym c.new.ensures) tt,
+  subst (NotesHaveRoom _) (sym c.new.ensures) tt,
 )

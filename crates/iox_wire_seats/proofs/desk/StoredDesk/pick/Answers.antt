@@ -1,9 +1,9 @@
 use Rattle.std.proofs.Common.{◌≡◌, ◌∷◌, ℕ, List, length, slice_set, subst, sym, ◌∙◌, arith}
 use Rattle.std.specs.VecDeque.{deque_capacity}
 use Rattle.std.proofs.lemmas.List.{length-set}
-use Rattle.iox_wire_seats.specs.Slots.{AreFreeSlots, HasRoomFor, MayBePicked}
+use Rattle.iox_wire_seats.specs.Slots.{AreFreeSlots, HasRoomForLanes, MayBePicked}
 use Rattle.iox_wire_seats.proofs.PickLemmas.{fewer_free, kept_if_picked}
-use Rattle.iox_wire_seats.specs.Records.{HaveRoomFor}
+use Rattle.iox_wire_seats.specs.Records.{NotesHaveRoom}
 use Rattle.iox_wire_seats.proofs.desk.StoredDesk.pick.Goals as goal
 
 pub invariant_of-self : goal.invariant_of-self
@@ -18,8 +18,8 @@ invariant_of-self c =
     let serials : length (slice_set c.self.inside.serials.items c.in-Some.slot c.args.serial) ≡ length c.self.inside.serials.items =
     length-set c.self.inside.serials.items c.in-Some.slot c.args.serial in (
       fewer_free _ _ c.in-Some.slot _ some_free may,
-      subst (HasRoomFor (slice_set c.self.inside.uses.items c.in-Some.slot 1)) (sym c.remove_number.ensures.capacity) (omega (arith, same, c.self.invariant.1)),
+      subst (HasRoomForLanes (slice_set c.self.inside.uses.items c.in-Some.slot 1)) (sym c.remove_number.ensures.capacity) (omega (arith, same, c.self.invariant.1)),
       kept_if_picked _ _ c.in-Some.slot may,
       serials ∙ c.self.invariant.3 ∙ sym same,
-      subst (λ (n : ℕ). HaveRoomFor n c.self.inside.recorded) (sym same) c.self.invariant.4,
+      subst (λ (n : ℕ). NotesHaveRoom n c.self.inside.recorded) (sym same) c.self.invariant.4,
     )

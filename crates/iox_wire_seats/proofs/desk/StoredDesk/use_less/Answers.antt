@@ -7,7 +7,7 @@ use Rattle.iox_wire_seats.proofs.PickLemmas.{still_free, one_more_free, kept_if_
 use Rattle.iox_wire_seats.proofs.SlotLemmas.{within}
 use Rattle.iox_wire_seats.specs.Slots.{AreFreeSlots, MayBePicked}
 use Rattle.std.proofs.lemmas.List.{get_or-set_same}
-use Rattle.iox_wire_seats.specs.Records.{HaveRoomFor}
+use Rattle.iox_wire_seats.specs.Records.{NotesHaveRoom}
 use Rattle.iox_wire_seats.proofs.desk.StoredDesk.use_less.Goals as goal
 
 pub unreachable-requires : goal.unreachable-requires
@@ -35,7 +35,7 @@ invariant_of-self c =
           (subst (λ (xs : List ℕ). MayBePicked (slice_set c.self.inside.uses.items c.args.slot 0) xs) (sym items)
           (kept_if_freed _ _ c.args.slot (within _ c.args.slot used) used c.self.invariant.2)),
       c.self.invariant.3 ∙ sym same,
-      subst (λ (n : ℕ). HaveRoomFor n c.self.inside.recorded) (sym same) c.self.invariant.4,
+      subst (λ (n : ℕ). NotesHaveRoom n c.self.inside.recorded) (sym same) c.self.invariant.4,
     )
 
 pub invariant_of-self-else-index-eq0 : goal.invariant_of-self-else-index-eq0
@@ -49,5 +49,5 @@ invariant_of-self-else-index-eq0 c =
       omega (arith, same, c.self.invariant.1),
       kept_if_used _ _ c.args.slot _ used c.self.invariant.2,
       c.self.invariant.3 ∙ sym same,
-      subst (λ (n : ℕ). HaveRoomFor n c.self.inside.recorded) (sym same) c.self.invariant.4,
+      subst (λ (n : ℕ). NotesHaveRoom n c.self.inside.recorded) (sym same) c.self.invariant.4,
     )

@@ -2,7 +2,7 @@ use Rattle.std.proofs.Common.{◌≡◌, ℕ, ◌+◌, ◌<◌, length, slice_in
 use Rattle.std.proofs.lemmas.List.{length-set}
 use Rattle.iox_wire_locals.specs.declared.table.Desk.{Desk}
 use Rattle.iox_wire_seats.proofs.PickLemmas.{kept_if_used, still_free}
-use Rattle.iox_wire_seats.specs.Records.{HaveRoomFor}
+use Rattle.iox_wire_seats.specs.Records.{NotesHaveRoom}
 use Rattle.iox_wire_seats.proofs.desk.StoredDesk.use_more.Goals as goal
 
 pub invariant_of-self : goal.invariant_of-self
@@ -13,5 +13,5 @@ invariant_of-self c =
       omega (arith, same, c.self.invariant.1),
       kept_if_used _ _ c.args.slot _ used c.self.invariant.2,
       c.self.invariant.3 ∙ sym same,
-      subst (λ (n : ℕ). HaveRoomFor n c.self.inside.recorded) (sym same) c.self.invariant.4,
+      subst (λ (n : ℕ). NotesHaveRoom n c.self.inside.recorded) (sym same) c.self.invariant.4,
     )

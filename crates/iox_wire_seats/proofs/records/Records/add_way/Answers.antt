@@ -1,6 +1,6 @@
 use Rattle.std.proofs.Common.{◌≡◌, ◌++◌, ◌∷◌, [], false, List, ap, sym, subst, ◌∙◌}
 use Rattle.iox_model.specs.Maps.{AreApart, has_way}
-use Rattle.iox_wire_seats.specs.Records.{Noted, HaveRoomFor, ways_in}
+use Rattle.iox_wire_seats.specs.Records.{Noted, NotesHaveRoom, ways_in}
 use Rattle.iox_wire_seats.proofs.RecordLemmas.{more_apart, rooms_more}
 use Rattle.iox_wire_seats.proofs.records.Records.add_way.Goals as goal
 
@@ -17,6 +17,6 @@ pub returns-clause-room : goal.returns-clause-room
 returns-clause-room c rooms =
     let items : c.push_reserved.new.self.items ≡ c.self.inside.records.items ++ c.in_ok-record.record ∷ [] =
     c.push_reserved.ensures.items ∙ ap (λ (ns : List Noted). ns ++ c.in_ok-record.record ∷ []) c.reserve.ensures.items in
-    subst (HaveRoomFor c.args.room) (sym items)
+    subst (NotesHaveRoom c.args.room) (sym items)
     (rooms_more c.args.room c.self.inside.records.items c.in_ok-record.record c.in_ok-record.ensures.room
-    (subst (HaveRoomFor c.args.room) (sym c.self.view_is) rooms))
+    (subst (NotesHaveRoom c.args.room) (sym c.self.view_is) rooms))

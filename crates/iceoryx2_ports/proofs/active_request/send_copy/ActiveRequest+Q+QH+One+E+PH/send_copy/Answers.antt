@@ -19,6 +19,7 @@ use Rattle.iceoryx2_ports.proofs.Responding.{copy_has_as_before, copy_reaches_as
 use Rattle.iceoryx2_ports.proofs.Telling.{called_as}
 use Rattle.iceoryx2_ports.proofs.Unclosed.{copy_keeps_requests}
 use Rattle.iceoryx2_ports.proofs.SameShapes.{same_shapes}
+use Rattle.iceoryx2_ports.proofs.Senders.{copy_from_server}
 use Rattle.iceoryx2_ports.proofs.active_request.send_copy.ActiveRequest+Q+QH+One+E+PH.send_copy.Goals as goal
 
 pub returns-in-Refused-clause-whole : goal.returns-in-Refused-clause-whole
@@ -72,6 +73,30 @@ returns-in-Undelivered-clause-requests g c =
     copy_keeps_requests c.args.hub.now c.copy_response.new.hub c.is_in_order.ensures c.args.self.now.node c.args.self.now.number
     (payload_of roles.Server 1 (flat_map g.E.Words.words (c.args.value ∷ []))) (reply_of_copy c.copy_response.result) c.requires.has
     c.copy_response.ensures.whole
+
+pub returns-in-Done-clause-from : goal.returns-in-Done-clause-from
+returns-in-Done-clause-from g c =
+    copy_from_server c.args.hub.now c.copy_response.new.hub c.is_in_order.ensures c.args.self.now.node c.args.self.now.number
+    (payload_of roles.Server 1 (flat_map g.E.Words.words (c.args.value ∷ []))) (reply_of_copy c.copy_response.result) c.copy_response.ensures.whole
+    c.requires.has
+
+pub returns-in-Refused-clause-from : goal.returns-in-Refused-clause-from
+returns-in-Refused-clause-from g c =
+    copy_from_server c.args.hub.now c.copy_response.new.hub c.is_in_order.ensures c.args.self.now.node c.args.self.now.number
+    (payload_of roles.Server 1 (flat_map g.E.Words.words (c.args.value ∷ []))) (reply_of_copy c.copy_response.result) c.copy_response.ensures.whole
+    c.requires.has
+
+pub returns-in-OutOfMemory-clause-from : goal.returns-in-OutOfMemory-clause-from
+returns-in-OutOfMemory-clause-from g c =
+    copy_from_server c.args.hub.now c.copy_response.new.hub c.is_in_order.ensures c.args.self.now.node c.args.self.now.number
+    (payload_of roles.Server 1 (flat_map g.E.Words.words (c.args.value ∷ []))) (reply_of_copy c.copy_response.result) c.copy_response.ensures.whole
+    c.requires.has
+
+pub returns-in-Undelivered-clause-from : goal.returns-in-Undelivered-clause-from
+returns-in-Undelivered-clause-from g c =
+    copy_from_server c.args.hub.now c.copy_response.new.hub c.is_in_order.ensures c.args.self.now.node c.args.self.now.number
+    (payload_of roles.Server 1 (flat_map g.E.Words.words (c.args.value ∷ []))) (reply_of_copy c.copy_response.result) c.copy_response.ensures.whole
+    c.requires.has
 
 pub returns-in-Done-clause-shapes : goal.returns-in-Done-clause-shapes
 returns-in-Done-clause-shapes g c =

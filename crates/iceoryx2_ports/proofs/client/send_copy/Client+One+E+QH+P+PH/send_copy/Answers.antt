@@ -17,6 +17,7 @@ use Rattle.iceoryx2_ports.proofs.Reaching.{copy_brings_one, copy_is_sent, copy_r
 use Rattle.iceoryx2_ports.proofs.Telling.{called_as}
 use Rattle.iceoryx2_ports.proofs.CopyAsked.{copy_asks_quietly, copy_brings_its_request, copy_opens}
 use Rattle.iceoryx2_ports.proofs.SameShapes.{same_shapes}
+use Rattle.iceoryx2_ports.proofs.Senders.{copy_from_client}
 use Rattle.iceoryx2_ports.specs.Asking.{BringsItsRequest, LendsQuietly, OpensAtServers}
 use Rattle.iox_hub_laws.specs.Waiting.{client_in}
 use Rattle.iceoryx2_ports.proofs.client.send_copy.Client+One+E+QH+P+PH.send_copy.Goals as goal
@@ -82,6 +83,36 @@ returns-in-To-clause-opens g c =
     subst₂ (λ (i n : ℕ). OpensAtServers c.args.hub.now (client_in c.copy_request.new.hub i n) c.copy_request.new.hub) (sym c.new.ensures.node) (sym c.new.ensures.number)
     (copy_opens c.args.hub.now c.copy_request.new.hub c.is_in_order.ensures c.args.self.now.node c.args.self.now.number 1 c.in-To.number
     (flat_map g.E.Words.words (c.args.value ∷ [])) c.requires.has c.in-To.ensures.whole)
+
+pub returns-in-To-clause-from : goal.returns-in-To-clause-from
+returns-in-To-clause-from g c =
+    copy_from_client c.args.hub.now c.copy_request.new.hub c.is_in_order.ensures c.args.self.now.node c.args.self.now.number
+    (payload_of roles.Client 1 (flat_map g.E.Words.words (c.args.value ∷ []))) (reply_of_copy c.copy_request.result) c.copy_request.ensures.whole
+    c.requires.has
+
+pub returns-in-Refused-clause-from : goal.returns-in-Refused-clause-from
+returns-in-Refused-clause-from g c =
+    copy_from_client c.args.hub.now c.copy_request.new.hub c.is_in_order.ensures c.args.self.now.node c.args.self.now.number
+    (payload_of roles.Client 1 (flat_map g.E.Words.words (c.args.value ∷ []))) (reply_of_copy c.copy_request.result) c.copy_request.ensures.whole
+    c.requires.has
+
+pub returns-in-OutOfMemory-clause-from : goal.returns-in-OutOfMemory-clause-from
+returns-in-OutOfMemory-clause-from g c =
+    copy_from_client c.args.hub.now c.copy_request.new.hub c.is_in_order.ensures c.args.self.now.node c.args.self.now.number
+    (payload_of roles.Client 1 (flat_map g.E.Words.words (c.args.value ∷ []))) (reply_of_copy c.copy_request.result) c.copy_request.ensures.whole
+    c.requires.has
+
+pub returns-in-ExceedsMaxActiveRequests-clause-from : goal.returns-in-ExceedsMaxActiveRequests-clause-from
+returns-in-ExceedsMaxActiveRequests-clause-from g c =
+    copy_from_client c.args.hub.now c.copy_request.new.hub c.is_in_order.ensures c.args.self.now.node c.args.self.now.number
+    (payload_of roles.Client 1 (flat_map g.E.Words.words (c.args.value ∷ []))) (reply_of_copy c.copy_request.result) c.copy_request.ensures.whole
+    c.requires.has
+
+pub returns-in-UnableToDeliver-clause-from : goal.returns-in-UnableToDeliver-clause-from
+returns-in-UnableToDeliver-clause-from g c =
+    copy_from_client c.args.hub.now c.copy_request.new.hub c.is_in_order.ensures c.args.self.now.node c.args.self.now.number
+    (payload_of roles.Client 1 (flat_map g.E.Words.words (c.args.value ∷ []))) (reply_of_copy c.copy_request.result) c.copy_request.ensures.whole
+    c.requires.has
 
 pub returns-in-To-clause-shapes : goal.returns-in-To-clause-shapes
 returns-in-To-clause-shapes g c =

@@ -4,7 +4,7 @@ use Rattle.std.proofs.lemmas.Bool.{eqb-true, eqb-false}
 use Rattle.std.proofs.lemmas.List.{append-nil, nil_from_length}
 use Rattle.std.proofs.lemmas.Result.{err_from_is_err_and}
 use Rattle.iox_run.specs.Answers.{IsTextOf}
-use Rattle.iox_run.specs.Standings.{Stands}
+use Rattle.iox_run.specs.Standings.{IsAsFar}
 use Rattle.iox_run.proofs.run.player.Player.finish.Goals.{then-not-is_empty+in_ok-end_line, else-not-is_empty}
 use Rattle.iox_run.proofs.RunFaults.{all_answered, last_answered, memory_ran_out, Finishes-sent}
 use Rattle.iox_run.proofs.run.player.Player.finish.Goals as goal
@@ -18,7 +18,7 @@ pub returns : goal.returns
 returns g c =
     let player = c.args.self in
     let last = c.if-not-is_empty.self in
-    let text : (script sent : List ℕ) → Stands script sent player → IsTextOf script (sent ++ last.answers.items) =
+    let text : (script sent : List ℕ) → IsAsFar script sent player → IsTextOf script (sent ++ last.answers.items) =
     elim c.if-not-is_empty.branch [
       | then-not-is_empty+in_ok-end_line w ↦
           let test : eqb (vec_len player.line) 0 ≡ false = sym c.is_empty.ensures ∙ w.if-not-is_empty.true in

@@ -1,0 +1,42 @@
+//! Why no wire is made.
+ghost use Rattle.std.specs.Prelude.{◌≡◌, Some};
+ghost use Rattle.iox_wire.specs.declared.new_error.WireNewError.TheVariants.{WantOfMemory};
+
+use std::alloc::AllocError;
+use std::error::Error;
+use std::fmt;
+
+/// Why no wire is made. The first that applies is told.
+#[derive(Clone, Copy, Debug, PartialEq, Eq)]
+pub enum WireNewError {
+    /// The wire has 2^63 words or more: lower the limits of its service, or have fewer ports.
+    TooManyWords,
+    /// The first handle of each node would have the number 2^63 or a later one: open the wire before
+    /// its service gave as many numbers.
+    NumbersSpent,
+    WantOfMemory,
+}
+
+impl fmt::Display for WireNewError {
+    ghost use Rattle.iox_wire.specs.NewRefusals.{new_error_text};
+
+    ghost output = { λ it. Some (new_error_text it) };
+
+    fn fmt<W: fmt::Write>(&self, f: &mut fmt::Formatter<W>) -> fmt::Result {
+        f.write_str(match self {
+            WireNewError::TooManyWords => "WireNewError::TooManyWords",
+            WireNewError::NumbersSpent => "WireNewError::NumbersSpent",
+            WireNewError::WantOfMemory => "WireNewError::WantOfMemory",
+        })
+    }
+}
+
+impl Error for WireNewError {}
+
+impl From<AllocError> for WireNewError {
+    ghost from_gives = { λ _ error. error ≡ WantOfMemory };
+
+    fn from(_error: AllocError) -> WireNewError {
+        WireNewError::WantOfMemory
+    }
+}
