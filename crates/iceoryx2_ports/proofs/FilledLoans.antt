@@ -3,7 +3,7 @@ use Rattle.std.specs.Prelude.{◌≡◌, ℕ, Bool, true, false, ◌&&◌, List,
 use Rattle.std.specs.Option.{option_map}
 use Rattle.std.proofs.Common.{sym, ap, ap₂, subst, ◌∙◌, true≢false}
 use Rattle.std.proofs.lemmas.Option.{same_Some}
-use Rattle.iox_store.specs.Stored.{Stored}
+use Rattle.iox_store.specs.Stored.{StoredMessage}
 use Rattle.iox_model.specs.declared.kind.Kind.{Kind}
 use Rattle.iox_model.specs.declared.kind.Kind.TheVariants.{ActiveRequest, PendingResponse}
 use Rattle.iox_model.specs.declared.way.RequestState.{RequestState}
@@ -42,7 +42,7 @@ use Rattle.iceoryx2_ports.proofs.Reaching.{room_stays}
 use Rattle.iceoryx2_ports.proofs.Remaining.{by_handles}
 use Rattle.iceoryx2_ports.proofs.Resting.{RestsSo}
 
-module _ (old new : HubState) (node n : ℕ) (all : Bool) (z : Stored) (fills : FillsLoan old node n all z new)
+module _ (old new : HubState) (node n : ℕ) (all : Bool) (z : StoredMessage) (fills : FillsLoan old node n all z new)
     (kind : Kind) (no_port : is_port kind ≡ false) (of_loan : is_loan kind ≡ true) (has : HasValue old node n kind) where
   abbrev t : HubTables
   t = old.control.tables

@@ -2,7 +2,7 @@
 use Rattle.std.specs.Prelude.{◌≡◌, ℕ, Bool, true, false, ◌&&◌, ◌==◌, refl}
 use Rattle.std.proofs.Common.{ap, eqb-true}
 use Rattle.iox_types.specs.declared.identifiers.system_id.UniqueSystemId.{UniqueSystemId}
-use Rattle.iox_store.specs.Stored.{Stored}
+use Rattle.iox_store.specs.Stored.{StoredMessage}
 use Rattle.iox_model.specs.declared.kind.Kind.{Kind}
 use Rattle.iox_model.specs.declared.kind.Role.{Role}
 use Rattle.iox_model.specs.Commands.{Call, Create, Options, Reply, Use}
@@ -32,7 +32,7 @@ apart true true f = absurd (f refl refl)
 apart true false f = refl
 apart false c f = refl
 
-module _ (old new : HubState) (node n : ℕ) (all : Bool) (z : Stored) (fills : FillsLoan old node n all z new) where
+module _ (old new : HubState) (node n : ℕ) (all : Bool) (z : StoredMessage) (fills : FillsLoan old node n all z new) where
   pub filled_shapes : (kind : Kind) → HasValue old node n kind → HaveSameShapes old new
   filled_shapes kind has =
       let x : Given = nothing_given old in shapes_of_limits x old new (ap (λ (v : State). v.fixed.limits) (fills.filling x kind has).3)

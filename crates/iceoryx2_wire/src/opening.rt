@@ -53,7 +53,8 @@ impl<Q: Payload, QH: Words, P: Payload, PH: Words, H: Backpressure> Service<Q, Q
     /// A node leaves; the last one closes the service for good. It is refused as `UnknownNode`,
     /// `NodeIsDead`, or `HasPorts` while a port or a handle of it is not released.
     pub fn leave(&mut self, node: u64) -> Result<(), Refusal<AttributeVerificationError<'static>>>
-        ensures done { IsDoneOrRefused (service_of self.old) (Leave node) result (service_of self.new) }
+        ensures done { IsDoneOrRefused (service_of self.old) (Leave node) result
+            (service_of self.new) }
         ensures says { self.new.description ≡ self.old.description }
         ensures identity { self.new.identity ≡ self.old.identity }
         ensures unchanged { OnErr result (self.new ≡ self.old) }
@@ -65,7 +66,8 @@ impl<Q: Payload, QH: Words, P: Payload, PH: Words, H: Backpressure> Service<Q, Q
     /// numbers, and then it is gone. The last one closes the service for good. It is refused as
     /// `UnknownNode` or `NodeIsAlive`.
     pub fn cleanup(&mut self, node: u64) -> Result<(), Refusal<AttributeVerificationError<'static>>>
-        ensures done { IsDoneOrRefused (service_of self.old) (Cleanup node) result (service_of self.new) }
+        ensures done { IsDoneOrRefused (service_of self.old) (Cleanup node) result
+            (service_of self.new) }
         ensures says { self.new.description ≡ self.old.description }
         ensures identity { self.new.identity ≡ self.old.identity }
         ensures unchanged { OnErr result (self.new ≡ self.old) }

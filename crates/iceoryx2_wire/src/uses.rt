@@ -41,7 +41,8 @@ pub fn cleans_up(
     service: &mut Bytes,
     node: u64,
 ) -> Result<(), Refusal<AttributeVerificationError<'static>>>
-    ensures done { IsDoneOrRefused (service_of service.old) (Cleanup node) result (service_of service.new) }
+    ensures done { IsDoneOrRefused (service_of service.old) (Cleanup node) result
+        (service_of service.new) }
     ensures says { service.new.description ≡ service.old.description }
 {
     service.cleanup(node)

@@ -3,7 +3,7 @@ use Rattle.std.specs.Prelude.{◌≡◌, ℕ, ◌+◌, ◌-◌, ◌<◌, ◌≤�
 use Rattle.std.specs.Option.{option_map_or}
 use Rattle.std.proofs.Common.{ap, ◌∙◌, arith}
 use Rattle.iox_model.specs.declared.way.Way.{Way}
-use Rattle.iox_model.specs.Maps.{AreApart}
+use Rattle.iox_model.specs.Maps.{AreDistinctWays}
 use Rattle.iox_lanes.specs.Lanes.{LaneState}
 use Rattle.iox_tables.specs.HubStates.Tables.{HubTables, PoolState, PortState, port_in}
 use Rattle.iox_tables.specs.HubStates.Ways.{with_lanes_on, with_port}
@@ -46,7 +46,7 @@ module _ (c : ControlState) (order : IsControl c) (few : c.tables.calls < 2 ^ 56
       omega (arith, loans, f, it)
 
   -- deliveries on these ways, a loan, and one or two calls
-  module _ (overflow : Bool) (k : ℕ) (ws : List Way) (apart : AreApart ws) (calls : ℕ) (more : t.calls + 1 ≤ calls) (most : calls ≤ t.calls + 2) (pools : List (Option PoolState)) where
+  module _ (overflow : Bool) (k : ℕ) (ws : List Way) (apart : AreDistinctWays ws) (calls : ℕ) (more : t.calls + 1 ≤ calls) (most : calls ≤ t.calls + 2) (pools : List (Option PoolState)) where
     abbrev sent : List PortState
     sent = with_lanes_on (delivers overflow k) t.ports ws
 

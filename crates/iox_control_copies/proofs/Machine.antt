@@ -12,7 +12,7 @@ use Rattle.iox_model.specs.declared.way.Way.{Way}
 use Rattle.iox_model.specs.Commands.{Call, Payload, Refusal, Reply}
 use Rattle.iox_model.specs.Handles.{Subject, is_request_loan, subject}
 use Rattle.iox_model.specs.Loans.{Choice, kind_of_loan}
-use Rattle.iox_model.specs.Maps.{AreApart}
+use Rattle.iox_model.specs.Maps.{AreDistinctWays}
 use Rattle.iox_model.specs.Messages.{request_way}
 use Rattle.iox_model.specs.Moments.{is_overfull}
 use Rattle.iox_model.specs.Peers.{buffer_on, others}
@@ -120,7 +120,7 @@ module _ (x : Given) (c : ControlState) (node n : ℕ) (q : Payload) (a : Asked)
 
     may_send : (k : ℕ) → MaySend s (response_loan (fixed_of x t) shown (port_of x active.port) (copied_order k q.words))
     may_send k = record {
-      apart = subst AreApart (sym (one_way k)) (refl, tt);
+      apart = subst AreDistinctWays (sym (one_way k)) (refl, tt);
       within = λ on. subst (NotOver s) (sym (one_way k)) (within, tt);
     }
 

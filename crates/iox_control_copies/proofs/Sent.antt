@@ -15,7 +15,7 @@ use Rattle.iox_model.specs.Commands.{Payload, Reply}
 use Rattle.iox_model.specs.Doings.{Sending}
 use Rattle.iox_model.specs.Handles.{is_own, is_request_loan}
 use Rattle.iox_model.specs.Loans.{Choice, kind_of_loan}
-use Rattle.iox_model.specs.Maps.{AreApart, not_in}
+use Rattle.iox_model.specs.Maps.{AreDistinctWays, not_in}
 use Rattle.iox_model.specs.Messages.{request_way, response_way}
 use Rattle.iox_model.specs.Requests.{fails_at, targets, to_open}
 use Rattle.iox_model.specs.States as m
@@ -148,8 +148,8 @@ module _ (x : Given) (t : HubTables) (node n k : ℕ) (q : Payload) (c : Choice)
     may_from : MaySendFrom x' u z y.port.pool slot
     may_from = record {
       message = refl;
-      apart = subst AreApart (sym one_target) (refl, tt);
-      states_apart = subst AreApart (sym none_opened) tt;
+      apart = subst AreDistinctWays (sym one_target) (refl, tt);
+      states_apart = subst AreDistinctWays (sym none_opened) tt;
       once = each_once;
       lanes = subst (OnEach (IsOpenToNew x' u y.port.pool slot) (lane_on u.ports)) (sym one_target) ((emptied_lane l, at_back, open_now), tt);
       states = subst (OnEach (IsOpenable u) (state_on u.ports)) (sym none_opened) tt;

@@ -107,7 +107,8 @@ fn has_all_loans(control: &Control, lender: &Lending) -> bool
 pub fn loan_refusal(control: &Control, lender: Lending, asked: Asked) -> Option<LoanRefusal>
     ensures few { result ≡ None → control.now.tables.calls < 2 ^ 56 }
     ensures told { (p : PortState) → lender.port ≡ info_of p
-        → IsLoanRefusal control.now.tables (lender_of p lender) asked (option_map refusal_of result) }
+        → IsLoanRefusal control.now.tables (lender_of p lender)
+        asked (option_map refusal_of result) }
 {
     if control.calls() >= 1 << 56 {
         return Some(LoanRefusal::CallsSpent);

@@ -15,7 +15,7 @@ use Rattle.iox_model.specs.Begins.{MayChoose}
 use Rattle.iox_model.specs.Commands.{Payload, Reply}
 use Rattle.iox_model.specs.Handles.{Subject, is_request_loan, own_state, same_kind}
 use Rattle.iox_model.specs.Loans.{kind_of_loan}
-use Rattle.iox_model.specs.Maps.{AreApart}
+use Rattle.iox_model.specs.Maps.{AreDistinctWays}
 use Rattle.iox_model.specs.Messages.{request_way}
 use Rattle.iox_model.specs.Peers.{buffer_on, others, role_at}
 use Rattle.iox_model.specs.Requests.{fails_at}
@@ -136,7 +136,7 @@ module _ (x : Given) (c : ControlState) (node n : ℕ) (q : Payload) (a : Asked)
 
     may_send : (lane j : ℕ) → Waits → MaySend s (loan lane j)
     may_send lane j waits = record {
-      apart = subst AreApart (sym (its_ways lane j)) (subst AreApart (ap (λ (r : Role). ways_by r t p.number) client.client) (ways_apart t order.order p.role p.number));
+      apart = subst AreDistinctWays (sym (its_ways lane j)) (subst AreDistinctWays (ap (λ (r : Role). ways_by r t p.number) client.client) (ways_apart t order.order p.role p.number));
       within = λ on.
           subst (NotOver s) (sym (its_ways lane j))
           (each_not_over (numbers_of_role Server t.ports)

@@ -2,7 +2,7 @@
 use Rattle.std.specs.Prelude.{◌≡◌, suc, ◌≤◌, Bool, true, false, ◌||◌, if◌then◌else◌, List, [], ◌∷◌, ◌++◌, filter, length, Some, refl}
 use Rattle.std.proofs.Common.{sym, ap, ◌∙◌, arith, true≢false}
 use Rattle.iox_model.specs.declared.way.Way.{Way}
-use Rattle.iox_model.specs.Maps.{AreApart, has_way, same_way}
+use Rattle.iox_model.specs.Maps.{AreDistinctWays, has_way, same_way}
 use Rattle.iox_laws.proofs.WeaveLaws.MapLemmas.{same_way-flip}
 use Rattle.iox_tables.specs.HubStates.Changes.{OnEach}
 use Rattle.iox_tables.specs.HubStates.Tables.{HandleState, HubTables}
@@ -34,11 +34,11 @@ module _ (p : Way → Bool) (w : Way) (ys : List Way) where
           either false e = more e
       step false a more e = or_right (same_way v x) (has_way v (xs ++ w ∷ ys)) (more e)
 
-  some_apart : (xs : List Way) → AreApart (xs ++ w ∷ ys) → AreApart (filter p xs ++ w ∷ [])
+  some_apart : (xs : List Way) → AreDistinctWays (xs ++ w ∷ ys) → AreDistinctWays (filter p xs ++ w ∷ [])
   some_apart [] apart = (refl, tt)
   some_apart (x ∷ xs) apart = step (p x) (some_apart xs apart.1)
     where
-      step : (b : Bool) → AreApart (filter p xs ++ w ∷ []) → AreApart ((if b then x ∷ filter p xs else filter p xs) ++ w ∷ [])
+      step : (b : Bool) → AreDistinctWays (filter p xs ++ w ∷ []) → AreDistinctWays ((if b then x ∷ filter p xs else filter p xs) ++ w ∷ [])
       step true rest = (not_if (has_way x (filter p xs ++ w ∷ [])) (has_way x (xs ++ w ∷ ys)) (some_has x xs) apart.0, rest)
       step false rest = rest
 
@@ -50,7 +50,7 @@ module _ (p : Way → Bool) (w : Way) (ys : List Way) where
   }
 
   -- the next way is not among the first
-  pub next_is_new : (xs : List Way) → AreApart (xs ++ w ∷ ys) → has_way w (filter p xs) ≡ false
+  pub next_is_new : (xs : List Way) → AreDistinctWays (xs ++ w ∷ ys) → has_way w (filter p xs) ≡ false
   next_is_new [] apart = refl
   next_is_new (x ∷ xs) apart = step (p x) (next_is_new xs apart.1)
     where

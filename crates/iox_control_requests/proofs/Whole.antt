@@ -15,7 +15,7 @@ use Rattle.iox_model.specs.Begins.{begins_at}
 use Rattle.iox_model.specs.Commands.{Reply}
 use Rattle.iox_model.specs.Doings.{Doing, Ended, FailsToSend, Outcome, refused}
 use Rattle.iox_model.specs.Handles.{Subject, TheHandle, is_request_loan, own_state, subject}
-use Rattle.iox_model.specs.Maps.{AreApart, not_in}
+use Rattle.iox_model.specs.Maps.{AreDistinctWays, not_in}
 use Rattle.iox_model.specs.Messages.{request_way, response_way}
 use Rattle.iox_model.specs.Peers.{buffer_on, others, role_at}
 use Rattle.iox_model.specs.Requests.{emptying, fails_at, is_active_spent, sending_of, sends_request, targets, to_open}
@@ -123,8 +123,8 @@ module _ (t : HubTables) (order : AreInOrder t) (node n : ℕ) (h : HandleState)
         ap (λ (b : Bool). if b then map (request_way h.port) (others (fixed_of x t) h.node Server) else own_state shown ∷ []) loan
         ∙ ap (map (request_way h.port)) servers_are
 
-    ways_apart : AreApart (request_ways h.port t.ports)
-    ways_apart = subst AreApart all_targets may_from.apart
+    ways_apart : AreDistinctWays (request_ways h.port t.ports)
+    ways_apart = subst AreDistinctWays all_targets may_from.apart
 
     each_not_over : (ns : List ℕ) → OnEach (λ w l. length l.waiting ≤ l.buffer) (lane_on t.ports) (map (request_way h.port) ns)
         → OnEach (IsOpenToNew x t h.pool h.slot) (lane_on t.ports) (map (request_way h.port) ns) → NotOver s (map (request_way h.port) ns)
@@ -145,7 +145,7 @@ module _ (t : HubTables) (order : AreInOrder t) (node n : ℕ) (h : HandleState)
 
     may_send : ((t.settings.request_overflow ≡ true) → OnEach (λ w l. length l.waiting ≤ l.buffer) (lane_on t.ports) (request_ways h.port t.ports)) → MaySend s shown
     may_send waits = record {
-      apart = subst AreApart (sym its_ways) ways_apart;
+      apart = subst AreDistinctWays (sym its_ways) ways_apart;
       within = λ on.
           subst (NotOver s) (sym its_ways)
           (each_not_over servers (waits (sym overflow_is ∙ on)) (subst (OnEach (IsOpenToNew x t h.pool h.slot) (lane_on t.ports)) all_targets may_from.lanes));

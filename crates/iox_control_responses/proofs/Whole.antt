@@ -13,7 +13,7 @@ use Rattle.iox_model.specs.declared.way.Way.{Way}
 use Rattle.iox_model.specs.Commands.{Reply}
 use Rattle.iox_model.specs.Doings.{Sending}
 use Rattle.iox_model.specs.Handles.{is_request_loan, is_response_loan}
-use Rattle.iox_model.specs.Maps.{AreApart, not_in}
+use Rattle.iox_model.specs.Maps.{AreDistinctWays, not_in}
 use Rattle.iox_model.specs.Messages.{request_way, response_way}
 use Rattle.iox_model.specs.Moments.{is_overfull}
 use Rattle.iox_model.specs.Peers.{buffer_on, others}
@@ -101,7 +101,7 @@ module _ (t : HubTables) (order : AreInOrder t) (node n : ℕ) (h : HandleState)
 
       may_send : MaySend s shown
       may_send = record {
-        apart = subst AreApart (sym one_way) (refl, tt);
+        apart = subst AreDistinctWays (sym one_way) (refl, tt);
         within = λ on. subst (NotOver s) (sym one_way) (within, tt);
       }
 

@@ -2,7 +2,7 @@
 use Rattle.std.specs.Prelude.{◌≡◌, ℕ, ◌<◌, Bool, true, false, List, Option, Some, None, is_some, not, slice_get, refl}
 use Rattle.std.proofs.Common.{sym, ap, subst, ◌∙◌, true≢false}
 use Rattle.iox_model.specs.declared.way.Way.{Way}
-use Rattle.iox_model.specs.Maps.{AreApart}
+use Rattle.iox_model.specs.Maps.{AreDistinctWays}
 use Rattle.iox_model.specs.Settings.{same_role}
 use Rattle.iox_lanes.specs.Lanes.{LaneState, without_returned}
 use Rattle.iox_tables.specs.HubStates.Tables.{numbers_of}
@@ -37,8 +37,8 @@ module _ (c : ControlState) (from to : PortInfo) (at : ℕ) (order : IsControl c
   ways : ws ≡ first_lanes from.number to.number (width c.tables.ports to)
   ways = ways_are from.role c.tables from.number to differ
 
-  apart : AreApart ws
-  apart = subst AreApart (sym ways) (lanes_apart from.number to.number (width c.tables.ports to))
+  apart : AreDistinctWays ws
+  apart = subst AreDistinctWays (sym ways) (lanes_apart from.number to.number (width c.tables.ports to))
 
   module _ (now : ControlState) (goes : GoesOn c ws now) where
     there : IsInPlace now.tables.ports at to.number

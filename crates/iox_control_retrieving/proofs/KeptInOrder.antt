@@ -2,7 +2,7 @@
 use Rattle.std.specs.Prelude.{◌≡◌, ℕ, ◌+◌, ◌-◌, ◌≤◌, List, [], ◌∷◌, Option, refl}
 use Rattle.std.proofs.Common.{sym, ap, ap₂, subst, ◌∙◌, arith}
 use Rattle.iox_model.specs.declared.way.Way.{Way}
-use Rattle.iox_model.specs.Maps.{AreApart}
+use Rattle.iox_model.specs.Maps.{AreDistinctWays}
 use Rattle.iox_tables.specs.HubStates.Tables.{HubTables, PoolState, PortState}
 use Rattle.iox_tables.specs.HubStates.Changes.{emptied_lane, with_lanes}
 use Rattle.iox_tables.specs.HubBooks.Counts.{OfAll, on_lanes, total}
@@ -28,7 +28,7 @@ all_bare : (n : ℕ) (ports : List PortState) → OfAll (λ p. p.loans ≤ n) (b
 all_bare n [] a = a
 all_bare n (p ∷ ps) a = (a.0, all_bare n ps a.1)
 
-module _ (c : ControlState) (ws : List Way) (pools : List (Option PoolState)) (order : IsControl c) (apart : AreApart ws)
+module _ (c : ControlState) (ws : List Way) (pools : List (Option PoolState)) (order : IsControl c) (apart : AreDistinctWays ws)
     (fewer : HasFewerHolders c.tables.pools pools (returned_on c.tables ws)) where
   -- the tables of the hub
   abbrev t : HubTables

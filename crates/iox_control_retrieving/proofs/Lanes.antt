@@ -7,7 +7,7 @@ use Rattle.std.proofs.lemmas.Option.{none-some, same_Some, slice_get_within}
 use Rattle.iox_model.specs.declared.kind.Role.{Role}
 use Rattle.iox_model.specs.declared.kind.Role.TheVariants.{Client, Server}
 use Rattle.iox_model.specs.declared.way.Way.{Way}
-use Rattle.iox_model.specs.Maps.{AreApart, has_way, is_empty}
+use Rattle.iox_model.specs.Maps.{AreDistinctWays, has_way, is_empty}
 use Rattle.iox_model.specs.Messages.{request_way, response_way}
 use Rattle.iox_model.specs.Settings.{is_client, other_role, same_role}
 use Rattle.iox_laws.proofs.WeaveLedger.Ranges.{range-apart}
@@ -85,7 +85,7 @@ module _ (s n : ℕ) where
   abbrev pub first_lanes : ℕ → List Way
   first_lanes d = ways_of 0 d
 
-  pub lanes_apart : (d : ℕ) → AreApart (first_lanes d)
+  pub lanes_apart : (d : ℕ) → AreDistinctWays (first_lanes d)
   lanes_apart d = apart_map lane_way (λ w. w.lane) (λ k. refl) (range_with_len 0 d) (range-apart 0 d)
 
   -- one of them stands behind those below it
@@ -96,7 +96,7 @@ module _ (s n : ℕ) where
       let r = parted (a + 1) d i (omega (arith, low)) in
       (r.0, ap (λ ws. lane_way a ∷ ws) (r.1 ∙ ap (λ k. ways_of (a + 1) i ++ lane_way k ∷ r.0) (omega arith)))
 
-  behind_apart : (ws vs : List Way) (w : Way) → AreApart (ws ++ w ∷ vs) → has_way w vs ≡ false
+  behind_apart : (ws vs : List Way) (w : Way) → AreDistinctWays (ws ++ w ∷ vs) → has_way w vs ≡ false
   behind_apart [] vs w apart = apart.0
   behind_apart (v ∷ ws) vs w apart = behind_apart ws vs w apart.1
 
@@ -124,7 +124,7 @@ module _ (s n : ℕ) where
         behind = r.0;
         split = split;
         none = each ports 0 lane (λ i from to. below ports lane e i (omega (arith, to)));
-        apart = behind_apart (first_lanes lane) r.0 (lane_way lane) (subst AreApart split (lanes_apart d));
+        apart = behind_apart (first_lanes lane) r.0 (lane_way lane) (subst AreDistinctWays split (lanes_apart d));
       }
 
 -- ---- how many there are

@@ -5,7 +5,7 @@ use Rattle.std.proofs.Common.{sym, ap, ap₂, subst, ◌∙◌, arith, eqb-true}
 use Rattle.std.proofs.lemmas.Bool.{eq-eqb}
 use Rattle.std.proofs.lemmas.Option.{none-some, same_Some}
 use Rattle.iox_model.specs.declared.way.Way.{Way}
-use Rattle.iox_model.specs.Maps.{AreApart, has_way, same_way}
+use Rattle.iox_model.specs.Maps.{AreDistinctWays, has_way, same_way}
 use Rattle.iox_lanes.specs.Lanes.{LaneState, without_returned}
 use Rattle.iox_tables.specs.HubStates.Tables.{HubTables, PoolState, PortState, SlotState, slot_at}
 use Rattle.iox_tables.specs.HubStates.Ways.{OnWays, lane_on, with_lane_on, with_lanes_on}
@@ -98,7 +98,7 @@ one_less pool k place j l of first = step (l.pool == pool) ∙ ap (λ (p : ℕ).
     step false = refl
 
 -- what was given back on ways has holders
-pub returned_is_used : (t : HubTables) (ws : List Way) → AreApart ws → (pool k : ℕ) → returned_on t ws pool k ≤ uses t pool k
+pub returned_is_used : (t : HubTables) (ws : List Way) → AreDistinctWays ws → (pool k : ℕ) → returned_on t ws pool k ≤ uses t pool k
 returned_is_used t ws apart pool k =
     let all = lanes_total (lane_count pool k) emptied_lane t.ports ws apart in
     let sum = sums ws in omega (arith, all, sum)
@@ -219,7 +219,7 @@ lane_was old now ws goes v l at =
 
 -- ---- one message
 
-module _ (old now new : ControlState) (ws : List Way) (w : Way) (place j : ℕ) (order : AreInOrder old.tables) (apart : AreApart ws)
+module _ (old now new : ControlState) (ws : List Way) (w : Way) (place j : ℕ) (order : AreInOrder old.tables) (apart : AreDistinctWays ws)
     (goes : GoesOn old ws now) (next : IsNext now.tables.ports ws w)
     (of : (l : LaneState) → lane_on old.tables.ports w ≡ Some l → l.pool ≡ place)
     (got : Some j ≡ on_way (λ l. slice_get l.returned 0) None now.tables.ports w)
@@ -291,7 +291,7 @@ module _ (old now new : ControlState) (ws : List Way) (w : Way) (place j : ℕ) 
 
 -- ---- at the end
 
-pub gets_all : (old now : ControlState) (ws : List Way) → IsControl old → AreApart ws → GoesOn old ws now → OfEachWay (IsEmptied now.tables.ports) ws
+pub gets_all : (old now : ControlState) (ws : List Way) → IsControl old → AreDistinctWays ws → GoesOn old ws now → OfEachWay (IsEmptied now.tables.ports) ws
     → GetsBack old ws now
 gets_all old now ws order apart goes none =
     let left = all_left old now ws goes (all_emptied now.tables.ports ws none) in

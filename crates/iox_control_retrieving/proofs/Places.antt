@@ -8,7 +8,7 @@ use Rattle.std.proofs.lemmas.Option.{none-some, same_Some}
 use Rattle.iox_model.specs.declared.kind.Role.{Role}
 use Rattle.iox_model.specs.declared.kind.Role.TheVariants.{Client, Server}
 use Rattle.iox_model.specs.declared.way.Way.{Way}
-use Rattle.iox_model.specs.Maps.{AreApart, AreDistinct, has_way, same_way}
+use Rattle.iox_model.specs.Maps.{AreDistinctWays, AreDistinct, has_way, same_way}
 use Rattle.iox_model.specs.Messages.{request_way, response_way}
 use Rattle.iox_model.specs.Settings.{is_client, same_role}
 use Rattle.iox_tables.specs.HubStates.Tables.{HubTables, PortState, numbers_of, port_in}
@@ -53,7 +53,7 @@ module _ {A : Type 0} (f : A → List Way) where
   others (x ∷ xs) zero = (flat_map f (x ∷ xs), refl)
   others (x ∷ xs) (suc i) = let r = others xs i in (r.0, ap (λ ws. f x ++ ws) r.1 ∙ sym (append_assoc (f x) (first_ways xs i) r.0))
 
-front_apart : (ws vs : List Way) → AreApart (ws ++ vs) → AreApart ws
+front_apart : (ws vs : List Way) → AreDistinctWays (ws ++ vs) → AreDistinctWays ws
 front_apart [] vs apart = tt
 front_apart (w ∷ ws) vs apart = (left (has_way w ws) (has_way w vs) (sym (any-append (same_way w) ws vs) ∙ apart.0), front_apart ws vs apart.1)
   where
@@ -106,10 +106,10 @@ module _ (c : ControlState) (port : ℕ) (from : PortInfo) (order : IsControl c)
   abbrev pub ways_before : ℕ → List Way
   ways_before i = first_ways (λ p. ways_to from.role c.tables from.number (info_of p)) c.tables.ports i
 
-  before_apart : (i : ℕ) → AreApart (ways_before i)
+  before_apart : (i : ℕ) → AreDistinctWays (ways_before i)
   before_apart i =
       let r = others (λ p. ways_to from.role c.tables from.number (info_of p)) c.tables.ports i in
-      front_apart (ways_before i) r.0 (subst AreApart (ways_by_place c.tables from.number from.role ∙ r.1) (ways_apart c.tables order.order from.role from.number))
+      front_apart (ways_before i) r.0 (subst AreDistinctWays (ways_by_place c.tables from.number from.role ∙ r.1) (ways_apart c.tables order.order from.role from.number))
 
   pub begins : GetsBack c (ways_before 0) c
   begins = subst (λ ws. GetsBack c ws c) (sym (ways_of_none (λ p. ways_to from.role c.tables from.number (info_of p)) c.tables.ports)) (gets_nothing c order)
@@ -145,7 +145,7 @@ module _ (c : ControlState) (port : ℕ) (from : PortInfo) (order : IsControl c)
         ∙ one_more (λ p. ways_to from.role c.tables from.number (info_of p)) c.tables.ports i found.0 found.1
         ∙ ap (λ j. ways_before i ++ ways_to from.role c.tables from.number j) found.2 in
         subst (λ ws. GetsBack c ws new) (sym next)
-        (gets_both c now new (ways_before i) (ways_to from.role c.tables from.number to) (subst AreApart next (before_apart (i + 1))) got
+        (gets_both c now new (ways_before i) (ways_to from.role c.tables from.number to) (subst AreDistinctWays next (before_apart (i + 1))) got
         (subst (λ ws. GetsBack now ws new) (same_ways now.tables c.tables from.role from.number to infos) more))
 
   -- at the end all ways of the port were visited

@@ -2,7 +2,7 @@
 use Rattle.std.specs.Prelude.{◌≡◌, ℕ, ◌+◌, Bool, true, false, ◌||◌, List, [], ◌∷◌, ◌++◌, refl}
 use Rattle.std.proofs.Common.{sym, ap, ◌∙◌, arith, true≢false}
 use Rattle.iox_model.specs.declared.way.Way.{Way}
-use Rattle.iox_model.specs.Maps.{AreApart, has_way, same_way}
+use Rattle.iox_model.specs.Maps.{AreDistinctWays, has_way, same_way}
 use Rattle.iox_lanes.specs.Lanes.{LaneState}
 use Rattle.iox_tables.specs.HubStates.Tables.{PortState}
 use Rattle.iox_tables.specs.HubStates.Ways.{lane_on, with_lane_on, with_lanes_on}
@@ -30,7 +30,7 @@ gets_nothing c order = record {
 -- ---- one after another
 
 -- lanes of other ways count the same
-others_count : (f : LaneState → ℕ) (ports : List PortState) (ws vs : List Way) → AreApart (ws ++ vs)
+others_count : (f : LaneState → ℕ) (ports : List PortState) (ws vs : List Way) → AreDistinctWays (ws ++ vs)
     → total (by_lane f 0 (lane_on (with_lanes_on emptied_lane ports ws))) vs ≡ total (by_lane f 0 (lane_on ports)) vs
 others_count f ports [] vs apart = refl
 others_count f ports (w ∷ ws) vs apart =
@@ -42,7 +42,7 @@ others_count f ports (w ∷ ws) vs apart =
     right true b e = absurd (true≢false e)
     right false b e = e
 
-pub gets_both : (a b c : ControlState) (ws vs : List Way) → AreApart (ws ++ vs) → GetsBack a ws b → GetsBack b vs c → GetsBack a (ws ++ vs) c
+pub gets_both : (a b c : ControlState) (ws vs : List Way) → AreDistinctWays (ws ++ vs) → GetsBack a ws b → GetsBack b vs c → GetsBack a (ws ++ vs) c
 gets_both a b c ws vs apart first second = record {
   left =
       second.left

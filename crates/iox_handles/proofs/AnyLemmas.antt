@@ -8,7 +8,7 @@ use Rattle.std.proofs.lemmas.List.Quantifiers.{position-Some}
 use Rattle.std.proofs.lemmas.List.Sums.{sum_by-cons, length-filter}
 use Rattle.std.proofs.lemmas.Option.{none-some}
 use Rattle.iox_handles.specs.declared.entry.Entry.{Entry}
-use Rattle.iox_handles.specs.Places.{handles_in, in_places, passes, AreApart}
+use Rattle.iox_handles.specs.Places.{handles_in, in_places, passes, NumbersAreApart}
 use Rattle.iox_handles.proofs.CountLemmas.{passing-places}
 
 positive : (n : ℕ) → true ≡ nat_lt 0 (1 + n)
@@ -28,7 +28,7 @@ any_counted {X} test (x ∷ xs) = by_case (test x) (any_counted test xs) ∙ ap 
     by_case false rest = rest ∙ ap (nat_lt 0) (sym (zero-add (count_by test xs)))
 
 -- one passes by number if one does place by place
-pub any-places : (test : Entry → Bool) (ps : List (Option Entry)) (n : ℕ) → AreApart ps → ((k : ℕ) → n ≤ k → in_places ps k ≡ None)
+pub any-places : (test : Entry → Bool) (ps : List (Option Entry)) (n : ℕ) → NumbersAreApart ps → ((k : ℕ) → n ≤ k → in_places ps k ≡ None)
     → list_any (passes test) ps ≡ list_any test (handles_in ps n)
 any-places test ps n apart below =
     any_counted (passes test) ps

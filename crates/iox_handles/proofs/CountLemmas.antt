@@ -6,7 +6,7 @@ use Rattle.std.proofs.lemmas.Bool.{ltb-true, ltb-false}
 use Rattle.std.proofs.lemmas.List.Elements.{filter-append}
 use Rattle.std.proofs.lemmas.List.Sums.{sum_by-cons}
 use Rattle.iox_handles.specs.declared.entry.Entry.{Entry}
-use Rattle.iox_handles.specs.Places.{option_list, by_number, in_places, passes, AreApart}
+use Rattle.iox_handles.specs.Places.{option_list, by_number, in_places, passes, NumbersAreApart}
 use Rattle.iox_handles.proofs.NumberLemmas.{agree, same_number, other, less_is_other, strict}
 
 -- how many of a list pass
@@ -61,7 +61,7 @@ passing-none test zero = refl
 passing-none test (suc n) = passing-append test (by_number (in_places []) n) [] ∙ add-zero (passing test (by_number (in_places []) n)) ∙ passing-none test n
 
 -- as many handles pass in the list by number as in the places
-pub passing-places : (test : Entry → Bool) (ps : List (Option Entry)) (n : ℕ) → AreApart ps → ((k : ℕ) → n ≤ k → in_places ps k ≡ None)
+pub passing-places : (test : Entry → Bool) (ps : List (Option Entry)) (n : ℕ) → NumbersAreApart ps → ((k : ℕ) → n ≤ k → in_places ps k ≡ None)
     → count_by (passes test) ps ≡ passing test (by_number (in_places ps) n)
 passing-places test [] n apart below = sym (passing-none test n)
 passing-places test (None ∷ ps) n apart below =

@@ -5,7 +5,7 @@ use Rattle.std.proofs.lemmas.Option.{none-some}
 use Rattle.std.proofs.lemmas.Bool.{ltb-true, ltb-false}
 use Rattle.iox_handles.specs.declared.entry.Entry.{Entry}
 use Rattle.iox_handles.specs.Least.{least, lesser}
-use Rattle.iox_handles.specs.Places.{option_list, by_number, in_places, AreApart, least_in, number_for}
+use Rattle.iox_handles.specs.Places.{option_list, by_number, in_places, NumbersAreApart, least_in, number_for}
 use Rattle.iox_handles.proofs.NumberLemmas.{agree, same_number, other, less_is_other, strict}
 
 -- ---- of two
@@ -101,7 +101,7 @@ for-none node zero = refl
 for-none node (suc n) = for-suc node (in_places []) n ∙ lesser-none (least_for node (by_number (in_places []) n)) ∙ for-none node n
 
 -- the least number in the list by number is that in the places
-pub least-places : (node : ℕ) (ps : List (Option Entry)) (n : ℕ) → AreApart ps → ((k : ℕ) → n ≤ k → in_places ps k ≡ None)
+pub least-places : (node : ℕ) (ps : List (Option Entry)) (n : ℕ) → NumbersAreApart ps → ((k : ℕ) → n ≤ k → in_places ps k ≡ None)
     → least_in node ps ≡ least_for node (by_number (in_places ps) n)
 least-places node [] n apart below = sym (for-none node n)
 least-places node (None ∷ ps) n apart below = least-places node ps n apart below

@@ -7,7 +7,7 @@ use Rattle.std.proofs.lemmas.Option.{none-some}
 use Rattle.std.proofs.lemmas.Bool.{ltb-false}
 use Rattle.std.proofs.lemmas.List.Quantifiers.{position-Some}
 use Rattle.iox_handles.specs.declared.entry.Entry.{Entry}
-use Rattle.iox_handles.specs.Places.{is_numbered, has_at, in_places, AreApart}
+use Rattle.iox_handles.specs.Places.{is_numbered, has_at, in_places, NumbersAreApart}
 use Rattle.iox_handles.proofs.NumberLemmas.{same_number, other, AreOwn}
 
 same_eq : (a b : ℕ) (c : Bool) → (a == b) ≡ c → (b == a) ≡ c
@@ -77,8 +77,8 @@ still_none : (g h : Entry) (ps : List (Option Entry)) → (g.number == h.number)
     → (if g.number == h.number then Some h else in_places ps g.number) ≡ None
 still_none g h ps differ none = ap (λ (b : Bool). if b then Some h else in_places ps g.number) differ ∙ none
 
-pub apart_put : (ps : List (Option Entry)) (i : ℕ) (h : Entry) → slice_get ps i ≡ Some None → in_places ps h.number ≡ None → AreApart ps
-    → AreApart (slice_set ps i (Some h))
+pub apart_put : (ps : List (Option Entry)) (i : ℕ) (h : Entry) → slice_get ps i ≡ Some None → in_places ps h.number ≡ None → NumbersAreApart ps
+    → NumbersAreApart (slice_set ps i (Some h))
 apart_put [] i h vacant new apart = absurd (none-some None vacant)
 apart_put (None ∷ ps) zero h vacant new apart = (new, apart)
 apart_put (Some g ∷ ps) zero h vacant new apart = absurd (none-some g (sym (inner (Some g) None vacant)))
@@ -87,7 +87,7 @@ apart_put (Some g ∷ ps) (suc i) h vacant new (first, apart) =
     let parts : ((g.number == h.number) ≡ false) × (in_places ps h.number ≡ None) = not_first g ps h.number new in
     (put_in_place ps i h g.number vacant parts.1 ∙ still_none g h ps parts.0 first, apart_put ps i h vacant parts.1 apart)
 
-pub apart_behind : (ps : List (Option Entry)) (h : Entry) → in_places ps h.number ≡ None → AreApart ps → AreApart (ps ++ Some h ∷ [])
+pub apart_behind : (ps : List (Option Entry)) (h : Entry) → in_places ps h.number ≡ None → NumbersAreApart ps → NumbersAreApart (ps ++ Some h ∷ [])
 apart_behind [] h new apart = (refl, tt)
 apart_behind (None ∷ ps) h new apart = apart_behind ps h new apart
 apart_behind (Some g ∷ ps) h new (first, apart) =
@@ -112,7 +112,7 @@ first_differs g h ps i at none = differ (g.number == h.number) refl
     differ true e = absurd (is_there ps i h at (ap (in_places ps) (sym (eqb-true g.number h.number e)) ∙ none))
     differ false e = refl
 
-pub of_place : (ps : List (Option Entry)) (i : ℕ) (h : Entry) → slice_get ps i ≡ Some (Some h) → AreApart ps → in_places ps h.number ≡ Some h
+pub of_place : (ps : List (Option Entry)) (i : ℕ) (h : Entry) → slice_get ps i ≡ Some (Some h) → NumbersAreApart ps → in_places ps h.number ≡ Some h
 of_place [] i h at apart = absurd (none-some (Some h) at)
 of_place (None ∷ ps) zero h at apart = absurd (none-some h (inner None (Some h) at))
 of_place (Some g ∷ ps) zero h at apart =
@@ -129,7 +129,7 @@ abbrev pub IsSameOrNone : ℕ → Option Entry → Type 0
 IsSameOrNone n None = ⊤
 IsSameOrNone n (Some h) = h.number ≡ n
 
-pub set_in_place : (ps : List (Option Entry)) (i : ℕ) (h : Entry) (o : Option Entry) (k : ℕ) → slice_get ps i ≡ Some (Some h) → AreApart ps
+pub set_in_place : (ps : List (Option Entry)) (i : ℕ) (h : Entry) (o : Option Entry) (k : ℕ) → slice_get ps i ≡ Some (Some h) → NumbersAreApart ps
     → IsSameOrNone h.number o → in_places (slice_set ps i o) k ≡ (if k == h.number then o else in_places ps k)
 set_in_place [] i h o k at apart same = absurd (none-some (Some h) at)
 set_in_place (None ∷ ps) zero h o k at apart same = absurd (none-some h (inner None (Some h) at))
@@ -153,8 +153,8 @@ set_in_place (Some g ∷ ps) (suc i) h o k at (first, apart) same =
     ap (λ x. if g.number == k then Some g else x) (set_in_place ps i h o k at apart same)
     ∙ apart_ifs g h k (in_places ps k) (g.number == k) (k == h.number) refl refl (first_differs g h ps i at first) o
 
-pub apart_set : (ps : List (Option Entry)) (i : ℕ) (h : Entry) (o : Option Entry) → slice_get ps i ≡ Some (Some h) → AreApart ps
-    → IsSameOrNone h.number o → AreApart (slice_set ps i o)
+pub apart_set : (ps : List (Option Entry)) (i : ℕ) (h : Entry) (o : Option Entry) → slice_get ps i ≡ Some (Some h) → NumbersAreApart ps
+    → IsSameOrNone h.number o → NumbersAreApart (slice_set ps i o)
 apart_set [] i h o at apart same = absurd (none-some (Some h) at)
 apart_set (None ∷ ps) zero h o at apart same = absurd (none-some h (inner None (Some h) at))
 apart_set (Some g ∷ ps) zero h None at (first, apart) same = apart

@@ -10,7 +10,7 @@ use Rattle.iox_model.specs.declared.kind.Kind.{Kind}
 use Rattle.iox_model.specs.declared.kind.Kind.TheVariants as kinds
 use Rattle.iox_handles.specs.declared.tally.Tally.{Tally}
 use Rattle.iox_handles.specs.declared.entry.Entry.{Entry}
-use Rattle.iox_handles.specs.Places.{AreApart, IsTable, handles_in, in_places, passes}
+use Rattle.iox_handles.specs.Places.{NumbersAreApart, IsTable, handles_in, in_places, passes}
 use Rattle.iox_handles.specs.Tables.{group_of, is_like, is_of}
 use Rattle.iox_handles.specs.Tallies.{IsTallied, is_counted_at, tally_place}
 
@@ -242,13 +242,13 @@ is_there port kind h e = both (h.port == port) (group_of h.kind == group_of kind
     both true false p g e = absurd (true≢false (sym e))
     both false b p g e = absurd (true≢false (sym e))
 
-pub as_counted : (counts : List ℕ) (ps : List (Option Entry)) (next port : ℕ) (kind : Kind) → IsTallied counts ps → AreApart ps
+pub as_counted : (counts : List ℕ) (ps : List (Option Entry)) (next port : ℕ) (kind : Kind) → IsTallied counts ps → NumbersAreApart ps
     → ((k : ℕ) → next ≤ k → in_places ps k ≡ None)
     → slice_index_or counts (tally_place port kind) 0 ≡ length (filter (is_counted_at (tally_place port kind)) (handles_in ps next))
 as_counted counts ps next port kind t apart below =
     t.each (tally_place port kind) (place_within port kind) ∙ passing-places (is_counted_at (tally_place port kind)) ps next apart below
 
-pub at_most_so_many : (counts : List ℕ) (ps : List (Option Entry)) (next port : ℕ) (kind : Kind) → IsTallied counts ps → AreApart ps
+pub at_most_so_many : (counts : List ℕ) (ps : List (Option Entry)) (next port : ℕ) (kind : Kind) → IsTallied counts ps → NumbersAreApart ps
     → ((k : ℕ) → next ≤ k → in_places ps k ≡ None)
     → length (filter (is_like port kind) (handles_in ps next)) ≤ slice_index_or counts (tally_place port kind) 0
 at_most_so_many counts ps next port kind t apart below =
@@ -273,7 +273,7 @@ same_kind_alike port kind h e = both (h.port == port) (same_kind h.kind kind) re
     both true false k e = absurd (true≢false (sym e))
     both false b k e = absurd (true≢false (sym e))
 
-pub none_counted : (counts : List ℕ) (ps : List (Option Entry)) (next port : ℕ) (kind : Kind) → IsTallied counts ps → AreApart ps
+pub none_counted : (counts : List ℕ) (ps : List (Option Entry)) (next port : ℕ) (kind : Kind) → IsTallied counts ps → NumbersAreApart ps
     → ((k : ℕ) → next ≤ k → in_places ps k ≡ None) → slice_index_or counts (tally_place port kind) 0 ≡ 0
     → 0 ≡ length (filter (is_of port kind) (handles_in ps next))
 none_counted counts ps next port kind t apart below none =

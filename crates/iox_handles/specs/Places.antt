@@ -59,10 +59,10 @@ abbrev pub handles_in : List (Option Entry) → ℕ → List Entry
 handles_in ps n = by_number (in_places ps) n
 
 -- no two handles have one number
-abbrev pub AreApart : List (Option Entry) → Type 0
-AreApart [] = ⊤
-AreApart (None ∷ ps) = AreApart ps
-AreApart (Some h ∷ ps) = (in_places ps h.number ≡ None) × AreApart ps
+abbrev pub NumbersAreApart : List (Option Entry) → Type 0
+NumbersAreApart [] = ⊤
+NumbersAreApart (None ∷ ps) = NumbersAreApart ps
+NumbersAreApart (Some h ∷ ps) = (in_places ps h.number ≡ None) × NumbersAreApart ps
 
 -- how many places have handles
 abbrev pub used : List (Option Entry) → ℕ
@@ -86,7 +86,7 @@ vacancy (o ∷ ps) (suc p) = vacancy ps p
 pub record IsTable (ps : List (Option Entry)) (free : List ℕ) (room next places_cap free_cap : ℕ)
     : Type 0 where
   -- a number is one handle's, and below the next
-  pub apart : AreApart ps
+  pub apart : NumbersAreApart ps
   pub below : (k : ℕ) → next ≤ k → in_places ps k ≡ None
   -- each vacant place is listed once, and no other
   pub listed : (p : ℕ) → how_often p free ≡ vacancy ps p

@@ -4,7 +4,7 @@ use Rattle.iox_model.specs.declared.way.Way.{Way}
 use Rattle.std.specs.Option.{option_map, option_map_or}
 use Rattle.std.proofs.Common.{sym, ap, ap₂, subst, ◌∙◌, true≢false}
 use Rattle.std.proofs.lemmas.Option.{none-some}
-use Rattle.iox_store.specs.Stored.{Stored, room_with, unlent}
+use Rattle.iox_store.specs.Stored.{StoredMessage, room_with, unlent}
 use Rattle.iox_model.specs.declared.call.Call.TheVariants.{SendCopy}
 use Rattle.iox_model.specs.declared.kind.Role.TheVariants.{Client}
 use Rattle.iox_hub_ports.specs.declared.info.PortInfo.{PortInfo}
@@ -140,7 +140,7 @@ module _ {h : HubState} (hub : IsHub h) (k : ℕ) (ws : List ℕ) (node n : ℕ)
 
     module _ (words : List (Option Carried))
         (put : words ≡ with_message h.words place.pool place.slot (copied_stored h.request.user k ws (stored_in h.words place.pool place.slot))) where
-      abbrev z : Stored
+      abbrev z : StoredMessage
       z = copied_stored h.request.user k ws (stored_in h.words place.pool place.slot)
 
       abbrev us : List (Option Carried)

@@ -7,7 +7,7 @@ use Rattle.iox_model.specs.declared.kind.Role.TheVariants.{Server}
 use Rattle.iox_model.specs.Commands.{Payload}
 use Rattle.iox_model.specs.Settings.{Shape, is_client, shape_of}
 use Rattle.iox_model.specs.WholeCalls.{IsWholeCall}
-use Rattle.iox_store.specs.Stored.{Stored, room_with}
+use Rattle.iox_store.specs.Stored.{StoredMessage, room_with}
 use Rattle.iox_tables.specs.HubBooks.Hubs.{AreInOrder}
 use Rattle.iox_tables.specs.HubLoans.Lenders.{IsActive, Lender, lender_of_response, shape_in}
 use Rattle.iox_tables.specs.HubLoans.Loans.{with_loaned}
@@ -140,7 +140,7 @@ module _ {h : HubState} (hub : IsHub h) (k : ℕ) (ws : List ℕ) (node n : ℕ)
 
     module _ (words : List (Option Carried))
         (put : words ≡ with_message h.words place.pool place.slot (copied_stored h.response.user k ws (stored_in h.words place.pool place.slot))) where
-      abbrev z : Stored
+      abbrev z : StoredMessage
       z = copied_stored h.response.user k ws (stored_in h.words place.pool place.slot)
 
       abbrev h' : HubState

@@ -2,7 +2,7 @@
 use Rattle.std.specs.Prelude.{◌≡◌, ℕ, zero, suc, ◌<◌, ◌≤◌, Bool, true, false, List, [], ◌∷◌, length, Option, slice_set, refl}
 use Rattle.std.proofs.Common.{sym, ap, subst, ◌∙◌, arith}
 use Rattle.std.proofs.lemmas.List.{get_or-set_same}
-use Rattle.iox_store.specs.Stored.{Contents, Stored, filled_with, lent_uninit, stored_at, unlent, with_stored}
+use Rattle.iox_store.specs.Stored.{Contents, StoredMessage, filled_with, lent_uninit, stored_at, unlent, with_stored}
 use Rattle.iox_lanes.specs.Incomings.{IncomingState}
 use Rattle.iox_model.specs.Maps.{has_number}
 use Rattle.iox_model.specs.Settings.{Shape, has_layout, is_client, is_count, other_role}
@@ -56,10 +56,10 @@ set_twice (x ∷ xs) (suc k) a b = ap (λ ys. x ∷ ys) (set_twice xs k a b)
 pub copied_is : (old lent new : Contents) (slot k : ℕ) (user ws : List ℕ) → slot < length old.messages → lent ≡ with_stored old slot (lent_uninit (stored_at old slot) k user)
     → new ≡ with_stored lent slot (filled_with (stored_at lent slot) ws) → new ≡ with_stored old slot (copied_stored user k ws (stored_at old slot))
 copied_is old lent new slot k user ws low is then =
-    let a : Stored = lent_uninit (stored_at old slot) k user in
+    let a : StoredMessage = lent_uninit (stored_at old slot) k user in
     then ∙ ap (λ (s : Contents). with_stored s slot (filled_with (stored_at s slot) ws)) is
-    ∙ ap (λ (z : Stored). with_stored (with_stored old slot a) slot (filled_with z ws)) (get_or-set_same old.messages slot a (unlent 0 []) low)
-    ∙ ap (λ (ms : List Stored). record old { messages = ms }) (set_twice old.messages slot a (filled_with a ws))
+    ∙ ap (λ (z : StoredMessage). with_stored (with_stored old slot a) slot (filled_with z ws)) (get_or-set_same old.messages slot a (unlent 0 []) low)
+    ∙ ap (λ (ms : List StoredMessage). record old { messages = ms }) (set_twice old.messages slot a (filled_with a ws))
 
 -- ---- counts
 
@@ -115,7 +115,7 @@ module _ {many : Bool × Bool} (words : List (Option Carried)) (t : HubTables) (
   pub none_there : OfEachHandle (IsNoUnfilled y.port.pool slot) t.handles
   none_there = no_others words t fit order y.port.number y may.there false k slot may.within may.free t.handles unused.handles
 
-  module _ (z : Stored) (elements : z.elements ≡ k) where
+  module _ (z : StoredMessage) (elements : z.elements ≡ k) where
     abbrev put : List (Option Carried)
     put = with_message words y.port.pool slot z
 

@@ -3,7 +3,7 @@ use Rattle.std.specs.Prelude.{◌≡◌, ℕ, ◌*◌, ◌<◌, Bool, true, fals
 use Rattle.std.specs.Option.{option_map_or}
 use Rattle.std.proofs.Common.{sym, ap, ap₂, subst, ◌∙◌, arith, eqb-true, eq-eqb}
 use Rattle.std.proofs.lemmas.Option.{same_Some}
-use Rattle.iox_store.specs.Stored.{Contents, Stored, stored_at, unlent}
+use Rattle.iox_store.specs.Stored.{Contents, StoredMessage, stored_at, unlent}
 use Rattle.iox_model.specs.declared.kind.Kind.{Kind}
 use Rattle.iox_model.specs.declared.kind.Role.{Role}
 use Rattle.iox_model.specs.declared.kind.Role.TheVariants.{Client, Server}
@@ -76,7 +76,7 @@ slot_within {h} hub node n k there =
 
 -- ---- once its message is another
 
-module _ (words : List (Option Carried)) (place : Place) (z : Stored) (new : List (Option Carried)) (put : new ≡ with_message words place.pool place.slot z) where
+module _ (words : List (Option Carried)) (place : Place) (z : StoredMessage) (new : List (Option Carried)) (put : new ≡ with_message words place.pool place.slot z) where
   put_of : (b : Bool) → are_requests_in words place.pool ≡ b → are_requests_in new place.pool ≡ b
   put_of b is = ap (λ (ws : List (Option Carried)). are_requests_in ws place.pool) put ∙ requests_new words place.pool place.slot z place.pool ∙ is
 
@@ -99,7 +99,7 @@ module _ {h : HubState} {role : Role} {node n : ℕ} {all : Bool} {new : Control
   abbrev k : HandleState
   k = c.loan.handle
 
-  abbrev was : Stored
+  abbrev was : StoredMessage
   was = stored_in h.words k.pool k.slot
 
   abbrev kind : Kind
@@ -133,7 +133,7 @@ module _ {h : HubState} {role : Role} {node n : ℕ} {all : Bool} {new : Control
   -- if it is full, all of it is filled
   pub fill_full : is_full_loan k.kind ≡ true → (message_in h node n).filled ≡ (message_in h node n).elements
   fill_full e =
-      subst (λ (s : Stored). s.filled ≡ s.elements) (sym (loan_message role hub node n c.loan))
+      subst (λ (s : StoredMessage). s.filled ≡ s.elements) (sym (loan_message role hub node n c.loan))
       ((handle_is (SuitsHandle h.words) t.handles node n k hub.words.handles c.loan.there).full e)
 
   -- ---- others
@@ -165,7 +165,7 @@ module _ {h : HubState} {role : Role} {node n : ℕ} {all : Bool} {new : Control
 
   -- ---- what is filled in
 
-  module _ (z : Stored) (suits : SuitsShape (shape_in h role) z) (elements : z.elements ≡ (message_in h node n).elements)
+  module _ (z : StoredMessage) (suits : SuitsShape (shape_in h role) z) (elements : z.elements ≡ (message_in h node n).elements)
       (full : is_full_loan kind ≡ true → z.filled ≡ z.elements) (words : List (Option Carried)) (put : words ≡ with_message h.words place.pool place.slot z) where
     abbrev h' : HubState
     h' = record h { control = new; words = words }
@@ -174,7 +174,7 @@ module _ {h : HubState} {role : Role} {node n : ℕ} {all : Bool} {new : Control
     put_here = put ∙ ap (λ (q : Place). with_message h.words q.pool q.slot z) at_place
 
     same_elements : z.elements ≡ was.elements
-    same_elements = elements ∙ ap (λ (s : Stored). s.elements) (loan_message role hub node n c.loan)
+    same_elements = elements ∙ ap (λ (s : StoredMessage). s.elements) (loan_message role hub node n c.loan)
 
     -- the words fit
 
@@ -182,7 +182,7 @@ module _ {h : HubState} {role : Role} {node n : ℕ} {all : Bool} {new : Control
     turned_suits = record {
       kind = requests_new h.words k.pool k.slot z k.pool ∙ (handle_is (SuitsHandle h.words) t.handles node n k hub.words.handles c.loan.there).kind
           ∙ sym (after_of_request all k.kind loan);
-      full = λ e. subst (λ (s : Stored). s.filled ≡ s.elements) (sym (stored_new h.words k.pool k.slot z (loan_within role hub node n c.loan))) (full e);
+      full = λ e. subst (λ (s : StoredMessage). s.filled ≡ s.elements) (sym (stored_new h.words k.pool k.slot z (loan_within role hub node n c.loan))) (full e);
     }
 
     each_else : (hs : List HandleState) → OfEachHandle (SuitsHandle h.words) hs
@@ -286,7 +286,7 @@ module _ {h : HubState} {role : Role} {node n : ℕ} {all : Bool} {new : Control
 -- ---- its words are looked up, once its message is another
 
 module _ {h : HubState} {role : Role} {node n : ℕ} {all : Bool} {new : ControlState} {place : Place} (c : IsFillCall h role node n all new place)
-    (words : List (Option Carried)) (z : Stored) (put : words ≡ with_message h.words place.pool place.slot z) (ws : List (Option Carried)) (same : ws ≡ words) where
+    (words : List (Option Carried)) (z : StoredMessage) (put : words ≡ with_message h.words place.pool place.slot z) (ws : List (Option Carried)) (same : ws ≡ words) where
   pub looked_of : are_requests_in ws place.pool ≡ is_client role
   looked_of = are_requests_same ws words place.pool (is_client role) same (put_of h.words place z words put (is_client role) (fill_of c))
 

@@ -3,7 +3,7 @@ use Rattle.std.specs.Prelude.{◌≡◌, ℕ, zero, suc, ◌<◌, Bool, true, fa
 use Rattle.std.proofs.Common.{sym, ap, subst, ◌∙◌, arith}
 use Rattle.std.proofs.lemmas.List.{set-get_or}
 use Rattle.iox_store.specs.Answering.{FillsByAnswers}
-use Rattle.iox_store.specs.Stored.{Stored, unlent, with_user, written_next}
+use Rattle.iox_store.specs.Stored.{StoredMessage, unlent, with_user, written_next}
 use Rattle.iox_model.specs.declared.kind.Role.{Role}
 use Rattle.iox_control.specs.Controls.{ControlState}
 use Rattle.iox_control_request_copies.specs.Place.{Place}
@@ -34,10 +34,10 @@ same_put words pool k =
     same (w ∷ ws) (suc i) = ap (λ vs. w ∷ vs) (same ws i)
 
 module _ {h : HubState} {role : Role} {node n : ℕ} {all : Bool} {new : ControlState} {place : Place} (c : IsFillCall h role node n all new place) where
-  abbrev was : Stored
+  abbrev was : StoredMessage
   was = stored_in h.words place.pool place.slot
 
-  abbrev m : Stored
+  abbrev m : StoredMessage
   m = message_in h node n
 
   abbrev left_with : List (Option Carried) → HubState
@@ -45,14 +45,14 @@ module _ {h : HubState} {role : Role} {node n : ℕ} {all : Bool} {new : Control
 
   -- there is room in the slot where there is in the message
   pub room_there : m.filled < m.elements → was.filled < was.elements
-  room_there room = subst (λ (s : Stored). s.filled < s.elements) (fill_message c) room
+  room_there room = subst (λ (s : StoredMessage). s.filled < s.elements) (fill_message c) room
 
   pub as_it_is : h.words ≡ with_message h.words place.pool place.slot was
   as_it_is = sym (same_put h.words place.pool place.slot)
 
   -- ---- the message becomes another one
 
-  module _ (f : Stored → Stored) (words : List (Option Carried)) (put : words ≡ with_message h.words place.pool place.slot (f was))
+  module _ (f : StoredMessage → StoredMessage) (words : List (Option Carried)) (put : words ≡ with_message h.words place.pool place.slot (f was))
       (suits : SuitsShape (shape_in h role) (f was)) (elements : (f m).elements ≡ m.elements)
       (full : is_full_loan (kind_after all c.loan.handle.kind) ≡ true → (f m).filled ≡ (f m).elements) where
     same : m ≡ was
@@ -103,17 +103,17 @@ module _ {h : HubState} {role : Role} {node n : ℕ} {new : ControlState} {place
   module _ (words : List (Option Carried)) (put : words ≡ with_message h.words place.pool place.slot (stored_in words place.pool place.slot))
       (suits : SuitsShape (shape_in h role) (stored_in words place.pool place.slot)) {F E : Type 0} (f_words : E → List ℕ) (step : F → ℕ → E → F → Type 0) (f : F)
       (fills : FillsByAnswers f_words step f (was c) (stored_in words place.pool place.slot)) where
-    abbrev z : Stored
+    abbrev z : StoredMessage
     z = stored_in words place.pool place.slot
 
     message_same : m c ≡ was c
     message_same = fill_message c
 
     elements_same : z.elements ≡ (m c).elements
-    elements_same = ap (λ (s : Stored). s.elements) fills.left ∙ ap (λ (s : Stored). s.elements) (sym message_same)
+    elements_same = ap (λ (s : StoredMessage). s.elements) fills.left ∙ ap (λ (s : StoredMessage). s.elements) (sym message_same)
 
     all_filled : z.filled ≡ z.elements
-    all_filled = ap (λ (s : Stored). s.filled) fills.left ∙ ap (λ (s : Stored). s.elements) (sym fills.left)
+    all_filled = ap (λ (s : StoredMessage). s.filled) fills.left ∙ ap (λ (s : StoredMessage). s.elements) (sym fills.left)
 
     pub answered_hub : IsHub (left_with c words)
     answered_hub = becomes_hub c (λ s. z) words put suits elements_same (λ e. all_filled)

@@ -2,7 +2,7 @@
 use Rattle.std.specs.Prelude.{◌≡◌, ℕ, Bool, true, false, ◌&&◌, if◌then◌else◌, ◌==◌, [], Option, Some, None, IsSome, is_some, slice_set, refl, ⊤}
 use Rattle.std.specs.Option.{option_map_or}
 use Rattle.std.proofs.Common.{sym, ap, subst, ◌∙◌, true≢false, eqb-true}
-use Rattle.iox_store.specs.Stored.{Stored, stored_at, unlent}
+use Rattle.iox_store.specs.Stored.{StoredMessage, stored_at, unlent}
 use Rattle.iox_model.specs.declared.kind.Kind.{Kind}
 use Rattle.iox_model.specs.declared.kind.Role.{Role}
 use Rattle.iox_tables.specs.HubStates.Tables.{HandleState, HubTables, PoolState, PortState, pool_at, port_in}
@@ -101,7 +101,7 @@ words_left_keep h order place a m all some = value_stays h (with_words_left h pl
     t : HubTables
     t = h.control.tables
 
-    stored_of : Option (Option Carried) → ℕ → Stored
+    stored_of : Option (Option Carried) → ℕ → StoredMessage
     stored_of o k = option_map_or (λ q. option_map_or (λ (c : Carried). stored_at c.contents k) q (unlent 0 [])) o (unlent 0 [])
 
     words : (k : HandleState) → handle_in t.handles a m ≡ Some k → stored_in (with_words_left h place).words k.pool k.slot ≡ stored_in h.words k.pool k.slot

@@ -1,7 +1,7 @@
 -- Copies keep all values.
 use Rattle.std.specs.Prelude.{◌≡◌, ◌≢◌, ◌+◌, ℕ, Bool, true, false, List, [], ◌∷◌, length, map, Option, None, Some, IsSome, refl, ⊤}
 use Rattle.std.proofs.Common.{ap, subst, ◌∙◌}
-use Rattle.iox_store.specs.Stored.{Stored}
+use Rattle.iox_store.specs.Stored.{StoredMessage}
 use Rattle.iox_tables.specs.HubBooks.Hubs.{AreInOrder}
 use Rattle.iox_tables.specs.HubBooks.Keeps.{delivers}
 use Rattle.iox_tables.specs.HubLending.Emptying.{with_back}
@@ -75,7 +75,7 @@ module _ {h : HubState} (hub : IsHub h) (new : ControlState) (order : IsControl 
   put_keeps : (port : ℕ) → port_in t.ports port ≡ Some p → (pool slot : ℕ) → pool ≡ p.pool → (slot_at between.tables.pools p.pool slot).holders ≡ 0
       → AreOwnedAs between.tables.ports new.tables.ports
       → ((a m : ℕ) → IsSome (kind_in t a m) → handle_in new.tables.handles a m ≡ handle_in between.tables.handles a m)
-      → (words : List (Option Carried)) (z : Stored) → words ≡ with_message h.words pool slot z → KeepsAll h (record h { control = new; words = words })
+      → (words : List (Option Carried)) (z : StoredMessage) → words ≡ with_message h.words pool slot z → KeepsAll h (record h { control = new; words = words })
   put_keeps port there pool slot at_pool free owned_so rows words z put a m all some =
       value_stays h (record h { control = new; words = words }) order.order a m ports row message some
     where
@@ -146,7 +146,7 @@ module _ {h : HubState} (hub : IsHub h) (k : ℕ) (ws : List ℕ) (node n : ℕ)
         ∙ ap (λ (x : HubTables). handle_in x.handles a m) loaned_is
         ∙ other_added (loaned_handle mid.tables its false place.slot) a m (λ e. not_next (e ∙ next_same)) mid.tables.handles
 
-    pub request_keeps_all : (words : List (Option Carried)) (z : Stored) → words ≡ with_message h.words place.pool place.slot z
+    pub request_keeps_all : (words : List (Option Carried)) (z : StoredMessage) → words ≡ with_message h.words place.pool place.slot z
         → KeepsAll h (record h { control = new; words = words })
     request_keeps_all =
         put_keeps hub new c.order its_port mid sent.lent.back n c.client.there place.pool place.slot sent.lent.made.pool sent.lent.made.free ports_owned rows
@@ -186,7 +186,7 @@ module _ {h : HubState} (hub : IsHub h) (k : ℕ) (ws : List ℕ) (node n : ℕ)
       (ap (λ (d : ControlState). map owned d.tables.ports) is.left ∙ lost_owned fails is.between.tables y.port.number)
       (ap (λ (d : ControlState). d.tables.handles) is.left ∙ lost_handles fails is.between.tables y.port.number)
 
-  in_line_keeps : (place : Place) (c : IsAnswerCall h k ws node n new (answered.Done (Some place))) (words : List (Option Carried)) (z : Stored)
+  in_line_keeps : (place : Place) (c : IsAnswerCall h k ws node n new (answered.Done (Some place))) (words : List (Option Carried)) (z : StoredMessage)
       → words ≡ with_message h.words place.pool place.slot z → KeepsAll h (record h { control = new; words = words })
   in_line_keeps place c =
       put_keeps hub new c.order y.port mid line.may.back c.active.handle.port c.active.there place.pool place.slot line.pool line.may.may.free
@@ -211,7 +211,7 @@ module _ {h : HubState} (hub : IsHub h) (k : ℕ) (ws : List ℕ) (node n : ℕ)
       tables = ap (λ (d : ControlState). d.tables) line.left
 
   -- the same, where the result is said otherwise
-  pub response_keeps_all : (r : Answered) (place : Place) → copy_place r ≡ Some place → IsAnswerCall h k ws node n new r → (words : List (Option Carried)) (z : Stored)
+  pub response_keeps_all : (r : Answered) (place : Place) → copy_place r ≡ Some place → IsAnswerCall h k ws node n new r → (words : List (Option Carried)) (z : StoredMessage)
       → words ≡ with_message h.words place.pool place.slot z → KeepsAll h (record h { control = new; words = words })
   response_keeps_all r place at c =
       in_line_keeps place (subst (λ q. IsAnswerCall h k ws node n new q) (done_is hub k ws node n new r place at c) c)

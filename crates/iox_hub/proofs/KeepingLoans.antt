@@ -3,7 +3,7 @@ use Rattle.std.specs.Prelude.{◌≡◌, ◌+◌, ℕ, Bool, true, false, ◌&&�
 use Rattle.std.specs.List.{list_any}
 use Rattle.std.proofs.Common.{sym, ap, ◌∙◌, true≢false}
 use Rattle.std.proofs.lemmas.Option.{none-some, same_Some}
-use Rattle.iox_store.specs.Stored.{Stored}
+use Rattle.iox_store.specs.Stored.{StoredMessage}
 use Rattle.iox_model.specs.declared.kind.Kind.{Kind}
 use Rattle.iox_model.specs.declared.kind.Role.{Role}
 use Rattle.iox_model.specs.Handles.{filled_kind}
@@ -87,7 +87,7 @@ module _ {h : HubState} (hub : IsHub h) (role : Role) (shape : Shape) (uninit : 
     pub loan_is_new : HasNothing h node l.number
     loan_is_new = next_is_nothing t hub.control.order node l.number (c.left.made.number ∙ next_same)
 
-    module _ (words : List (Option Carried)) (z : Stored) (put : words ≡ with_message h.words l.pool l.slot z) where
+    module _ (words : List (Option Carried)) (z : StoredMessage) (put : words ≡ with_message h.words l.pool l.slot z) where
       pub loan_keeps : KeepsAll h (record h { control = new; words = words })
       loan_keeps a m all some = value_stays h (record h { control = new; words = words }) c.order.order a m ports row message some
         where
@@ -131,7 +131,7 @@ module _ {h : HubState} (hub : IsHub h) (role : Role) (shape : Shape) (uninit : 
 -- ---- writes
 
 module _ {h : HubState} {role : Role} {node n count : ℕ} {new : ControlState} {place : Place} (c : IsWriteCall h role node n count new (written.Done place))
-    (words : List (Option Carried)) (z : Stored) (put : words ≡ with_message h.words place.pool place.slot z) where
+    (words : List (Option Carried)) (z : StoredMessage) (put : words ≡ with_message h.words place.pool place.slot z) where
   abbrev tables : HubTables
   tables = h.control.tables
 

@@ -2,7 +2,7 @@
 use Rattle.std.specs.Prelude.{◌≡◌, ℕ, ◌<◌, ◌≤◌, Bool, true, false, ◌&&◌, ◌==◌, List, [], ◌∷◌, length, Option, Some, refl}
 use Rattle.std.specs.List.{list_any}
 use Rattle.std.proofs.Common.{sym, ap, ap₂, subst, ◌∙◌, arith, eqb-true}
-use Rattle.iox_store.specs.Stored.{Stored}
+use Rattle.iox_store.specs.Stored.{StoredMessage}
 use Rattle.iox_lanes.specs.Incomings.{IncomingState}
 use Rattle.iox_model.specs.Maps.{has_number}
 use Rattle.iox_model.specs.Settings.{is_client, other_role}
@@ -39,7 +39,7 @@ PoolsWereThere old new =
 pub pools_stay : (pools : List (Option PoolState)) → PoolsWereThere pools pools
 pools_stay pools place q at = (q, at, refl)
 
-module _ (words : List (Option Carried)) (pool k : ℕ) (z : Stored) where
+module _ (words : List (Option Carried)) (pool k : ℕ) (z : StoredMessage) where
   abbrev new : List (Option Carried)
   new = with_message words pool k z
 
@@ -48,7 +48,7 @@ module _ (words : List (Option Carried)) (pool k : ℕ) (z : Stored) where
   pub suits_else : (h : HandleState) → is_place pool k h.pool h.slot ≡ false → SuitsHandle words h → SuitsHandle new h
   suits_else h other is = record {
     kind = requests_new words pool k z h.pool ∙ is.kind;
-    full = λ e. subst (λ (s : Stored). s.filled ≡ s.elements) (sym (stored_else words pool k z h.pool h.slot other)) (is.full e);
+    full = λ e. subst (λ (s : StoredMessage). s.filled ≡ s.elements) (sym (stored_else words pool k z h.pool h.slot other)) (is.full e);
   }
 
   -- whatever is filled, in the handle's own slot or in another
@@ -62,13 +62,13 @@ module _ (words : List (Option Carried)) (pool k : ℕ) (z : Stored) where
       step : (a b : Bool) → (h.pool == pool) ≡ a → (h.slot == k) ≡ b → (stored_in words h.pool h.slot).filled ≡ (stored_in words h.pool h.slot).elements
           → (stored_in new h.pool h.slot).filled ≡ (stored_in new h.pool h.slot).elements
       step true true ea eb old =
-          subst (λ (s : Stored). s.filled ≡ s.elements)
+          subst (λ (s : StoredMessage). s.filled ≡ s.elements)
           (sym (ap (stored_in new h.pool) (eqb-true h.slot k eb) ∙ ap (λ q. stored_in new q k) (eqb-true h.pool pool ea) ∙ stored_new words pool k z low)) all
       step true false ea eb old =
-          subst (λ (s : Stored). s.filled ≡ s.elements)
+          subst (λ (s : StoredMessage). s.filled ≡ s.elements)
           (sym (stored_else words pool k z h.pool h.slot (ap (λ a. a && (h.slot == k)) ea ∙ eb))) old
       step false b ea eb old =
-          subst (λ (s : Stored). s.filled ≡ s.elements)
+          subst (λ (s : StoredMessage). s.filled ≡ s.elements)
           (sym (stored_else words pool k z h.pool h.slot (ap (λ a. a && (h.slot == k)) ea))) old
 
   -- where nobody has the slot, each handle has what it had
@@ -121,13 +121,13 @@ module _ (words : List (Option Carried)) (pool k : ℕ) (z : Stored) where
         old_elements : (place j : ℕ) → j < length (slots_of t'.pools place) → is_place pool k place j ≡ false
             → (stored_in new place j).elements ≡ (slot_at t'.pools place j).elements
         old_elements place j within other =
-            ap (λ (s : Stored). s.elements) (stored_else words pool k z place j other)
+            ap (λ (s : StoredMessage). s.elements) (stored_else words pool k z place j other)
             ∙ fit.elements place j (let count = counts place in omega (arith, within, count)) ∙ sym (others place j other)
 
         elements : (place j : ℕ) → j < length (slots_of t'.pools place) → (a b : Bool) → (place == pool) ≡ a → (j == k) ≡ b
             → (stored_in new place j).elements ≡ (slot_at t'.pools place j).elements
         elements place j within true true ea eb =
-            ap (λ (s : Stored). s.elements)
+            ap (λ (s : StoredMessage). s.elements)
             (ap (stored_in new place) (eqb-true j k eb) ∙ ap (λ q. stored_in new q k) (eqb-true place pool ea) ∙ stored_new words pool k z low)
             ∙ here
             ∙ ap (λ (s : SlotState). s.elements) (sym (ap (slot_at t'.pools place) (eqb-true j k eb) ∙ ap (λ q. slot_at t'.pools q k) (eqb-true place pool ea)))

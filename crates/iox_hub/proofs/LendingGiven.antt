@@ -1,7 +1,7 @@
 -- What a hub gives, and the state that it shows, once one message carries other words.
 use Rattle.std.specs.Prelude.{◌≡◌, ℕ, ◌<◌, Bool, true, false, if◌then◌else◌, List, [], ◌∷◌, refl}
 use Rattle.std.proofs.Common.{sym, ap, ◌∙◌, true≢false}
-use Rattle.iox_store.specs.Stored.{Stored}
+use Rattle.iox_store.specs.Stored.{StoredMessage}
 use Rattle.iox_model.specs.Commands.{Call, Reply, Use}
 use Rattle.iox_model.specs.Runs.{OfHub}
 use Rattle.iox_model.specs.WholeCalls.{IsWholeCall, is_uninit}
@@ -19,15 +19,15 @@ use Rattle.iox_hub.specs.Words.{stored_in}
 use Rattle.iox_hub.proofs.LendingWords.{stored_put}
 
 -- the words of a message, as the machine has them
-abbrev pub contents_in : Stored → SlotContents
+abbrev pub contents_in : StoredMessage → SlotContents
 contents_in z = record { user = z.user; payload = z.payload; filled = z.filled }
 
 -- the hub with these tables, and another message in that slot
-abbrev pub hub_with : HubState → ControlState → ℕ → ℕ → Stored → HubState
+abbrev pub hub_with : HubState → ControlState → ℕ → ℕ → StoredMessage → HubState
 hub_with h c pool k z = record h { control = c; words = with_message h.words pool k z }
 
 -- what is taken of each message is so of the one that is put
-put_of : {A : Type 0} (show : Stored → A) (f : ℕ → ℕ → Stored) (pool k : ℕ) (z : Stored) (p j : ℕ)
+put_of : {A : Type 0} (show : StoredMessage → A) (f : ℕ → ℕ → StoredMessage) (pool k : ℕ) (z : StoredMessage) (p j : ℕ)
     → put_place (λ p j. show (f p j)) pool k (show z) p j ≡ show (put_place f pool k z p j)
 put_of show f pool k z p j = step (is_place pool k p j)
   where
@@ -35,13 +35,13 @@ put_of show f pool k z p j = step (is_place pool k p j)
     step true = refl
     step false = refl
 
-pub given_put : (x : Given) (h : HubState) (c : ControlState) (pool k : ℕ) (z : Stored) → k < count_in h.words pool
+pub given_put : (x : Given) (h : HubState) (c : ControlState) (pool k : ℕ) (z : StoredMessage) → k < count_in h.words pool
     → with_contents (given_by x h) pool k (contents_in z) ≡ given_by x (hub_with h c pool k z)
 given_put x h c pool k z low =
     λ i. record (given_by x h) {
-      user = λ p j. (put_of (λ s. s.user) (stored_in h.words) pool k z p j ∙ ap (λ (s : Stored). s.user) (sym (stored_put h.words pool k z low p j))) i;
-      payload = λ p j. (put_of (λ s. s.payload) (stored_in h.words) pool k z p j ∙ ap (λ (s : Stored). s.payload) (sym (stored_put h.words pool k z low p j))) i;
-      filled = λ p j. (put_of (λ s. s.filled) (stored_in h.words) pool k z p j ∙ ap (λ (s : Stored). s.filled) (sym (stored_put h.words pool k z low p j))) i;
+      user = λ p j. (put_of (λ s. s.user) (stored_in h.words) pool k z p j ∙ ap (λ (s : StoredMessage). s.user) (sym (stored_put h.words pool k z low p j))) i;
+      payload = λ p j. (put_of (λ s. s.payload) (stored_in h.words) pool k z p j ∙ ap (λ (s : StoredMessage). s.payload) (sym (stored_put h.words pool k z low p j))) i;
+      filled = λ p j. (put_of (λ s. s.filled) (stored_in h.words) pool k z p j ∙ ap (λ (s : StoredMessage). s.filled) (sym (stored_put h.words pool k z low p j))) i;
     }
 
 -- no unfilled loan is of that slot

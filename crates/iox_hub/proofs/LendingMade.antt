@@ -5,7 +5,7 @@ use Rattle.std.specs.Option.{option_map, option_map_or}
 use Rattle.std.proofs.Common.{sym, ap, ap₂, subst, ◌∙◌, arith, true≢false}
 use Rattle.std.proofs.lemmas.List.{length-set}
 use Rattle.std.proofs.lemmas.Option.{none-some, same_Some}
-use Rattle.iox_store.specs.Stored.{Stored, unlent}
+use Rattle.iox_store.specs.Stored.{StoredMessage, unlent}
 use Rattle.iox_model.specs.declared.kind.Role.{Role}
 use Rattle.iox_model.specs.declared.kind.Role.TheVariants.{Client, Server}
 use Rattle.iox_model.specs.Commands.{Call, Reply}
@@ -163,12 +163,12 @@ module _ {many : Bool × Bool} (words : List (Option Carried)) (t : HubTables) (
       each_last (IsNoUnfilled y.port.pool slot) t.handles handle (no_others t.handles unused.handles)
       (λ here. ap (λ u. is_uninit (kind_of_loan y.port.role u)) e ∙ filled_is_no_uninit y.port.role)
 
-  module _ (z : Stored) (elements : z.elements ≡ k) (filled : uninit ≡ false → z.filled ≡ z.elements) where
+  module _ (z : StoredMessage) (elements : z.elements ≡ k) (filled : uninit ≡ false → z.filled ≡ z.elements) where
     loan_suits : SuitsHandle (with_message words y.port.pool slot z) handle
     loan_suits = record {
       kind = requests_new words y.port.pool slot z y.port.pool ∙ fit.ports n y.port there ∙ loan_of_role y.port.role uninit;
       full = λ e.
-          subst (λ (s : Stored). s.filled ≡ s.elements) (sym (stored_new words y.port.pool slot z slot_has_words))
+          subst (λ (s : StoredMessage). s.filled ≡ s.elements) (sym (stored_new words y.port.pool slot z slot_has_words))
           (filled (full_is_filled y.port.role uninit e));
     }
 
@@ -185,15 +185,15 @@ module _ {many : Bool × Bool} (words : List (Option Carried)) (t : HubTables) (
 
 -- ---- the words of a new loan
 
-elements_first : (shape : Shape) (uninit : Bool) (k : ℕ) (w : Stored) → (first_stored shape uninit k w).elements ≡ k
+elements_first : (shape : Shape) (uninit : Bool) (k : ℕ) (w : StoredMessage) → (first_stored shape uninit k w).elements ≡ k
 elements_first shape true k w = refl
 elements_first shape false k w = refl
 
-filled_first : (shape : Shape) (uninit : Bool) (k : ℕ) (w : Stored) → uninit ≡ false → (first_stored shape uninit k w).filled ≡ (first_stored shape uninit k w).elements
+filled_first : (shape : Shape) (uninit : Bool) (k : ℕ) (w : StoredMessage) → uninit ≡ false → (first_stored shape uninit k w).filled ≡ (first_stored shape uninit k w).elements
 filled_first shape true k w e = absurd (true≢false e)
 filled_first shape false k w e = refl
 
-pub first_again : (shape : Shape) (uninit : Bool) (k : ℕ) (w : Stored) → first_stored shape uninit k w ≡ first_stored shape uninit k (first_stored shape uninit k w)
+pub first_again : (shape : Shape) (uninit : Bool) (k : ℕ) (w : StoredMessage) → first_stored shape uninit k w ≡ first_stored shape uninit k (first_stored shape uninit k w)
 first_again shape true k w = refl
 first_again shape false k w = refl
 
@@ -201,7 +201,7 @@ first_again shape false k w = refl
 abbrev contents_first : Shape → Bool → ℕ → SlotContents
 contents_first shape uninit k = record { user = shape.user; payload = if uninit then [] else default_payload shape k; filled = 0 }
 
-shown_first : (x : Given) (t : HubTables) (pool slot : ℕ) (shape : Shape) (uninit : Bool) (k : ℕ) (w : Stored)
+shown_first : (x : Given) (t : HubTables) (pool slot : ℕ) (shape : Shape) (uninit : Bool) (k : ℕ) (w : StoredMessage)
     → (uninit ≡ false → OfEachHandle (IsNoUnfilled pool slot) t.handles)
     → state_shown (with_contents x pool slot (contents_first shape uninit k)) t
     ≡ state_shown (with_contents x pool slot (contents_in (first_stored shape uninit k w))) t
@@ -219,7 +219,7 @@ module _ {h : HubState} (hub : IsHub h) (shape : Shape) (a : Asked) (y : Lender)
   abbrev its : Lender
   its = on_lane y is.made.lane
 
-  abbrev z : Stored
+  abbrev z : StoredMessage
   z = first_stored shape a.uninit a.elements (stored_in h.words l.pool l.slot)
 
   mid_fits : WordsFit (many_in h) h.words mid.tables

@@ -2,7 +2,7 @@
 use Rattle.std.specs.Prelude.{◌≡◌, ℕ, zero, suc, ◌<◌, Bool, List, [], ◌∷◌, Option, Some, option_map, slice_index_or, slice_set}
 use Rattle.std.proofs.Common.{sym, ap, ◌∙◌, arith}
 use Rattle.std.proofs.lemmas.List.{map-set}
-use Rattle.iox_store.specs.Stored.{Contents, Stored, stored_at, with_stored}
+use Rattle.iox_store.specs.Stored.{Contents, StoredMessage, stored_at, with_stored}
 use Rattle.iox_hub.specs.declared.words.PoolWords.{PoolWords}
 use Rattle.iox_hub.specs.Fits.{carried_in, count_in}
 use Rattle.iox_hub.specs.Lending.{with_carried, with_message}
@@ -17,7 +17,7 @@ there_is (p ∷ ps) zero k o low e = ap (option_map carried) (sym e)
 there_is (p ∷ ps) (suc i) k o low e = there_is ps i k o low e
 
 -- the pool in this place is set anew, and what it carries differs in one message
-pub put_is : {A B C D : Type 0} (ps : List (Option (PoolWords A B C D))) (p : PoolWords A B C D) (pool k : ℕ) (b : Bool) (old new : Contents) (f : Stored → Stored)
+pub put_is : {A B C D : Type 0} (ps : List (Option (PoolWords A B C D))) (p : PoolWords A B C D) (pool k : ℕ) (b : Bool) (old new : Contents) (f : StoredMessage → StoredMessage)
     → carried_in (all_carried ps) pool ≡ Some (record { requests = b; contents = old })
     → carried p ≡ record { requests = b; contents = new } → new ≡ with_stored old k (f (stored_at old k))
     → all_carried (slice_set ps pool (Some p)) ≡ with_message (all_carried ps) pool k (f (stored_in (all_carried ps) pool k))

@@ -4,7 +4,7 @@ use Rattle.std.specs.Option.{option_map, option_map_or}
 use Rattle.std.proofs.Common.{sym, ap, ◌∙◌, arith, true≢false, eqb-true, eq-eqb}
 use Rattle.std.proofs.lemmas.List.{get_or-set_other, get_or-set_same, length-set}
 use Rattle.std.proofs.lemmas.Option.{none-some}
-use Rattle.iox_store.specs.Stored.{Stored, stored_at, unlent}
+use Rattle.iox_store.specs.Stored.{StoredMessage, stored_at, unlent}
 use Rattle.iox_tables.specs.HubLoans.Slots.{is_place, put_place}
 use Rattle.iox_tables.proofs.HubLoans.Placed.{set_else, set_there}
 use Rattle.iox_hub.specs.Fits.{are_requests_in, carried_in, count_in, longest_in}
@@ -12,7 +12,7 @@ use Rattle.iox_hub.specs.Lending.{with_carried, with_message}
 use Rattle.iox_hub.specs.Words.{Carried, stored_in}
 
 -- what the message in a slot carries, by what its pool does
-abbrev pub stored_by : Option Carried → ℕ → Stored
+abbrev pub stored_by : Option Carried → ℕ → StoredMessage
 stored_by o k = option_map_or (λ (c : Carried). stored_at c.contents k) o (unlent 0 [])
 
 pub stored_is_by : (words : List (Option Carried)) (p k : ℕ) → stored_in words p k ≡ stored_by (carried_in words p) k
@@ -27,7 +27,7 @@ not_true_is : (b : Bool) → (b ≡ true → ⊥) → b ≡ false
 not_true_is true never = absurd (never refl)
 not_true_is false never = refl
 
-module _ (words : List (Option Carried)) (pool k : ℕ) (z : Stored) where
+module _ (words : List (Option Carried)) (pool k : ℕ) (z : StoredMessage) where
   abbrev new : List (Option Carried)
   new = with_message words pool k z
 

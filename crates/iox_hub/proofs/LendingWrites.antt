@@ -3,7 +3,7 @@ use Rattle.std.specs.Prelude.{◌≡◌, ◌≢◌, ℕ, zero, suc, ◌<◌, ◌
 use Rattle.std.specs.Option.{option_map_or}
 use Rattle.std.proofs.Common.{sym, ap, ap₂, subst, ◌∙◌, arith, true≢false, eqb-true, eq-eqb}
 use Rattle.std.proofs.lemmas.Option.{none-some, same_Some}
-use Rattle.iox_store.specs.Stored.{Stored, filled_with, unlent}
+use Rattle.iox_store.specs.Stored.{StoredMessage, filled_with, unlent}
 use Rattle.iox_model.specs.declared.call.Call.TheVariants.{Write}
 use Rattle.iox_model.specs.declared.kind.Kind.{Kind}
 use Rattle.iox_model.specs.declared.kind.Kind.TheVariants as kinds
@@ -181,7 +181,7 @@ module _ (role : Role) {h : HubState} (hub : IsHub h) (node n : ℕ) (loan : IsL
   abbrev k : HandleState
   k = loan.handle
 
-  abbrev was : Stored
+  abbrev was : StoredMessage
   was = stored_in h.words k.pool k.slot
 
   pub is_loan_there : IsLoan t node n
@@ -208,7 +208,7 @@ module _ (role : Role) {h : HubState} (hub : IsHub h) (node n : ℕ) (loan : IsL
 
   -- ---- it is filled
 
-  module _ (z : Stored) (elements : z.elements ≡ was.elements) (all : z.filled ≡ z.elements) (new : ControlState)
+  module _ (z : StoredMessage) (elements : z.elements ≡ was.elements) (all : z.filled ≡ z.elements) (new : ControlState)
       (left : new ≡ with_tables h.control (with_kind t k (filled_kind k.kind))) (words : List (Option Carried)) (put : words ≡ with_message h.words k.pool k.slot z) where
     abbrev filled : HandleState
     filled = record k { kind = filled_kind k.kind }
@@ -220,7 +220,7 @@ module _ (role : Role) {h : HubState} (hub : IsHub h) (node n : ℕ) (loan : IsL
     filled_suits = record {
       kind = requests_new h.words k.pool k.slot z k.pool ∙ loan_of_role ∙ sym (filled_is_of role)
           ∙ ap comes_with_request (sym (filled_of_role role k.kind loan.passes));
-      full = λ e. subst (λ (s : Stored). s.filled ≡ s.elements) (sym (stored_new h.words k.pool k.slot z loan_within)) all;
+      full = λ e. subst (λ (s : StoredMessage). s.filled ≡ s.elements) (sym (stored_new h.words k.pool k.slot z loan_within)) all;
     }
 
     pub filled_fits : WordsFit (many_in h) words new.tables
@@ -269,7 +269,7 @@ module _ (role : Role) {h : HubState} (hub : IsHub h) (node n : ℕ) (loan : IsL
         count_is ∙ sym loan_elements ∙ ap (λ (q : Place). (stored_in h.words q.pool q.slot).elements) (sym is.at)
 
     module _ (words : List (Option Carried)) (put : words ≡ with_message h.words place.pool place.slot (filled_with (stored_in h.words place.pool place.slot) ws)) where
-      abbrev z : Stored
+      abbrev z : StoredMessage
       z = filled_with was ws
 
       put_here : words ≡ with_message h.words k.pool k.slot z
@@ -298,7 +298,7 @@ module _ (role : Role) {h : HubState} (hub : IsHub h) (node n : ℕ) (loan : IsL
 
       pub is_written : IsControl new → IsWritten h node n (kind_of_filled role) count ws left_hub
       is_written order = record {
-        fits = ap (λ (s : Stored). s.elements) loan_message ∙ loan_elements ∙ sym count_is;
+        fits = ap (λ (s : StoredMessage). s.elements) loan_message ∙ loan_elements ∙ sym count_is;
         value = filled_value z refl refl new is.left words put_here order;
         message = filled_message z refl refl new is.left words put_here ∙ ap (λ s. filled_with s ws) (sym loan_message);
       }
@@ -306,7 +306,7 @@ module _ (role : Role) {h : HubState} (hub : IsHub h) (node n : ℕ) (loan : IsL
   module _ (count : ℕ) (new : ControlState) (is : IsMisfit h.control k (Some count) new) where
     pub misfit_length : (message_in h node n).elements ≢ count
     misfit_length e =
-        true≢false (sym (eq-eqb count (elements_of t k) (sym e ∙ ap (λ (s : Stored). s.elements) loan_message ∙ loan_elements)) ∙ is.fits)
+        true≢false (sym (eq-eqb count (elements_of t k) (sym e ∙ ap (λ (s : StoredMessage). s.elements) loan_message ∙ loan_elements)) ∙ is.fits)
 
     pub misfit_left : record h { control = new } ≡ h
     misfit_left = ap (λ (d : ControlState). record h { control = d }) is.left

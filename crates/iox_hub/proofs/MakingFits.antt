@@ -11,7 +11,7 @@ use Rattle.iox_lanes.specs.Incomings.{IncomingState}
 use Rattle.iox_model.specs.Maps.{has_number, or_else}
 use Rattle.iox_model.specs.Settings.{is_client, other_role}
 use Rattle.iox_laws.proofs.WeaveLaws.MapLemmas.{eqb-refl}
-use Rattle.iox_store.specs.Stored.{Stored, new_contents, stored_at, unlent}
+use Rattle.iox_store.specs.Stored.{StoredMessage, new_contents, stored_at, unlent}
 use Rattle.iox_lanes.specs.Pipes.{PipeState}
 use Rattle.iox_tables.specs.HubStates.Tables.{HandleState, HubTables, PoolState, PortState, SlotState, no_slot, pool_at, port_in, senders_of, slot_at, slots_of}
 use Rattle.iox_tables.specs.HubStates.Ends.{OfEachHandle}
@@ -35,7 +35,7 @@ use Rattle.iox_hub.proofs.Named.{handle_is_value}
 
 -- ---- words that are put
 
-abbrev stored_of : ℕ → Option Carried → Stored
+abbrev stored_of : ℕ → Option Carried → StoredMessage
 stored_of k o = option_map_or (λ (c : Carried). stored_at c.contents k) o (unlent 0 [])
 
 stored_by : (words : List (Option Carried)) (q k : ℕ) → stored_in words q k ≡ stored_of k (carried_in words q)
@@ -166,7 +166,7 @@ module _ (t : HubTables) (node : ℕ) (role : Role) (id : UniqueSystemId) (asked
 
     elements_there : (k : ℕ) → (stored_in words place k).elements ≡ (slot_at left.pools place k).elements
     elements_there k =
-        ap (λ (s : Stored). s.elements) (stored_there h.words place c words put k) ∙ none_lent asked.size asked.longest _ k
+        ap (λ (s : StoredMessage). s.elements) (stored_there h.words place c words put k) ∙ none_lent asked.size asked.longest _ k
         ∙ sym (ap (λ (o : Option PoolState). elements_of k (slots_in o)) pool_put.there ∙ none_written asked.size k)
 
     elements_fit : (q k : ℕ) → k < length (slots_of left.pools q) → (stored_in words q k).elements ≡ (slot_at left.pools q k).elements
@@ -178,7 +178,7 @@ module _ (t : HubTables) (node : ℕ) (role : Role) (id : UniqueSystemId) (asked
         step : (b : Bool) → (q == place) ≡ b → (stored_in words q k).elements ≡ (slot_at left.pools q k).elements
         step true e = subst (λ i. (stored_in words i k).elements ≡ (slot_at left.pools i k).elements) (sym (eqb-true q place e)) (elements_there k)
         step false e =
-            ap (λ (s : Stored). s.elements) (stored_else h.words place c words put q k e)
+            ap (λ (s : StoredMessage). s.elements) (stored_else h.words place c words put q k e)
             ∙ fit.elements q k (moved (ap (λ (o : Option PoolState). length (slots_in o)) (pool_put.others q e)) low)
             ∙ ap (λ (o : Option PoolState). elements_of k (slots_in o)) (pool_put.others q e)
 
@@ -187,7 +187,7 @@ module _ (t : HubTables) (node : ℕ) (role : Role) (id : UniqueSystemId) (asked
         let same : stored_in words k.pool k.slot ≡ stored_in h.words k.pool k.slot = stored_else h.words place c words put k.pool k.slot other in
         record {
           kind = ap (λ (o : Option Carried). option_map_or (λ (d : Carried). d.requests) o false) (put.others k.pool other) ∙ s.kind;
-          full = λ e. ap (λ (z : Stored). z.filled) same ∙ s.full e ∙ sym (ap (λ (z : Stored). z.elements) same);
+          full = λ e. ap (λ (z : StoredMessage). z.filled) same ∙ s.full e ∙ sym (ap (λ (z : StoredMessage). z.elements) same);
         }
 
     -- nothing is kept of the new port, and it keeps nothing

@@ -14,7 +14,7 @@ use Rattle.iox_model.specs.Settings.{Shape, shape_of}
 use Rattle.iox_model.specs.States.{State}
 use Rattle.iox_model.specs.Runs.{IsReachableState, OfHub}
 use Rattle.iox_laws.proofs.WeaveWorlds.Inductions.{step_is_reached}
-use Rattle.iox_store.specs.Stored.{Stored, unlent}
+use Rattle.iox_store.specs.Stored.{StoredMessage, unlent}
 use Rattle.iox_tables.specs.HubStates.States.{Given, limits_of, state_shown}
 use Rattle.iox_tables.specs.HubStates.Tables.{HandleState, HubTables, PortState}
 use Rattle.iox_tables.specs.HubStates.Wirings.{handle_in}
@@ -93,9 +93,9 @@ module _ (h : HubState) (hub : IsHub h) where
         subst (λ (u : HubTables). OthersStay (place_for_one t.pools) (given_by x h) t.pools (given_by x after) u.pools) (sym same)
         (record {
           pools = (pool_put t node role id asked hub.control.order).others;
-          user = λ q k other. ap (λ (s : Stored). s.user) (sym (stored_else h.words (place_for_one t.pools) (words_made h role asked.size asked.longest) words put q k other));
-          payload = λ q k other. ap (λ (s : Stored). s.payload) (sym (stored_else h.words (place_for_one t.pools) (words_made h role asked.size asked.longest) words put q k other));
-          filled = λ q k other. ap (λ (s : Stored). s.filled) (sym (stored_else h.words (place_for_one t.pools) (words_made h role asked.size asked.longest) words put q k other));
+          user = λ q k other. ap (λ (s : StoredMessage). s.user) (sym (stored_else h.words (place_for_one t.pools) (words_made h role asked.size asked.longest) words put q k other));
+          payload = λ q k other. ap (λ (s : StoredMessage). s.payload) (sym (stored_else h.words (place_for_one t.pools) (words_made h role asked.size asked.longest) words put q k other));
+          filled = λ q k other. ap (λ (s : StoredMessage). s.filled) (sym (stored_else h.words (place_for_one t.pools) (words_made h role asked.size asked.longest) words put q k other));
         })
 
     pub whole_made : ((x : Given) → AsksFor (given_by x h) t role (options_of o) asked) → MakesWhole t node role id asked c.tables → (x : Given)

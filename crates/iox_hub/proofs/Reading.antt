@@ -3,7 +3,7 @@ use Rattle.std.specs.Prelude.{◌≡◌, ℕ, zero, suc, ◌<◌, ◌≤◌, Boo
 use Rattle.std.specs.Option.{option_map_or}
 use Rattle.std.proofs.Common.{sym, ap, subst, ◌∙◌, arith, true≢false}
 use Rattle.std.proofs.lemmas.Option.{none-some, same_Some}
-use Rattle.iox_store.specs.Stored.{Contents, Stored, stored_at, unlent}
+use Rattle.iox_store.specs.Stored.{Contents, StoredMessage, stored_at, unlent}
 use Rattle.iox_model.specs.declared.call.Call.TheVariants.{Read}
 use Rattle.iox_model.specs.declared.kind.Kind.{Kind}
 use Rattle.iox_model.specs.declared.kind.Kind.TheVariants as kinds
@@ -175,7 +175,7 @@ module _ (test : Kind → Bool) (pass : ArePassed test) {h : HubState} (hub : Is
         let y : Given = given_by x h in
         let s : m.State = state_shown y t in
         let same : message_in h node n ≡ stored_in h.words e.pool e.slot = ap (λ o. option_map_or (λ (k : HandleState). stored_in h.words k.pool k.slot) o (unlent 0 [])) at in
-        subst (λ (z : Stored). IsWholeCall s node (Read n) (Words (z.user ++ z.payload)) s) (sym same)
+        subst (λ (z : StoredMessage). IsWholeCall s node (Read n) (Words (z.user ++ z.payload)) s) (sym same)
         (is_whole_of s node (Read n) _ (Words ((stored_in h.words e.pool e.slot).user ++ (stored_in h.words e.pool e.slot).payload)) s
         (each_read_is_whole s node n ample (refl, refl))
         ((each_is_read y t node n (handle_state e) (found_is_handle t hub.control.order node n (handle_state e) at) (pass.read e.kind n passing)).told ample [] refl))
@@ -185,13 +185,13 @@ module _ (test : Kind → Bool) (pass : ArePassed test) {h : HubState} (hub : Is
           → IsWholeCall (state_of_hub x h) node (Read n) (Words ((message_in h node n).user ++ words)) (state_of_hub x h)
       is_read_as_payload same x =
           subst (λ ws. IsWholeCall (state_of_hub x h) node (Read n) (Words ((message_in h node n).user ++ ws)) (state_of_hub x h))
-          (ap (λ (z : Stored). z.payload) (message_is b c carried) ∙ sym same) (is_read x)
+          (ap (λ (z : StoredMessage). z.payload) (message_is b c carried) ∙ sym same) (is_read x)
 
       pub is_read_as_user : words ≡ (stored_at c e.slot).user → (x : Given)
           → IsWholeCall (state_of_hub x h) node (Read n) (Words (words ++ (message_in h node n).payload)) (state_of_hub x h)
       is_read_as_user same x =
           subst (λ us. IsWholeCall (state_of_hub x h) node (Read n) (Words (us ++ (message_in h node n).payload)) (state_of_hub x h))
-          (ap (λ (z : Stored). z.user) (message_is b c carried) ∙ sym same) (is_read x)
+          (ap (λ (z : StoredMessage). z.user) (message_is b c carried) ∙ sym same) (is_read x)
 
 -- ---- the same list
 

@@ -3,7 +3,7 @@ use Rattle.std.specs.Prelude.{◌≡◌, ℕ, ◌<◌, ◌≤◌, Bool, true, fa
 use Rattle.std.specs.Option.{option_map, option_map_or}
 use Rattle.std.proofs.Common.{sym, ap, subst, ◌∙◌, arith, eqb-true}
 use Rattle.std.proofs.lemmas.Option.{none-some}
-use Rattle.iox_store.specs.Stored.{Stored, stored_at, unlent}
+use Rattle.iox_store.specs.Stored.{StoredMessage, stored_at, unlent}
 use Rattle.iox_model.specs.Runs.{IsReachableState}
 use Rattle.iox_tables.specs.HubStates.Tables.{HandleState, HubTables, PoolState, PortState, pool_at, port_in, slot_at, slots_of}
 use Rattle.iox_tables.specs.HubStates.States.{Given}
@@ -20,7 +20,7 @@ use Rattle.iox_hub.specs.Sending.{with_words_left}
 use Rattle.iox_hub.specs.Words.{Carried, stored_in}
 
 -- what a slot of a pool with these words carries
-abbrev stored_of : Option (Option Carried) → ℕ → Stored
+abbrev stored_of : Option (Option Carried) → ℕ → StoredMessage
 stored_of o k = option_map_or (λ q. option_map_or (λ c. stored_at c.contents k) q (unlent 0 [])) o (unlent 0 [])
 
 module _ (h : HubState) (place : ℕ) (order : AreInOrder h.control.tables) (gone : pool_at h.control.tables.pools place ≡ None) where

@@ -1,7 +1,7 @@
 -- Copies of a hub: what is asked, what they leave, and what nodes have then.
 use Rattle.std.specs.Prelude.{◌≡◌, ℕ, false, List, Option, Some, None, ⊤}
 use Rattle.std.specs.Option.{option_map_or}
-use Rattle.iox_store.specs.Stored.{Stored, filled_with, lent_uninit}
+use Rattle.iox_store.specs.Stored.{StoredMessage, filled_with, lent_uninit}
 use Rattle.iox_model.specs.declared.kind.Kind.TheVariants.{PendingResponse}
 use Rattle.iox_model.specs.Settings.{Shape, has_layout, is_count}
 use Rattle.iox_tables.specs.HubStates.Tables.{HandleState}
@@ -32,7 +32,7 @@ asked_of_copy shape count = record {
 -- ---- words
 
 -- a message that is lent for so many elements, and filled with copies of them
-abbrev pub copied_stored : List ℕ → ℕ → List ℕ → Stored → Stored
+abbrev pub copied_stored : List ℕ → ℕ → List ℕ → StoredMessage → StoredMessage
 copied_stored user count words x = filled_with (lent_uninit x count user) words
 
 -- the hub with these tables, where the message in that place carries the copies

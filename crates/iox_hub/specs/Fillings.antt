@@ -1,6 +1,6 @@
 -- What the holder of a loan writes into it, and the hub then.
 use Rattle.std.specs.Prelude.{◌≡◌, ℕ, ◌*◌, ◌≤◌, Bool, false, ◌&&◌, ◌==◌, Some, length, option_map}
-use Rattle.iox_store.specs.Stored.{Stored}
+use Rattle.iox_store.specs.Stored.{StoredMessage}
 use Rattle.iox_model.specs.declared.kind.Kind.{Kind}
 use Rattle.iox_model.specs.Settings.{Shape}
 use Rattle.iox_model.specs.Values.{Filling, IsFilling, MayFill}
@@ -22,18 +22,18 @@ use Rattle.iox_hub.specs.Reads.{message_in}
 
 -- A message of this shape may carry this: no more elements than it has, with the words of each, and
 -- the words of a user header.
-pub record SuitsShape (shape : Shape) (z : Stored) : Type 0 where
+pub record SuitsShape (shape : Shape) (z : StoredMessage) : Type 0 where
   pub user : length z.user ≡ length shape.user
   pub payload : length z.payload ≡ z.filled * shape.width
   pub within : z.filled ≤ z.elements
 
 -- what the holder wrote into a loan that is of this kind then, as the machine has it
-abbrev pub filling_of : Kind → Stored → Filling
+abbrev pub filling_of : Kind → StoredMessage → Filling
 filling_of kind z =
     record { kind = kind; user = z.user; payload = z.payload; count = z.filled }
 
 -- the hub in which this loan is of that kind, and its message carries this
-abbrev pub with_filling : HubState → HandleState → Kind → Stored → HubState
+abbrev pub with_filling : HubState → HandleState → Kind → StoredMessage → HubState
 with_filling h loan kind z = record h {
   control = with_tables h.control (with_kind h.control.tables loan kind);
   words = with_message h.words loan.pool loan.slot z;
@@ -58,7 +58,7 @@ pub record IsFill (old : ControlState) (node n : ℕ) (all : Bool) (new : Contro
 
 -- The holder of the node's loan of that number writes into it, so that its message carries this. If
 -- all of it is said to be filled, it is a filled loan then. Nothing else changes.
-pub record FillsLoan (old : HubState) (node n : ℕ) (all : Bool) (z : Stored) (new : HubState) : Type 0
+pub record FillsLoan (old : HubState) (node n : ℕ) (all : Bool) (z : StoredMessage) (new : HubState) : Type 0
   where
     -- the machine allows it
     pub filling :

@@ -1,6 +1,6 @@
 -- Loans of a hub, what is written to them, and what they carry then.
 use Rattle.std.specs.Prelude.{◌≡◌, ◌≢◌, ℕ, Bool, true, false, if◌then◌else◌, List, [], Option, Some, option_map, slice_set, unwrap_or, ⊤}
-use Rattle.iox_store.specs.Stored.{Stored, filled_with, lent_filled, lent_uninit, with_stored}
+use Rattle.iox_store.specs.Stored.{StoredMessage, filled_with, lent_filled, lent_uninit, with_stored}
 use Rattle.iox_model.specs.declared.kind.Role.{Role}
 use Rattle.iox_model.specs.Commands.{Payload}
 use Rattle.iox_model.specs.declared.call.Call.TheVariants.{Write}
@@ -30,11 +30,11 @@ use Rattle.iox_hub.specs.Words.{Carried, stored_in}
 -- ---- words
 
 -- what the messages of a pool carry, with another one in that slot
-abbrev pub with_carried : ℕ → Stored → Carried → Carried
+abbrev pub with_carried : ℕ → StoredMessage → Carried → Carried
 with_carried k z c = record c { contents = with_stored c.contents k z }
 
 -- what the messages of all pools carry, with another one in that slot of the pool in this place
-abbrev pub with_message : List (Option Carried) → ℕ → ℕ → Stored → List (Option Carried)
+abbrev pub with_message : List (Option Carried) → ℕ → ℕ → StoredMessage → List (Option Carried)
 with_message words pool k z =
     slice_set words pool (option_map (with_carried k z) (carried_in words pool))
 
@@ -50,7 +50,7 @@ pub record IsAskedFor {E H : Type 0} (many : Bool) (width : ℕ) (words : E → 
 
 -- what a message carries once it is lent for so many elements: the default user header, and no
 -- element or the default of each
-abbrev pub first_stored : Shape → Bool → ℕ → Stored → Stored
+abbrev pub first_stored : Shape → Bool → ℕ → StoredMessage → StoredMessage
 first_stored shape uninit k x =
     if uninit then lent_uninit x k shape.user else lent_filled x k shape.user (unwrap_or shape.default [])
 

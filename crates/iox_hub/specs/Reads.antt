@@ -1,7 +1,7 @@
 -- What is read of a hub: the words of a handle's message.
 use Rattle.std.specs.Prelude.{◌≡◌, ℕ, Bool, true, false, ◌||◌, []}
 use Rattle.std.specs.Option.{option_map_or}
-use Rattle.iox_store.specs.Stored.{Stored, unlent}
+use Rattle.iox_store.specs.Stored.{StoredMessage, unlent}
 use Rattle.iox_model.specs.declared.kind.Kind.{Kind}
 use Rattle.iox_model.specs.declared.kind.Kind.TheVariants.{ActiveRequest, PendingResponse, RequestMut, Response, ResponseMut}
 use Rattle.iox_model.specs.Handles.{same_kind}
@@ -12,7 +12,7 @@ use Rattle.iox_hub.specs.Hubs.{HubState}
 use Rattle.iox_hub.specs.Words.{stored_in}
 
 -- what the message of the node's handle of that number carries
-abbrev pub message_in : HubState → ℕ → ℕ → Stored
+abbrev pub message_in : HubState → ℕ → ℕ → StoredMessage
 message_in h node n =
     option_map_or (λ (k : HandleState). stored_in h.words k.pool k.slot)
     (handle_in h.control.tables.handles node n) (unlent 0 [])

@@ -122,7 +122,8 @@ impl<Q: Payload, QH: Words, P: Payload, PH: Words, H: Backpressure> Hub<Q, QH, P
         ensures reply { (h : HandleState)
             → handle_in self.old.control.tables.handles node number ≡ Some h
             → (p : PortState) → port_in self.old.control.tables.ports h.port ≡ Some p
-            → responses.CopyComesTo self.old.control (lender_of_response self.old.control.tables h p)
+            → responses.CopyComesTo self.old.control
+            (lender_of_response self.old.control.tables h p)
             (asked_of_copy self.old.response (length values.now))
             (fails_of self.old p (way_to_client self.old.control.tables h)) result
             self.new.control }
@@ -202,7 +203,8 @@ impl<Q: Payload, QH: Words, P: Payload, PH: Words, H: Backpressure> Hub<Q, QH, P
             → handle_in self.old.control.tables.handles node number ≡ Some h
             → (p : PortState) → port_in self.old.control.tables.ports h.port ≡ Some p
             → result ≢ answered.Refused WantOfMemory
-            → responses.CopyComesTo self.old.control (lender_of_response self.old.control.tables h p)
+            → responses.CopyComesTo self.old.control
+            (lender_of_response self.old.control.tables h p)
             (asked_of_copy self.old.response (length values.now))
             (fails_of self.old p (way_to_client self.old.control.tables h)) result
             self.new.control }

@@ -10,7 +10,7 @@ use Rattle.iox_model.specs.declared.way.RequestState.TheVariants.{Named}
 use Rattle.iox_model.specs.declared.way.Way.{Way}
 use Rattle.iox_model.specs.Doings.{Sending}
 use Rattle.iox_model.specs.Handles.{is_request_loan, is_response_loan}
-use Rattle.iox_model.specs.Maps.{AreApart}
+use Rattle.iox_model.specs.Maps.{AreDistinctWays}
 use Rattle.iox_model.specs.Messages.{request_way, response_way}
 use Rattle.iox_model.specs.Requests.{targets, to_open}
 use Rattle.iox_tables.specs.HubStates.Tables.{HandleState, HubTables, PoolState, PortState, port_in}
@@ -84,7 +84,7 @@ module _ (x : Given) (t : HubTables) (order : AreInOrder t) (node n : ℕ) (h : 
 
 -- ---- the tables before deliveries
 
-module _ (t : HubTables) (order : AreInOrder t) (y : Sending) (apart : AreApart (targets y)) (between : List (Option PoolState)) (back : AreGotBackFor t y between) where
+module _ (t : HubTables) (order : AreInOrder t) (y : Sending) (apart : AreDistinctWays (targets y)) (between : List (Option PoolState)) (back : AreGotBackFor t y between) where
   pub emptied_in_order : AreInOrder (record (with_emptied t y) { pools = between })
   emptied_in_order = emptying_keeps_order t (targets y) between order apart back
 

@@ -3,7 +3,7 @@ use Rattle.std.specs.Prelude.{◌≡◌, ℕ, ◌+◌, ◌-◌, ◌≤◌, Bool,
 use Rattle.std.proofs.Common.{sym, ap, ap₂, subst, ◌∙◌, arith, true≢false, eq-eqb, eqb-true}
 use Rattle.iox_model.specs.declared.way.Way.{Way}
 use Rattle.iox_model.specs.Handles.{is_own}
-use Rattle.iox_model.specs.Maps.{AreApart, AreDistinct, has_number}
+use Rattle.iox_model.specs.Maps.{AreDistinctWays, AreDistinct, has_number}
 use Rattle.iox_lanes.specs.Lanes.{LaneState, delivered, without_oldest}
 use Rattle.iox_tables.specs.HubStates.Tables.{HandleState, HubTables, PortState, numbers_of}
 use Rattle.iox_tables.specs.HubStates.Ways.{with_lanes_on, with_port, with_states_on}
@@ -57,7 +57,7 @@ lent_once n (p ∷ ps) m a = step (p.number == m) (lent_once n ps m a.1)
     step true rest = (more p.loans a.0, loans_up n ps a.1)
     step false rest = (up p.loans n a.0, rest)
 
-module _ (n : ℕ) (ports : List PortState) (are : AreCountedBy n ports) (overflow : Bool) (k : ℕ) (ws : List Way) (apart : AreApart ws) where
+module _ (n : ℕ) (ports : List PortState) (are : AreCountedBy n ports) (overflow : Bool) (k : ℕ) (ws : List Way) (apart : AreDistinctWays ws) where
   abbrev sent_ports : List PortState
   sent_ports = with_lanes_on (delivers overflow k) ports ws
 

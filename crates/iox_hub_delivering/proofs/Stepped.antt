@@ -2,7 +2,7 @@
 use Rattle.std.specs.Prelude.{◌≡◌, Bool, true, false, ◌||◌, List, [], ◌∷◌, ◌++◌, refl}
 use Rattle.std.proofs.Common.{sym, ap, ◌∙◌, true≢false}
 use Rattle.iox_model.specs.declared.way.Way.{Way}
-use Rattle.iox_model.specs.Maps.{AreApart, has_way, same_way}
+use Rattle.iox_model.specs.Maps.{AreDistinctWays, has_way, same_way}
 use Rattle.iox_laws.proofs.WeaveLaws.MapLemmas.{is_in-first, same_way-true}
 use Rattle.iox_lanes.specs.Lanes.{LaneState}
 use Rattle.iox_tables.specs.HubStates.Tables.{PortState}
@@ -32,12 +32,12 @@ front_lacks w ws vs none = step (has_way w ws) refl
     step false e = refl
     step true e = absurd (true≢false (sym (has_front w ws vs e) ∙ none))
 
-apart_front : (ws vs : List Way) → AreApart (ws ++ vs) → AreApart ws
+apart_front : (ws vs : List Way) → AreDistinctWays (ws ++ vs) → AreDistinctWays ws
 apart_front [] vs apart = tt
 apart_front (w ∷ ws) vs apart = (front_lacks w ws vs apart.0, apart_front ws vs apart.1)
 
 -- the last of ways that differ is none of the others
-pub last_is_new : (ws : List Way) (w : Way) → AreApart (ws ++ w ∷ []) → has_way w ws ≡ false
+pub last_is_new : (ws : List Way) (w : Way) → AreDistinctWays (ws ++ w ∷ []) → has_way w ws ≡ false
 last_is_new [] w apart = refl
 last_is_new (v ∷ ws) w apart = step (same_way w v) refl (last_is_new ws w apart.1)
   where

@@ -6,7 +6,7 @@ use Rattle.iox_model.specs.declared.kind.Kind.{Kind}
 use Rattle.iox_model.specs.declared.kind.Kind.TheVariants as kinds
 use Rattle.iox_model.specs.declared.way.Way.{Way}
 use Rattle.iox_model.specs.Handles.{is_own}
-use Rattle.iox_model.specs.Maps.{AreApart}
+use Rattle.iox_model.specs.Maps.{AreDistinctWays}
 use Rattle.iox_lanes.specs.Lanes.{LaneState}
 use Rattle.iox_tables.specs.HubStates.Tables.{HandleState, HubTables, PoolState, PortState, port_in, slot_at}
 use Rattle.iox_tables.specs.HubStates.Ways.{OnWays, lane_on, with_lanes_on}
@@ -64,7 +64,7 @@ pushed_none k lanes (w ∷ ws) pool j = both _ _ (at (lanes w)) (pushed_none k l
     at None = refl
 
 -- the lanes of different ways have a message no more often than all lanes
-some_of_all : (pool j : ℕ) (ports : List PortState) (ws : List Way) → AreApart ws → total (by_lane (lane_count pool j) 0 (lane_on ports)) ws ≤ lane_uses ports pool j
+some_of_all : (pool j : ℕ) (ports : List PortState) (ws : List Way) → AreDistinctWays ws → total (by_lane (lane_count pool j) 0 (lane_on ports)) ws ≤ lane_uses ports pool j
 some_of_all pool j ports ws apart = below _ _ _ _ (lanes_total (lane_count pool j) none ports ws apart) (nothing ws)
   where
     none : LaneState → LaneState

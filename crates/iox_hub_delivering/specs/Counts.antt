@@ -3,7 +3,7 @@ use Rattle.std.specs.Prelude.{◌≡◌, ℕ, ◌+◌, ◌≤◌, Bool, true, Li
 use Rattle.iox_model.specs.declared.way.RequestState.{RequestState}
 use Rattle.iox_model.specs.declared.way.Way.{Way}
 use Rattle.iox_model.specs.Handles.{is_own}
-use Rattle.iox_model.specs.Maps.{AreApart}
+use Rattle.iox_model.specs.Maps.{AreDistinctWays}
 use Rattle.iox_tables.specs.HubStates.Tables.{HandleState, HubTables, PortState}
 use Rattle.iox_tables.specs.HubStates.Ways.{with_lanes_on, with_port, with_states_on}
 use Rattle.iox_tables.specs.HubStates.Changes.{emptied_lane, with_lanes, with_states}
@@ -26,10 +26,10 @@ pub record AreCountedBy (calls : ℕ) (ports : List PortState) : Type 0 where
 -- port; and it is none where lanes are emptied or request states change.
 pub record SendsAreCounted (calls : ℕ) (ports : List PortState) : Type 0 where
   pub delivered :
-      (overflow : Bool) (k : ℕ) (ws : List Way) → AreApart ws
+      (overflow : Bool) (k : ℕ) (ws : List Way) → AreDistinctWays ws
       → AreCountedBy (calls + 1) (with_lanes_on (delivers overflow k) ports ws)
   pub lent :
-      (overflow : Bool) (k : ℕ) (ws : List Way) (n : ℕ) → AreApart ws
+      (overflow : Bool) (k : ℕ) (ws : List Way) (n : ℕ) → AreDistinctWays ws
       → AreCountedBy (calls + 1)
       (with_port (λ p. record p { loans = p.loans + 1 })
       (with_lanes_on (delivers overflow k) ports ws) n)

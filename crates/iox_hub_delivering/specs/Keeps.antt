@@ -4,7 +4,7 @@ use Rattle.std.specs.List.{list_any}
 use Rattle.iox_model.specs.declared.way.Way.{Way}
 use Rattle.iox_model.specs.Doings.{Sending}
 use Rattle.iox_model.specs.Handles.{is_received, is_request_loan, is_response_loan}
-use Rattle.iox_model.specs.Maps.{AreApart}
+use Rattle.iox_model.specs.Maps.{AreDistinctWays}
 use Rattle.iox_model.specs.Requests.{targets}
 use Rattle.iox_tables.specs.HubStates.Tables.{HandleState, HubTables, PoolState}
 use Rattle.iox_tables.specs.HubStates.Ways.{lane_on}
@@ -108,7 +108,7 @@ abbrev pub FailedSendsKeepOrder : Type 0
 FailedSendsKeepOrder =
     (x : Given) (t : HubTables) (node n : ℕ) (h : HandleState) (y : Sending)
     (between pools : List (Option PoolState)) → AreInOrder t → IsHandle t node n h
-    → is_received h.kind ≡ false → AreApart (targets y)
+    → is_received h.kind ≡ false → AreDistinctWays (targets y)
     → list_any y.fails (full_targets t y) ≡ true → AreGotBackFor t y between
     → HasOneHolderLess between pools h
     → IsInOrderWith x (with_dropped (with_sent t y h.slot) node n) pools

@@ -1,7 +1,7 @@
 -- Code delivers on one way after another, and lets go of what is pushed out: what that comes to.
 use Rattle.std.specs.Prelude.{◌≡◌, ℕ, ◌+◌, ◌<◌, ◌≤◌, Bool, true, List, [], ◌∷◌, ◌++◌, Option, Some, None}
 use Rattle.iox_model.specs.declared.way.Way.{Way}
-use Rattle.iox_model.specs.Maps.{AreApart}
+use Rattle.iox_model.specs.Maps.{AreDistinctWays}
 use Rattle.iox_lanes.specs.Lanes.{LaneState}
 use Rattle.iox_tables.specs.HubStates.Tables.{HandleState, HubTables, PoolState, PortState, slot_at}
 use Rattle.iox_tables.specs.HubStates.Ways.{OnWays, lane_on, with_lane_on, with_lanes_on}
@@ -96,7 +96,7 @@ pub record ChangesOneMore (g : LaneState → LaneState) (ports : List PortState)
     pub same :
         with_lanes_on g ports (ws ++ w ∷ []) ≡ with_lane_on g (with_lanes_on g ports ws) w
     pub lane :
-        AreApart (ws ++ w ∷ []) → lane_on (with_lanes_on g ports ws) w ≡ lane_on ports w
+        AreDistinctWays (ws ++ w ∷ []) → lane_on (with_lanes_on g ports ws) w ≡ lane_on ports w
 
 -- It is so of each change.
 abbrev pub EachChangeIsOneMore : Type 0

@@ -13,7 +13,7 @@ use Rattle.iox_model.specs.declared.reply.Reply.TheVariants.{Refused}
 use Rattle.iox_model.specs.Commands.{Reply}
 use Rattle.iox_model.specs.Doings.{refused, Sending, Outcome, Tells, Loans, Sends, FailsToSend, Doing, Ended, Loaning, Asking, Emptying, Looking, Opening, Delivering, Evicted}
 use Rattle.iox_model.specs.Handles.{is_request_loan, own_state}
-use Rattle.iox_model.specs.Maps.{AreApart, has_number, has_way, not_in, put, rest_of, same_way, without_way}
+use Rattle.iox_model.specs.Maps.{AreDistinctWays, has_number, has_way, not_in, put, rest_of, same_way, without_way}
 use Rattle.iox_model.specs.Messages.{names, request_way, Message}
 use Rattle.iox_model.specs.Moments.{Holds, moved, Moment, Deliver, Evict, Take, GiveBack, GetBack, SeesEmpty, SeesWaiting, SeesFull, SeesRoom, SeesNoneBack, Open, Close, Hint, Look}
 use Rattle.iox_model.specs.Outstandings.{kept, is_dry}
@@ -116,7 +116,7 @@ module _ (z : State) (node : ℕ) (h : Handle) (copied : Bool) (to : List ℕ) w
   pub record IsLooking (left full : List Way) : Type 0 where
     pub seen : (w : Way) → has_way w ways ≡ true → has_way w left ≡ false → has_way w full ≡ is_full z w
     pub unseen : (w : Way) → has_way w left ≡ true → has_way w full ≡ false
-    pub apart : AreApart left
+    pub apart : AreDistinctWays left
 
   -- the full ways are those that take no more
   abbrev pub AreFull : List Way → Type 0
@@ -142,7 +142,7 @@ module _ (z : State) (node : ℕ) (h : Handle) (copied : Bool) (to : List ℕ) w
     pub may : MayGo
     pub fixed : s.fixed ≡ z.fixed
     pub states : IsOpened s []
-    pub apart : AreApart left
+    pub apart : AreDistinctWays left
     pub goes_on : (w : Way) → has_way w left ≡ true → goes w ≡ true
     pub todo : (w : Way) → has_way w left ≡ true → s.waiting w ≡ z.waiting w
     pub at_last : (w : Way) → is_last w last ≡ true

@@ -3,7 +3,7 @@ use Rattle.std.specs.Prelude.{◌≡◌, ℕ, Bool, true, false, List, [], ◌�
 use Rattle.std.specs.Option.{option_map_or}
 use Rattle.std.proofs.Common.{sym, ap, subst, ◌∙◌, inl, inr}
 use Rattle.std.proofs.lemmas.Option.{none-some}
-use Rattle.iox_store.specs.Stored.{Stored}
+use Rattle.iox_store.specs.Stored.{StoredMessage}
 use Rattle.iox_model.specs.declared.call.Call.TheVariants.{Loan, LoanUninit, Send, SendCopy}
 use Rattle.iox_model.specs.declared.kind.Kind.{Kind}
 use Rattle.iox_model.specs.declared.kind.Kind.TheVariants.{PendingResponse}
@@ -59,7 +59,7 @@ send_brings_only old new hub node n kind no_port has reply whole =
     (λ x lane a e.
     sends_its_message (state_of_hub x old).fixed node n lane (handle_of old is.handle) a
     (each_handle_is_named (given_by x old) t node n is.handle is.named).names e
-    ∙ sym (ap (λ (z : Stored). z.payload) (carried_by old node n is.handle is.named.there)))
+    ∙ sym (ap (λ (z : StoredMessage). z.payload) (carried_by old node n is.handle is.named.there)))
 
 -- a copy brings only the words that it gives
 pub copy_brings_only : (old new : HubState) → IsHub old → (node n : ℕ) (p : Payload) (reply : Reply)

@@ -18,7 +18,7 @@ use Rattle.iox_model.specs.Ends.{is_nothing, sent_loan, settled}
 use Rattle.iox_model.specs.Expiries.{disconnected, is_last_gone, released}
 use Rattle.iox_model.specs.Handles.{Subject, TheHandle, is_request_loan, new_number, subject}
 use Rattle.iox_model.specs.Loans.{Choice}
-use Rattle.iox_model.specs.Maps.{AreApart, has_way}
+use Rattle.iox_model.specs.Maps.{AreDistinctWays, has_way}
 use Rattle.iox_model.specs.Messages.{Message, request_way, response_way}
 use Rattle.iox_model.specs.Moments.{Moment}
 use Rattle.iox_model.specs.Names.{misnamed}
@@ -97,11 +97,11 @@ module _ (z : State) (reached : IsReachableState z) (node : ℕ) (h : Handle) (k
   pub to_client : is_request_loan h.kind ≡ false → goes_to ≡ h.client ∷ []
   to_client e = ap (λ (b : Bool). if b then others z.fixed h.node Server else h.client ∷ []) e
 
-  pub apart : AreApart goes_on
+  pub apart : AreDistinctWays goes_on
   apart =
-      either AreApart (is_request_loan h.kind) (map (request_way h.port) goes_to) (map (λ client. response_way client h.lane h.port) goes_to)
-      (λ request. subst (λ ns. AreApart (map (request_way h.port) ns)) (sym (to_servers request)) (servers_apart z h reached))
-      (λ response. subst (λ ns. AreApart (map (λ client. response_way client h.lane h.port) ns)) (sym (to_client response)) (refl, tt))
+      either AreDistinctWays (is_request_loan h.kind) (map (request_way h.port) goes_to) (map (λ client. response_way client h.lane h.port) goes_to)
+      (λ request. subst (λ ns. AreDistinctWays (map (request_way h.port) ns)) (sym (to_servers request)) (servers_apart z h reached))
+      (λ response. subst (λ ns. AreDistinctWays (map (λ client. response_way client h.lane h.port) ns)) (sym (to_client response)) (refl, tt))
 
   pub within : (w : Way) → w.sender ≡ h.port → length (z.waiting w) ≤ buffer_on z.fixed w
   within w is = queues_rest_within z w reached (ap (is_connected_port z.fixed) is ∙ known)

@@ -13,7 +13,7 @@ use Rattle.iox_model.specs.declared.reply.Reply.TheVariants.{Refused}
 use Rattle.iox_model.specs.Commands.{Reply}
 use Rattle.iox_model.specs.Doings.{refused, Sending, Outcome, Tells, Loans, Sends, FailsToSend, Doing, Ended, Loaning, Asking, Emptying, Looking, Opening, Delivering, Evicted}
 use Rattle.iox_model.specs.Handles.{is_request_loan, own_state}
-use Rattle.iox_model.specs.Maps.{AreApart, has_number, has_way, not_in, put, rest_of, same_way, without_way}
+use Rattle.iox_model.specs.Maps.{AreDistinctWays, has_number, has_way, not_in, put, rest_of, same_way, without_way}
 use Rattle.iox_model.specs.Messages.{names, request_way, Message}
 use Rattle.iox_model.specs.Moments.{Holds, moved, Moment, Deliver, Evict, Take, GiveBack, GetBack, SeesEmpty, SeesWaiting, SeesFull, SeesRoom, SeesNoneBack, Open, Close, Hint, Look}
 use Rattle.iox_model.specs.Outstandings.{kept, is_dry}
@@ -38,7 +38,7 @@ use Rattle.iox_hub_laws.proofs.Phases as phases
 module _ (z : State) (node : ℕ) (h : Handle) (copied : Bool) (to : List ℕ)
     (of_request : is_request_loan h.kind ≡ true → to ≡ others z.fixed h.node Server)
     (of_response : is_request_loan h.kind ≡ false → to ≡ h.client ∷ [])
-    (apart : AreApart (arrivals.ways z node h copied to))
+    (apart : AreDistinctWays (arrivals.ways z node h copied to))
     (within : (w : Way) → w.sender ≡ h.port → length (z.waiting w) ≤ buffer_on z.fixed w) where
   abbrev x : Sending
   x = arrivals.x z node h copied to
@@ -86,7 +86,7 @@ module _ (z : State) (node : ℕ) (h : Handle) (copied : Bool) (to : List ℕ)
       ap (λ (f : Fixed). nat_le (buffer_on f w) (length (z.waiting w))) (sym q.fixed)
       ∙ ap (λ (ms : List Message). nat_le (buffer_on s.fixed w) (length ms)) (sym (q.waiting w)) ∙ e
 
-  not_there : (v w : Way) (left : List Way) → same_way v w ≡ true → AreApart left → has_way v (without_way w left) ≡ false
+  not_there : (v w : Way) (left : List Way) → same_way v w ≡ true → AreDistinctWays left → has_way v (without_way w left) ≡ false
   not_there v w left same apart =
       false_if (has_way v (without_way w left)) (λ p. true≢false (sym same ∙ apart-gone v w left apart p))
 

@@ -13,7 +13,7 @@ use Rattle.iox_model.specs.declared.reply.Reply.TheVariants.{Refused}
 use Rattle.iox_model.specs.Commands.{Reply}
 use Rattle.iox_model.specs.Doings.{refused, Sending, Outcome, Tells, Loans, Sends, FailsToSend, Doing, Ended, Loaning, Asking, Emptying, Looking, Opening, Delivering, Evicted}
 use Rattle.iox_model.specs.Handles.{is_request_loan, own_state}
-use Rattle.iox_model.specs.Maps.{AreApart, has_number, has_way, not_in, put, rest_of, same_way, without_way}
+use Rattle.iox_model.specs.Maps.{AreDistinctWays, has_number, has_way, not_in, put, rest_of, same_way, without_way}
 use Rattle.iox_model.specs.Messages.{names, request_way, Message}
 use Rattle.iox_model.specs.Moments.{Holds, moved, Moment, Deliver, Evict, Take, GiveBack, GetBack, SeesEmpty, SeesWaiting, SeesFull, SeesRoom, SeesNoneBack, Open, Close, Hint, Look}
 use Rattle.iox_model.specs.Outstandings.{kept, is_dry}
@@ -37,7 +37,7 @@ use Rattle.iox_hub_laws.proofs.Arrivals.{all_newest, in-not_in, is_less, less, n
 module _ (z : State) (node : ℕ) (h : Handle) (copied : Bool) (to : List ℕ)
     (of_request : is_request_loan h.kind ≡ true → to ≡ others z.fixed h.node Server)
     (of_response : is_request_loan h.kind ≡ false → to ≡ h.client ∷ [])
-    (apart : AreApart (arrivals.ways z node h copied to))
+    (apart : AreDistinctWays (arrivals.ways z node h copied to))
     (within : (w : Way) → w.sender ≡ h.port → length (z.waiting w) ≤ buffer_on z.fixed w) where
   abbrev x : Sending
   x = arrivals.x z node h copied to

@@ -3,7 +3,7 @@ use Rattle.std.specs.Prelude.{◌≡◌, ℕ, Bool, true, false, ◌&&◌, ◌==
 use Rattle.std.specs.Option.{option_map_or}
 use Rattle.std.proofs.Common.{sym, ap, ap₂, subst, ◌∙◌, true≢false}
 use Rattle.std.proofs.lemmas.Option.{none-some, same_Some}
-use Rattle.iox_store.specs.Stored.{Stored, unlent}
+use Rattle.iox_store.specs.Stored.{StoredMessage, unlent}
 use Rattle.iox_model.specs.declared.call.Call.TheVariants.{Receive}
 use Rattle.iox_model.specs.declared.kind.Kind.{Kind}
 use Rattle.iox_model.specs.declared.kind.Kind.TheVariants as kinds
@@ -86,8 +86,8 @@ module _ (old new : HubState) (node n k : ℕ) (kind : Kind) (received : is_rece
     handle = h;
     there = got.named.there;
     next = λ r. received_comes_next (state_of_hub r.0 old) (state_of_hub r.0 new) r.1 node n k (handle_of new h) (whole r.0) (named r.0);
-    user = ap (λ (z : Stored). z.user) same;
-    payload = ap (λ (z : Stored). z.payload) same;
+    user = ap (λ (z : StoredMessage). z.user) same;
+    payload = ap (λ (z : StoredMessage). z.payload) same;
   }
     where
       same : option_map_or (λ (j : HandleState). stored_in new.words j.pool j.slot) (handle_in t.handles node k) (unlent 0 []) ≡ stored_in new.words h.pool h.slot

@@ -3,7 +3,7 @@ use Rattle.std.specs.Prelude.{◌≡◌, ℕ, Bool, true, false, not, ◌&&◌, 
 use Rattle.std.specs.Option.{option_map, option_map_or}
 use Rattle.std.proofs.Common.{sym, ap, ◌∙◌, true≢false}
 use Rattle.iox_model.specs.declared.way.Way.{Way}
-use Rattle.iox_model.specs.Maps.{AreApart, has_way, not_in, same_way}
+use Rattle.iox_model.specs.Maps.{AreDistinctWays, has_way, not_in, same_way}
 use Rattle.iox_laws.proofs.WeaveLaws.MapLemmas.{is_in-first, same_way-flip, same_way-true}
 use Rattle.iox_lanes.specs.Lanes.{LaneState, delivered, is_full, offered}
 use Rattle.iox_tables.specs.HubStates.Steps.{full_in}
@@ -91,7 +91,7 @@ filter_stays h ports w (v ∷ ws) off =
     (lane_stays h ports w v parts.0)
     ∙ ap (λ us. if not (full (lane_on ports) v) then v ∷ us else us) (filter_stays h ports w ws parts.1)
 
-to_free : (k : ℕ) (ports : List PortState) (ws : List Way) → AreApart ws → OfEachWay (HasRoomUnlessFull ports) ws
+to_free : (k : ℕ) (ports : List PortState) (ws : List Way) → AreDistinctWays ws → OfEachWay (HasRoomUnlessFull ports) ws
     → with_lanes_on (λ l. offered l k) ports ws ≡ with_lanes_on (λ l. delivered l k) ports (filter (λ w. not (full (lane_on ports) w)) ws)
 to_free k ports [] apart rooms = refl
 to_free k ports (w ∷ ws) apart rooms = step (full (lane_on ports) w) refl (λ ps more. to_free k ps ws apart.1 more)

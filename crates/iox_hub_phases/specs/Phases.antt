@@ -1,7 +1,7 @@
 -- What the steps of a sender on its lanes come to, one after another.
 use Rattle.std.specs.Prelude.{◌≡◌, ℕ, ◌≤◌, true, not, List, [], ◌∷◌, Some, None, slice_get, ⊤}
 use Rattle.iox_model.specs.declared.way.Way.{Way}
-use Rattle.iox_model.specs.Maps.{AreApart, not_in}
+use Rattle.iox_model.specs.Maps.{AreDistinctWays, not_in}
 use Rattle.iox_lanes.specs.Lanes.{LaneState, delivered, has_room, is_full, offered, without_returned}
 use Rattle.iox_tables.specs.HubStates.Tables.{PortState}
 use Rattle.iox_tables.specs.HubStates.Ways.{lane_on, with_lane_on, with_lanes_on}
@@ -21,7 +21,7 @@ OfEachWay P (w ∷ ws) = P w × OfEachWay P ws
 -- Changes that do the same to the lanes of these ways come to the same.
 abbrev pub ChangesAgree : Type 0
 ChangesAgree =
-    (f g : LaneState → LaneState) (ports : List PortState) (ws : List Way) → AreApart ws
+    (f g : LaneState → LaneState) (ports : List PortState) (ws : List Way) → AreDistinctWays ws
     → OfEachWay (DoSame f g ports) ws → with_lanes_on f ports ws ≡ with_lanes_on g ports ws
 
 -- One change after another of the same lane is one change.
@@ -58,7 +58,7 @@ HasRoomUnlessFull ports w =
 -- full.
 abbrev pub DeliveriesAreToFree : Type 0
 DeliveriesAreToFree =
-    (ports : List PortState) (k : ℕ) (ws : List Way) → AreApart ws
+    (ports : List PortState) (k : ℕ) (ws : List Way) → AreDistinctWays ws
     → OfEachWay (HasRoomUnlessFull ports) ws
     → with_lanes_on (λ l. offered l k) ports ws
     ≡ with_lanes_on (λ l. delivered l k) ports (not_in (full_in (lane_on ports) ws []) ws)

@@ -191,7 +191,8 @@ impl Incoming {
         ensures lowest { option_map (λ n. n.lane) result
             ≡ on_pipe_by lane_to_get None self.old sender }
         ensures oldest { IfSome result (λ n.
-            on_pipe_by (λ p. on_lane (λ l. slice_get l.returned 0) None p n.lane) None self.old sender
+            on_pipe_by (λ p. on_lane (λ l. slice_get l.returned 0) None p n.lane)
+            None self.old sender
             ≡ Some n.place) }
         ensures got_back { IfSome result (λ n.
             self.new ≡ with_pipe_by (λ p. with_lane without_returned p n.lane) self.old sender) }

@@ -113,7 +113,8 @@ impl Members {
     /// says `Continue`. It takes no memory.
     pub fn list_ids<F: FnMut(&UniqueNodeId) -> CallbackProgression>(&self, callback: F)
         requires { F.IsAlwaysCallable callback }
-        ensures { VisitsInOrder (CalledAt F.FnMut) callback (map (λ m. m.id) self.now.members.nodes) }
+        ensures { VisitsInOrder (CalledAt F.FnMut) callback
+            (map (λ m. m.id) self.now.members.nodes) }
     {
         list_ids(&self.nodes, callback);
     }

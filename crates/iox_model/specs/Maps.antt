@@ -54,9 +54,9 @@ abbrev pub not_in : List Way → List Way → List Way
 not_in others ways = filter (λ w. not (has_way w others)) ways
 
 -- no way is in the list twice
-abbrev pub AreApart : List Way → Type 0
-AreApart [] = ⊤
-AreApart (w ∷ ws) = (has_way w ws ≡ false) × AreApart ws
+abbrev pub AreDistinctWays : List Way → Type 0
+AreDistinctWays [] = ⊤
+AreDistinctWays (w ∷ ws) = (has_way w ws ≡ false) × AreDistinctWays ws
 
 -- no number is in the list twice
 abbrev pub AreDistinct : List ℕ → Type 0

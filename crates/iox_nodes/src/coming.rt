@@ -76,7 +76,8 @@ impl<Q: Payload, QH: Words, P: Payload, PH: Words, H: Backpressure> Service<Q, Q
     /// A node leaves; the last one closes the service for good. It is refused as `UnknownNode`,
     /// `NodeIsDead`, or `HasPorts` while a port or a handle of it is not released.
     pub fn leave<C>(&mut self, node: u64) -> Result<(), Refusal<C>>
-        ensures done { IsDoneOrRefused (service_of self.old) (Leave node) result (service_of self.new) }
+        ensures done { IsDoneOrRefused (service_of self.old) (Leave node) result
+            (service_of self.new) }
         ensures unchanged { OnErr result (self.new ≡ self.old) }
     {
         let has_values = self.hub.has_values(node);
@@ -87,7 +88,8 @@ impl<Q: Payload, QH: Words, P: Payload, PH: Words, H: Backpressure> Service<Q, Q
     /// numbers, and then it is gone. The last one closes the service for good. It is refused as
     /// `UnknownNode` or `NodeIsAlive`.
     pub fn cleanup<C>(&mut self, node: u64) -> Result<(), Refusal<C>>
-        ensures done { IsDoneOrRefused (service_of self.old) (Cleanup node) result (service_of self.new) }
+        ensures done { IsDoneOrRefused (service_of self.old) (Cleanup node) result
+            (service_of self.new) }
         ensures unchanged { OnErr result (self.new ≡ self.old) }
     {
         if let Err(refusal) = self.members.dead(node) {

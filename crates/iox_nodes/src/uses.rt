@@ -31,14 +31,16 @@ pub fn opens(service: &mut Bytes, id: UniqueSystemId) -> Result<u64, Refusal<Inf
 
 /// A dead node is cleaned up.
 pub fn cleans_up(service: &mut Bytes, node: u64) -> Result<(), Refusal<Infallible>>
-    ensures { IsDoneOrRefused (service_of service.old) (Cleanup node) result (service_of service.new) }
+    ensures { IsDoneOrRefused (service_of service.old) (Cleanup node) result
+        (service_of service.new) }
 {
     service.cleanup(node)
 }
 
 /// A node leaves.
 pub fn leaves(service: &mut Bytes, node: u64) -> Result<(), Refusal<Infallible>>
-    ensures { IsDoneOrRefused (service_of service.old) (Leave node) result (service_of service.new) }
+    ensures { IsDoneOrRefused (service_of service.old) (Leave node) result
+        (service_of service.new) }
 {
     service.leave(node)
 }

@@ -59,8 +59,8 @@ impl Service {
         command: ServiceCommand,
     ) -> Result<ServiceReply, AllocError>
         requires asked { CanBeAsked command }
-        ensures served { IfOk result (λ answer. ServiceAnswers (script_state self.old) command answer
-            (script_state self.new)) }
+        ensures served { IfOk result (λ answer. ServiceAnswers (script_state self.old) command
+            answer (script_state self.new)) }
         ensures unchanged { OnErr result (self.new ≡ self.old) }
         ensures memory { OnErr result (WantsMemory command) }
     {

@@ -4,7 +4,7 @@ use Rattle.std.proofs.Common.{length-set, get_or-set_same, get_or-set_other}
 use Rattle.std.proofs.lemmas.Bool.{cases_Bool, eqb-true, eqb-false}
 use Rattle.iox_steps.specs.declared.access.Access.{Access}
 use Rattle.iox_steps.specs.declared.access.Access.TheVariants.{Local, Load, Store, CompareExchange, FetchAdd, FetchSub, FetchOr, FetchAnd}
-use Rattle.iox_steps.specs.Accesses.{place_of, change_of, put, word_after, words_after, IsPlace, IsWithin, Changes}
+use Rattle.iox_steps.specs.Accesses.{place_of, change_of, put, word_after, words_after, IsPlace, IsWithin, ChangesWord}
 use Rattle.iox_steps.proofs.Places.{put-same, put-other}
 
 -- no word but the one that is named changes
@@ -36,7 +36,7 @@ word_after-same (FetchOr place value) word = put-same word place _
 word_after-same (FetchAnd place value) word = put-same word place _
 
 -- words of which one changed as the access says are the words after it
-pub changed_are_after : (access : Access) (word word' : ℕ → ℕ) → Changes word (place_of access) (change_of access (word (place_of access))) word'
+pub changed_are_after : (access : Access) (word word' : ℕ → ℕ) → ChangesWord word (place_of access) (change_of access (word (place_of access))) word'
     → (at : ℕ) → word' at ≡ word_after access word at
 changed_are_after access word word' changes at = elim (cases_Bool (eqb at (place_of access))) [
   | inl same ↦ (let here = eqb-true _ _ same in rw here (changes.0 ∙ sym (word_after-same access word)))
@@ -110,12 +110,12 @@ outside (FetchAnd place value) word base size at within out =
 
 -- an access changes one word at most
 pub after_changes : (access : Access) (word : ℕ → ℕ)
-    → Changes word (place_of access) (change_of access (word (place_of access))) (word_after access word)
+    → ChangesWord word (place_of access) (change_of access (word (place_of access))) (word_after access word)
 after_changes access word = (word_after-same access word, λ at other. word_after-other access word at other)
 
 -- words that changed so are as before wherever words after it are
 pub changes_outside : (access : Access) (word word' : ℕ → ℕ) (base size at : ℕ)
-    → Changes word (place_of access) (change_of access (word (place_of access))) word'
+    → ChangesWord word (place_of access) (change_of access (word (place_of access))) word'
     → IsWithin base size access → (at < base) ⊎ (base + size ≤ at) → word' at ≡ word at
 changes_outside access word word' base size at changes within out =
     changed_are_after access word word' changes at ∙ outside access word base size at within out
@@ -123,7 +123,7 @@ changes_outside access word word' base size at changes within out =
 -- and one word of a list at most, which is then as long as before
 pub list_changes : (access : Access) (words : List ℕ) → IsWithin 0 (length words) access
     → let word : ℕ → ℕ = λ place. get_or words place 0 in
-    Changes word (place_of access) (change_of access (word (place_of access))) (λ place. get_or (words_after access words) place 0)
+    ChangesWord word (place_of access) (change_of access (word (place_of access))) (λ place. get_or (words_after access words) place 0)
 list_changes access words within = (
   reads_after access words within (place_of access) ∙ word_after-same access (λ place. get_or words place 0),
   λ at other. reads_after access words within at ∙ word_after-other access (λ place. get_or words place 0) at other,

@@ -12,7 +12,7 @@ use Rattle.iox_steps.specs.declared.side.Pushing.{Pushing}
 use Rattle.iox_steps.specs.declared.side.Pushing.TheVariants as pushing
 use Rattle.iox_steps.specs.declared.side.Popping.{Popping}
 use Rattle.iox_steps.specs.declared.side.Popping.TheVariants as popping
-use Rattle.iox_steps.specs.Accesses.{word_after, words_after, IsPlace, IsWithin, Changes, AreApart}
+use Rattle.iox_steps.specs.Accesses.{word_after, words_after, IsPlace, IsWithin, ChangesWord, AreApart}
 use Rattle.iox_steps.specs.Sites.{cells, size}
 use Rattle.iox_steps.specs.Pops.{take_access}
 use Rattle.iox_steps.specs.Sides.{pushing_access, popping_access}
@@ -115,7 +115,7 @@ fits_elsewhere_in_list site words waiting hand pushes pops access base' size' wi
 
 -- of words that are told one change at a time, as those of a table are
 pub fits_elsewhere_changed : (site : Site) (word word' : ℕ → ℕ) (waiting hand : List ℕ) (pushes : Pushing) (pops : Popping)
-    (place new base' size' : ℕ) → Changes word place new word' → IsPlace base' size' place
+    (place new base' size' : ℕ) → ChangesWord word place new word' → IsPlace base' size' place
     → AreApart site.base (size site) base' size'
     → Fits site word waiting hand pushes pops → Fits site word' waiting hand pushes pops
 fits_elsewhere_changed site word word' waiting hand pushes pops place new base' size' changes within apart fits =

@@ -27,7 +27,7 @@ use Rattle.iox_steps.specs.Events.{rest, IsTrueOf, waiting_after, hand_after}
 use Rattle.iox_steps.specs.Fits.{write_of, PushingKnows}
 use Rattle.iox_steps.specs.EventLists.{QueueState}
 use Rattle.iox_steps.specs.Answers.{unpublished_of}
-use Rattle.iox_steps.specs.Laws.{pushing_turn, popping_turn, Keeps}
+use Rattle.iox_steps.specs.Laws.{pushing_turn, popping_turn, KeepsQueue}
 use Rattle.iox_steps.proofs.Places.{cases_kind}
 use Rattle.iox_steps.proofs.PushSteps.{refused_at_end, refused_when_full, overflows, welcome}
 use Rattle.iox_steps.specs.Results.{RefusesPush, PublishResult, EvictResult, LearnResult, FullLookResult, PopResult, EmptyLookResult}
@@ -159,30 +159,30 @@ module _ (site : Site) (word word' : ℕ → ℕ) (waiting hand : List ℕ) wher
 
   module _ (pops : Popping) where
     pub publish_result : (value : ℕ) (place : Push) → unpublished_of place ≡ Some value
-        → Keeps site word word' waiting hand (pushing_turn site word (pushing.Pushes place) pops)
+        → KeepsQueue site word word' waiting hand (pushing_turn site word (pushing.Pushes place) pops)
         → PublishResult site (seen_by (push_access site place) word) here value place
     publish_result value place own keeps =
         publish_of site word' (seen_by (push_access site place) word) here value place own keeps.is_true keeps.fits.push
 
-    pub evict_result : (read : ℕ) → Keeps site word word' waiting hand (pushing_turn site word (pushing.Pushes (push.Evicts read)) pops)
+    pub evict_result : (read : ℕ) → KeepsQueue site word word' waiting hand (pushing_turn site word (pushing.Pushes (push.Evicts read)) pops)
         → EvictResult site (seen_by (push_access site (push.Evicts read)) word) here read
     evict_result read keeps =
         evict_of site word' (seen_by (push_access site (push.Evicts read)) word) here read keeps.is_true keeps.fits.push
 
-    pub learn_result : (cell : ℕ) → Keeps site word word' waiting hand (pushing_turn site word (pushing.Pushes (push.TakesOld cell)) pops)
+    pub learn_result : (cell : ℕ) → KeepsQueue site word word' waiting hand (pushing_turn site word (pushing.Pushes (push.TakesOld cell)) pops)
         → LearnResult site (seen_by (push_access site (push.TakesOld cell)) word) here cell
     learn_result cell keeps =
         gets_back_of site word' (seen_by (push_access site (push.TakesOld cell)) word) here cell keeps.is_true keeps.fits.push
 
-    pub full_look_result : (place : FullLook) → Keeps site word word' waiting hand (pushing_turn site word (pushing.Looks place) pops)
+    pub full_look_result : (place : FullLook) → KeepsQueue site word word' waiting hand (pushing_turn site word (pushing.Looks place) pops)
         → FullLookResult site (seen_by (full_look_access site place) word) here place
     full_look_result place keeps = full_look_of site place (seen_by (full_look_access site place) word) here keeps.is_true
 
   module _ (pushes : Pushing) where
-    pub pop_result : (place : Pop) → Keeps site word word' waiting hand (popping_turn site word pushes (popping.Pops place))
+    pub pop_result : (place : Pop) → KeepsQueue site word word' waiting hand (popping_turn site word pushes (popping.Pops place))
         → PopResult site (seen_by (pop_access site place) word) here place
     pop_result place keeps = pop_of site place (seen_by (pop_access site place) word) here keeps.is_true
 
-    pub empty_look_result : (place : EmptyLook) → Keeps site word word' waiting hand (popping_turn site word pushes (popping.Looks place))
+    pub empty_look_result : (place : EmptyLook) → KeepsQueue site word word' waiting hand (popping_turn site word pushes (popping.Looks place))
         → EmptyLookResult site (seen_by (empty_look_access site place) word) here place
     empty_look_result place keeps = empty_look_of site place (seen_by (empty_look_access site place) word) here keeps.is_true

@@ -13,7 +13,7 @@ use Rattle.iox_steps.specs.declared.side.Pushing.{Pushing}
 use Rattle.iox_steps.specs.declared.side.Pushing.TheVariants as pushing
 use Rattle.iox_steps.specs.declared.side.Popping.{Popping}
 use Rattle.iox_steps.specs.declared.side.Popping.TheVariants as popping
-use Rattle.iox_steps.specs.Accesses.{place_of, change_of, seen_by, IsWithin, Changes}
+use Rattle.iox_steps.specs.Accesses.{place_of, change_of, seen_by, IsWithin, ChangesWord}
 use Rattle.iox_steps.specs.Sites.{cells, size, cell_at, last_position, is_full, is_empty}
 use Rattle.iox_steps.specs.Pushes.{is_refused}
 use Rattle.iox_steps.specs.Pops.{take_access, is_taken}
@@ -26,14 +26,14 @@ use Rattle.iox_steps.proofs.Turns.{pushing_keeps_changed, popping_keeps_changed}
 module _ (site : Site) (word word' : ℕ → ℕ) (waiting hand : List ℕ) (pushes : Pushing) (pops : Popping)
     (fits : Fits site word waiting hand pushes pops) where
   pub pushing_changes : let access = pushing_access site pushes in let seen = seen_by access word in let event = pushing_event site pushes seen in
-      Changes word (place_of access) (change_of access (word (place_of access))) word'
+      ChangesWord word (place_of access) (change_of access (word (place_of access))) word'
       → IsTrueOf site (write_of site word) waiting hand event
       × Fits site word' (waiting_after event waiting) (hand_after event waiting hand) (pushing_after site pushes seen) pops
   pushing_changes changes =
       let keeps = pushing_keeps_changed site word waiting hand pushes pops fits word' changes in (keeps.is_true, keeps.fits)
 
   pub popping_changes : let access = popping_access site pops in let seen = seen_by access word in let event = popping_event site pops seen in
-      Changes word (place_of access) (change_of access (word (place_of access))) word'
+      ChangesWord word (place_of access) (change_of access (word (place_of access))) word'
       → IsTrueOf site (write_of site word) waiting hand event
       × Fits site word' (waiting_after event waiting) (hand_after event waiting hand) pushes (popping_after site pops seen)
   popping_changes changes =

@@ -3,13 +3,13 @@ use Rattle.std.proofs.Common.{◌≡◌, ℕ, ◌+◌, ◌≤◌, None, List, le
 use Rattle.iox_steps.specs.declared.site.Site.{Site}
 use Rattle.iox_steps.specs.declared.side.Pushing.{Pushing}
 use Rattle.iox_steps.specs.declared.side.Popping.{Popping}
-use Rattle.iox_steps.specs.Accesses.{place_of, change_of, seen_by, word_after, words_after, IsWithin, Changes, AreApart}
+use Rattle.iox_steps.specs.Accesses.{place_of, change_of, seen_by, word_after, words_after, IsWithin, ChangesWord, AreApart}
 use Rattle.iox_steps.specs.Sites.{size}
 use Rattle.iox_steps.specs.Sides.{pushing_access, popping_access}
 use Rattle.iox_steps.specs.Fits.{write_of, Fits}
 use Rattle.iox_steps.specs.EventLists.{write_after}
 use Rattle.iox_steps.specs.Answers.{ReplyIsTrue, OnProgress, unpublished_after}
-use Rattle.iox_steps.specs.Laws.{Turn, pushing_turn, popping_turn, Keeps, KeepsInList}
+use Rattle.iox_steps.specs.Laws.{Turn, pushing_turn, popping_turn, KeepsQueue, KeepsInList}
 use Rattle.iox_steps.proofs.AccessLemmas.{changed_are_after, changes_outside, after_changes, list_changes, length-words_after, within_wider}
 use Rattle.iox_steps.proofs.PushSteps.{StepsTo, pushing_step}
 use Rattle.iox_steps.proofs.PopSteps.{popping_step}
@@ -23,8 +23,8 @@ turn_keeps : (site : Site) (word word' : ℕ → ℕ) (waiting hand : List ℕ) 
     → write_of site (word_after turn.access word) ≡ write_after turn.event (write_of site word)
     → ReplyIsTrue turn.own turn.answer turn.event
     → OnProgress turn.answer (turn.own_after ≡ unpublished_after turn.event turn.own) (λ reply. turn.own_after ≡ None)
-    → Changes word (place_of turn.access) (change_of turn.access (word (place_of turn.access))) word'
-    → Keeps site word word' waiting hand turn
+    → ChangesWord word (place_of turn.access) (change_of turn.access (word (place_of turn.access))) word'
+    → KeepsQueue site word word' waiting hand turn
 turn_keeps site word word' waiting hand turn within steps writes answers own changes =
     let same = changed_are_after turn.access word word' changes in
     record {
@@ -41,8 +41,8 @@ turn_keeps site word word' waiting hand turn within steps writes answers own cha
 module _ (site : Site) (word : ℕ → ℕ) (waiting hand : List ℕ) (pushes : Pushing) (pops : Popping)
     (fits : Fits site word waiting hand pushes pops) where
   pub pushing_keeps_changed : (word' : ℕ → ℕ) → let access = pushing_access site pushes in
-      Changes word (place_of access) (change_of access (word (place_of access))) word'
-      → Keeps site word word' waiting hand (pushing_turn site word pushes pops)
+      ChangesWord word (place_of access) (change_of access (word (place_of access))) word'
+      → KeepsQueue site word word' waiting hand (pushing_turn site word pushes pops)
   pushing_keeps_changed word' changes = turn_keeps site word word' waiting hand (pushing_turn site word pushes pops)
       (pushing_within site word waiting hand pushes fits.push) (pushing_step site word waiting hand pushes pops fits)
       (pushing_writes site word waiting hand pushes pops fits)
@@ -50,25 +50,25 @@ module _ (site : Site) (word : ℕ → ℕ) (waiting hand : List ℕ) (pushes : 
       (pushing_own site pushes (seen_by (pushing_access site pushes) word)) changes
 
   pub popping_keeps_changed : (word' : ℕ → ℕ) → let access = popping_access site pops in
-      Changes word (place_of access) (change_of access (word (place_of access))) word'
-      → Keeps site word word' waiting hand (popping_turn site word pushes pops)
+      ChangesWord word (place_of access) (change_of access (word (place_of access))) word'
+      → KeepsQueue site word word' waiting hand (popping_turn site word pushes pops)
   popping_keeps_changed word' changes = turn_keeps site word word' waiting hand (popping_turn site word pushes pops)
       (popping_within site word waiting pops fits.ring.bounded fits.pop) (popping_step site word waiting hand pushes pops fits)
       (popping_writes site word pops waiting fits.pop)
       (popping_answers site pops (seen_by (popping_access site pops) word))
       (popping_own (popping_turn site word pushes pops).answer (popping_turn site word pushes pops).event) changes
 
-  pub pushing_keeps : Keeps site word (word_after (pushing_access site pushes) word) waiting hand (pushing_turn site word pushes pops)
+  pub pushing_keeps : KeepsQueue site word (word_after (pushing_access site pushes) word) waiting hand (pushing_turn site word pushes pops)
   pushing_keeps = pushing_keeps_changed (word_after (pushing_access site pushes) word) (after_changes (pushing_access site pushes) word)
 
-  pub popping_keeps : Keeps site word (word_after (popping_access site pops) word) waiting hand (popping_turn site word pushes pops)
+  pub popping_keeps : KeepsQueue site word (word_after (popping_access site pops) word) waiting hand (popping_turn site word pushes pops)
   popping_keeps = popping_keeps_changed (word_after (popping_access site pops) word) (after_changes (popping_access site pops) word)
 
 module _ (site : Site) (words waiting hand : List ℕ) (pushes : Pushing) (pops : Popping) (room : site.base + size site ≤ length words)
     (fits : Fits site (λ place. get_or words place 0) waiting hand pushes pops) where
   in_list : (turn : Turn) → IsWithin site.base (size site) turn.access
       → (IsWithin 0 (length words) turn.access
-      → Keeps site (λ place. get_or words place 0) (λ place. get_or (words_after turn.access words) place 0) waiting hand turn)
+      → KeepsQueue site (λ place. get_or words place 0) (λ place. get_or (words_after turn.access words) place 0) waiting hand turn)
       → KeepsInList site words waiting hand turn
   in_list turn within keeps =
       let inside = within_wider turn.access site.base (size site) 0 (length words) (omega arith) (omega arith) within in

@@ -92,8 +92,8 @@ IsWithin base size (FetchOr place value) = IsPlace base size place
 IsWithin base size (FetchAnd place value) = IsPlace base size place
 
 -- one word became another, and no other word changed
-abbrev pub Changes : (ℕ → ℕ) → ℕ → ℕ → (ℕ → ℕ) → Type 0
-Changes word place new word' = (word' place ≡ new) × ((at : ℕ) → (at ≡ place → ⊥) → word' at ≡ word at)
+abbrev pub ChangesWord : (ℕ → ℕ) → ℕ → ℕ → (ℕ → ℕ) → Type 0
+ChangesWord word place new word' = (word' place ≡ new) × ((at : ℕ) → (at ≡ place → ⊥) → word' at ≡ word at)
 
 -- two stretches of words have no word in common
 abbrev pub AreApart : ℕ → ℕ → ℕ → ℕ → Type 0

@@ -7,7 +7,7 @@ use Rattle.iox_steps.specs.declared.side.QueueEvent.{QueueEvent}
 use Rattle.iox_steps.specs.declared.side.QueueReply.{QueueReply}
 use Rattle.iox_steps.specs.declared.side.Pushing.{Pushing}
 use Rattle.iox_steps.specs.declared.side.Popping.{Popping}
-use Rattle.iox_steps.specs.Accesses.{place_of, change_of, seen_by, word_after, words_after, IsWithin, Changes, AreApart, IsSameOutside, KeepsOutside}
+use Rattle.iox_steps.specs.Accesses.{place_of, change_of, seen_by, word_after, words_after, IsWithin, ChangesWord, AreApart, IsSameOutside, KeepsOutside}
 use Rattle.iox_steps.specs.Sites.{size}
 use Rattle.iox_steps.specs.Sides.{pushing_access, pushing_after, pushing_progress, pushing_event, popping_access, popping_after, popping_progress, popping_event}
 use Rattle.iox_steps.specs.Events.{IsTrueOf, waiting_after, hand_after}
@@ -55,12 +55,12 @@ popping_turn site word pushes pops = let seen = seen_by (popping_access site pop
 }
 
 -- A turn, from these words to those, keeps the queue in which `waiting` waits and `hand` is in hand.
-pub record Keeps (site : Site) (word word' : ℕ → ℕ) (waiting hand : List ℕ) (turn : Turn) : Type 0 where
+pub record KeepsQueue (site : Site) (word word' : ℕ → ℕ) (waiting hand : List ℕ) (turn : Turn) : Type 0 where
   -- the access names only words of the queue
   pub within : IsWithin site.base (size site) turn.access
   -- one word at most changed, as the access says
   pub changes : let place = place_of turn.access in
-      Changes word place (change_of turn.access (word place)) word'
+      ChangesWord word place (change_of turn.access (word place)) word'
   -- no word outside the queue changed
   pub outside : IsSameOutside site.base (size site) word word'
   -- its event is true
@@ -80,7 +80,7 @@ pub record Keeps (site : Site) (word word' : ℕ → ℕ) (waiting hand : List �
 abbrev pub KeepsInList : Site → List ℕ → List ℕ → List ℕ → Turn → Type 0
 KeepsInList site words waiting hand turn = let after = words_after turn.access words in
     IsWithin 0 (length words) turn.access × KeepsOutside site.base (size site) words after
-    × Keeps site (λ place. slice_index words place) (λ place. slice_index after place)
+    × KeepsQueue site (λ place. slice_index words place) (λ place. slice_index after place)
     waiting hand turn
 
 -- Each turn keeps its queue, whatever the queue is and wherever in their calls both parties are.
@@ -91,7 +91,7 @@ module _ (turn_of : Site → (ℕ → ℕ) → Pushing → Popping → Turn) whe
       (pushes : Pushing) (pops : Popping)
       → Fits site word waiting hand pushes pops
       → let turn = turn_of site word pushes pops in
-      Keeps site word (word_after turn.access word) waiting hand turn
+      KeepsQueue site word (word_after turn.access word) waiting hand turn
 
   -- each turn keeps its queue, and leaves every queue elsewhere in the same words unchanged
   abbrev pub EveryTurnLeavesOthers : Type 0

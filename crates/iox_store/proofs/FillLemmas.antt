@@ -2,7 +2,7 @@
 use Rattle.std.proofs.Common.{◌≡◌, ℕ, zero, suc, ◌+◌, List, [], ◌∷◌, ◌++◌, length, flat_map, refl, sym, ap, subst, ◌∙◌, append_assoc, append-nil, arith, add-one, add-zero}
 use Rattle.std.specs.List.{range_with_len}
 use Rattle.std.proofs.lemmas.List.{flat_map_more}
-use Rattle.iox_store.specs.Stored.{Stored, copies, written_next}
+use Rattle.iox_store.specs.Stored.{StoredMessage, copies, written_next}
 use Rattle.iox_store.specs.Answering.{GivesInTurn}
 
 copies-from : (words : List ℕ) (a n : ℕ)
@@ -25,11 +25,11 @@ Answers-more step f first [] g value h asked last =
 Answers-more step f first (x ∷ xs) g value h (after, now, asked) last =
     (after, now, Answers-more step after (suc first) xs g value h asked (subst (λ n. step g n value h) (omega arith) last))
 
-abbrev with_words : Stored → ℕ → List ℕ → Stored
+abbrev with_words : StoredMessage → ℕ → List ℕ → StoredMessage
 with_words y n ws = record y { filled = n; payload = ws }
 
 -- one element more is filled
-pub written-more : {E : Type 0} (words : E → List ℕ) (x y : Stored) (values : List E) (value : E) (n : ℕ)
+pub written-more : {E : Type 0} (words : E → List ℕ) (x y : StoredMessage) (values : List E) (value : E) (n : ℕ)
     → x ≡ record y { filled = n; payload = flat_map words values }
     → written_next x (words value) ≡ record y { filled = n + 1; payload = flat_map words (values ++ value ∷ []) }
 written-more words x y values value n is =

@@ -1,6 +1,6 @@
 -- How a message is filled with what a closure answers.
 use Rattle.std.specs.Prelude.{ℕ, suc, ◌≡◌, List, [], ◌∷◌, flat_map, length}
-use Rattle.iox_store.specs.Stored.{Stored, filled_with}
+use Rattle.iox_store.specs.Stored.{StoredMessage, filled_with}
 
 -- The closure is asked for one number after the other, from the first on, and answers these values.
 abbrev pub GivesInTurn : {F E : Type 0} → (F → ℕ → E → F → Type 0) → F → ℕ → List E → F → Type 0
@@ -10,7 +10,7 @@ GivesInTurn {F} step f first (value ∷ values) last =
 
 -- From old, each element is filled with what the closure answers for its index, which leaves new.
 pub record FillsByAnswers {F E : Type 0} (words : E → List ℕ) (step : F → ℕ → E → F → Type 0)
-    (f : F) (old new : Stored) : Type 0 where
+    (f : F) (old new : StoredMessage) : Type 0 where
   pub values : List E
   pub last : F
   pub answered : GivesInTurn step f 0 values last

@@ -1,10 +1,10 @@
 -- What a cell shows, and what holds of it.
 use Rattle.std.specs.Prelude.{ℕ, ◌≡◌, ◌≤◌, List, length, flat_map, All}
-use Rattle.iox_store.specs.Stored.{Stored}
+use Rattle.iox_store.specs.Stored.{StoredMessage}
 
 -- a cell as words: the words of an element, those of the user header, for how many elements it was
 -- lent, for how many it may be lent, and the filled ones
-abbrev pub stored_as : {E : Type 0} → (E → List ℕ) → List ℕ → ℕ → ℕ → List E → Stored
+abbrev pub stored_as : {E : Type 0} → (E → List ℕ) → List ℕ → ℕ → ℕ → List E → StoredMessage
 stored_as words user elements room items = record {
   room = room;
   elements = elements;

@@ -3,7 +3,7 @@ use Rattle.std.specs.Prelude.{ℕ, suc, ◌≡◌, ◌+◌, ◌*◌, List, [], �
 use Rattle.std.specs.List.{range_with_len}
 
 -- What a message carries.
-pub record Stored : Type 0 where
+pub record StoredMessage : Type 0 where
   -- for how many elements it may be lent, with no room given for it
   pub room : ℕ
   -- how many elements it was lent for, and how many of them are filled
@@ -16,7 +16,7 @@ pub record Stored : Type 0 where
 -- The messages by their places, and the length for which each of them has room.
 pub record Contents : Type 0 where
   pub longest : ℕ
-  pub messages : List Stored
+  pub messages : List StoredMessage
 
 -- for how many elements such a message may be lent, with this room given for it, if any
 abbrev pub room_with : ℕ → Option ℕ → ℕ
@@ -24,7 +24,7 @@ room_with room None = room
 room_with room (Some spare) = max room spare
 
 -- a message that was lent for no element
-abbrev pub unlent : ℕ → List ℕ → Stored
+abbrev pub unlent : ℕ → List ℕ → StoredMessage
 unlent room user =
     record { room = room; elements = 0; filled = 0; user = user; payload = [] }
 
@@ -34,11 +34,11 @@ new_contents count longest user =
     record { longest = longest; messages = replicate count (unlent longest user) }
 
 -- the message in a place
-abbrev pub stored_at : Contents → ℕ → Stored
+abbrev pub stored_at : Contents → ℕ → StoredMessage
 stored_at contents place = slice_index_or contents.messages place (unlent 0 [])
 
 -- one message is as it is now, and the others are as they were
-abbrev pub with_stored : Contents → ℕ → Stored → Contents
+abbrev pub with_stored : Contents → ℕ → StoredMessage → Contents
 with_stored contents place x =
     record contents { messages = slice_set contents.messages place x }
 
@@ -49,11 +49,11 @@ ChangesOnly place old new = new ≡ with_stored old place (stored_at new place)
 -- ---- what a caller does with a message
 
 -- no element is filled
-abbrev pub emptied : Stored → Stored
+abbrev pub emptied : StoredMessage → StoredMessage
 emptied x = record x { filled = 0; payload = [] }
 
 -- lent for so many elements, none of which is filled
-abbrev pub lent_uninit : Stored → ℕ → List ℕ → Stored
+abbrev pub lent_uninit : StoredMessage → ℕ → List ℕ → StoredMessage
 lent_uninit x elements user = record (emptied x) { elements = elements; user = user }
 
 -- the same words, so many times
@@ -61,27 +61,27 @@ abbrev pub copies : List ℕ → ℕ → List ℕ
 copies words count = flat_map (λ n. words) (range_with_len 0 count)
 
 -- all elements are filled, with these words
-abbrev pub filled_with : Stored → List ℕ → Stored
+abbrev pub filled_with : StoredMessage → List ℕ → StoredMessage
 filled_with x payload = record x { filled = x.elements; payload = payload }
 
 -- lent for so many elements, each filled with the same words
-abbrev pub lent_filled : Stored → ℕ → List ℕ → List ℕ → Stored
+abbrev pub lent_filled : StoredMessage → ℕ → List ℕ → List ℕ → StoredMessage
 lent_filled x elements user words = filled_with (lent_uninit x elements user) (copies words elements)
 
 -- one more element is filled
-abbrev pub written_next : Stored → List ℕ → Stored
+abbrev pub written_next : StoredMessage → List ℕ → StoredMessage
 written_next x words = record x { filled = x.filled + 1; payload = x.payload ++ words }
 
 -- another user header
-abbrev pub with_user : Stored → List ℕ → Stored
+abbrev pub with_user : StoredMessage → List ℕ → StoredMessage
 with_user x user = record x { user = user }
 
 -- the words of the filled element of that index, where each element has so many words
-abbrev pub element_at : ℕ → Stored → ℕ → List ℕ
+abbrev pub element_at : ℕ → StoredMessage → ℕ → List ℕ
 element_at width x index = take width (drop (index * width) x.payload)
 
 -- that element has other words, and the others have theirs
-abbrev pub with_element : ℕ → Stored → ℕ → List ℕ → Stored
+abbrev pub with_element : ℕ → StoredMessage → ℕ → List ℕ → StoredMessage
 with_element width x index words = record x {
   payload = take (index * width) x.payload ++ words ++ drop (suc index * width) x.payload;
 }

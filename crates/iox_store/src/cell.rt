@@ -22,10 +22,10 @@ pub struct Cell<E: Words, H: Words> {
 
 impl<E: Words, H: Words> Model for Cell<E, H> {
     ghost use Rattle.std.specs.Prelude.{vec_capacity};
-    ghost use Rattle.iox_store.specs.Stored.{Stored};
+    ghost use Rattle.iox_store.specs.Stored.{StoredMessage};
     ghost use Rattle.iox_store.specs.Cells.{IsCell, stored_as};
 
-    ghost Value = { Stored };
+    ghost Value = { StoredMessage };
 
     ghost view = { λ c. stored_as E.words (H.words c.user) c.elements c.room c.payload.items };
 

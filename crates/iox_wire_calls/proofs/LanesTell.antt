@@ -25,7 +25,7 @@ use Rattle.iox_wire_steps.specs.Entry.{Entry}
 use Rattle.iox_wire_steps.specs.Known.{free_lanes}
 use Rattle.iox_wire_steps.specs.Tables.{Setting, entry_at, without_entry}
 use Rattle.iox_wire_steps.specs.SentStates.{OpensElsewhere}
-use Rattle.iox_wire_steps.specs.SlotsKnown.{HasEntry, HasSent, IsPortOfSeat, PlaceStands}
+use Rattle.iox_wire_steps.specs.SlotsKnown.{HasEntry, SendsOwnEntry, IsPortOfSeat, PlaceStands}
 use Rattle.iox_wire_steps.specs.Uses.{how_often}
 use Rattle.iox_wire_steps.proofs.Counting.{used}
 use Rattle.iox_wire_steps.specs.Following.{message_at}
@@ -200,7 +200,7 @@ module _ (p : Setting) (held : Pools) (s : State) (x : Seat) (e : Entry) (stands
             among-filter (λ (k : Entry). not (k.number == e.number)) d.loan x.table (in_table x d.loan there)
             (apart (d.loan.number == e.number) refl)
 
-    by_made : (copied : Bool) → d.copied ≡ copied → (copied ≡ true → lent_in (message_at x.local) ≡ d.loan ∷ []) → HasSent s.fixed x d.loan copied → ⊥
+    by_made : (copied : Bool) → d.copied ≡ copied → (copied ≡ true → lent_in (message_at x.local) ≡ d.loan ∷ []) → SendsOwnEntry s.fixed x d.loan copied → ⊥
     by_made true is lent sent = made (lent refl)
     by_made false is lent sent = kept sent
 

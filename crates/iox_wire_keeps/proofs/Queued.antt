@@ -23,7 +23,7 @@ use Rattle.iox_wire_calls.specs.Programs.{Pops, Program, Pushes, program_access,
 use Rattle.iox_wire_calls.specs.StoredMessages.{StoresInto}
 use Rattle.iox_model.specs.Weaves.{World}
 use Rattle.iox_wire_calls.specs.MomentsOf.{Pools}
-use Rattle.iox_wire_calls.specs.SlotsKnown.{HasSent, PlaceStands}
+use Rattle.iox_wire_calls.specs.SlotsKnown.{SendsOwnEntry, PlaceStands}
 use Rattle.iox_wire_calls.specs.OwnedWords.{Owns}
 use Rattle.iox_model.specs.Maps.{has_number}
 use Rattle.iox_steps.specs.Accesses.{seen_by}
@@ -110,11 +110,11 @@ module _ (p : Setting) (held : Pools) (word : ℕ → ℕ) (c : WireContents) (s
   waited program v slot there = inl there
 
   -- what a send publishes is its own loan, which is stored
-  sent_stored : (d : Delivery) → HasSent w.state.fixed (seats n) d.loan d.copied → (message_at (seats n).local ≡ Sent d.loan d.copied) → IsInPool p d.loan.sender d.loan.slot
+  sent_stored : (d : Delivery) → SendsOwnEntry w.state.fixed (seats n) d.loan d.copied → (message_at (seats n).local ≡ Sent d.loan d.copied) → IsInPool p d.loan.sender d.loan.slot
       → ((e : Entry) → IsWritten (seats n).local e → ⊥) → IsStored p held c d.loan.sender d.loan.slot
   sent_stored d on message low unwritten = by_copy d.copied message on
     where
-      by_copy : (b : Bool) → message_at (seats n).local ≡ Sent d.loan b → HasSent w.state.fixed (seats n) d.loan b → IsStored p held c d.loan.sender d.loan.slot
+      by_copy : (b : Bool) → message_at (seats n).local ≡ Sent d.loan b → SendsOwnEntry w.state.fixed (seats n) d.loan b → IsStored p held c d.loan.sender d.loan.slot
       by_copy true is on = (subst (CallIsStored p held c) is (has.nodes n living).call).0
       by_copy false is on = (has.nodes n living).entries d.loan on low (unwritten d.loan)
 

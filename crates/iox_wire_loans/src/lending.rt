@@ -105,7 +105,8 @@ impl Model for Lending {
     } };
 
     ghost invariant = { λ l.
-        IsInMemory l.site × AreVisited l.at l.room l.left.left × HasWords l.at l.words.items l.places
+        IsInMemory l.site × AreVisited l.at l.room l.left.left
+        × HasWords l.at l.words.items l.places
         × HasWordsLeft l.at l.words.items l.places l.next l.first l.user
         × (l.longest ≤ vec_capacity l.words) };
 }

@@ -42,7 +42,8 @@ pub fn request_loan_begins(
     requires fits { length stops.now ≤ lending.old.ways_room }
     requires words { lender.now.places.slot_words ≤ lending.old.words_room }
     ensures begun { (p : Setting) → (n : ℕ) → (q : Port) → q ≡ p.port lender.now.port
-        → LenderIsTold p lender.now → HasClientLimits p lender.now → number ≡ next_handle p seat.old.seat
+        → LenderIsTold p lender.now → HasClientLimits p lender.now
+        → number ≡ next_handle p seat.old.seat
         → ways_of stops.now ≡ request_ways (known p seat.old.seat) q.node lender.now.port
         → placed seat.new.seat lending.new.local
         ≡ begins_at_port p seat.old.seat (Loan n elements) q }
@@ -66,7 +67,8 @@ pub fn response_loan_begins(
     requires within { QueuesInMemory Index lender.now.room stops.now }
     requires fits { length stops.now ≤ lending.old.ways_room }
     requires words { lender.now.places.slot_words ≤ lending.old.words_room }
-    ensures begun { (p : Setting) → (n : ℕ) → LenderIsTold p lender.now → HasServerLimits p lender.now
+    ensures begun { (p : Setting) → (n : ℕ) → LenderIsTold p lender.now
+        → HasServerLimits p lender.now
         → request.port ≡ lender.now.port → number ≡ next_handle p seat.old.seat
         → ways_of stops.now
         ≡ response_ways (known p seat.old.seat) (p.port lender.now.port).node lender.now.port

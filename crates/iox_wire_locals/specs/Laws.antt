@@ -4,7 +4,7 @@ use Rattle.std.specs.Prelude.{◌≡◌, ℕ, ◌^◌, ◌<◌, true, List, [], 
 use Rattle.iox_model.specs.declared.way.RequestState.{RequestState}
 use Rattle.iox_model.specs.declared.way.RequestState.TheVariants.{Closed, Named}
 use Rattle.iox_model.specs.declared.way.Way.{Way}
-use Rattle.iox_model.specs.Maps.{has_way, without_way, not_in, AreApart}
+use Rattle.iox_model.specs.Maps.{has_way, without_way, not_in, AreDistinctWays}
 use Rattle.iox_model.specs.States.{Fixed}
 use Rattle.iox_model.specs.Doings.{Doing}
 use Rattle.iox_wire_moments.specs.MomentsOf.{Pools}
@@ -23,7 +23,7 @@ BusyNodesHaveSomethingToDo =
 -- Ways may be visited in any order: what the machine has left is what was not visited.
 abbrev pub VisitsGoOn : Type 0
 VisitsGoOn =
-    (ways visited : List Way) (w : Way) → AreApart ways
+    (ways visited : List Way) (w : Way) → AreDistinctWays ways
     → without_way w (not_in visited ways) ≡ not_in (w ∷ visited) ways
 
 -- And nothing is left once all were.

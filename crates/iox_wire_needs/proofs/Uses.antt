@@ -39,7 +39,7 @@ use Rattle.iox_wire_keeps.specs.Begins.{is_busy}
 use Rattle.iox_wire_keeps.specs.Locals.{program_of}
 use Rattle.iox_wire_keeps.specs.Steps.{accessed, advance, ending_at, push_place}
 use Rattle.iox_wire_keeps.specs.Tables.{Setting, entry_at}
-use Rattle.iox_wire_keeps.specs.SlotsKnown.{EndingStands, HasSent, IsPortOfSeat, PlaceStands}
+use Rattle.iox_wire_keeps.specs.SlotsKnown.{EndingStands, SendsOwnEntry, IsPortOfSeat, PlaceStands}
 use Rattle.iox_wire_keeps.specs.UsedSlots.{slots_held, slots_in_call, slots_used}
 use Rattle.iox_wire_keeps.proofs.OwnedPlaces.{owners_may_access}
 use Rattle.iox_wire_keeps.proofs.AccessesFound.{accesses_find_used}
@@ -87,7 +87,7 @@ module _ (p : Setting) (x : Seat) (uses : AllUsesAreCounted p x) (tidy : AreOfDi
 
 -- what is sent is the node's
 abbrev SentBy : Fixed → Seat → CallMessage → Type 0
-SentBy f x (Sent e copied) = HasSent f x e copied
+SentBy f x (Sent e copied) = SendsOwnEntry f x e copied
 SentBy f x other = Unit {0}
 
 -- and a loan
@@ -148,7 +148,7 @@ module _ (p : Setting) (words : List ℕ) (players : ℕ → Player) (r : Run) (
     fits : CallFits p (players n).seat
     fits = subst (CallFits p) (shown_same p (players n).seat (players n).seat.local leaves) (wire.calls n living).fits
 
-    pub sent : HasSent r.last.state.fixed (players n).seat e copied
+    pub sent : SendsOwnEntry r.last.state.fixed (players n).seat e copied
     sent = subst (SentBy r.last.state.fixed (players n).seat) is (sent_by p r.last.state.fixed (players n).seat (players n).seat.local mine.names.place)
 
     loan : IsOfLoan e.kind
@@ -158,7 +158,7 @@ module _ (p : Setting) (words : List ℕ) (players : ℕ → Player) (r : Run) (
     pub sent_home : IsPortOfSeat p (players n).seat e.port
     sent_home = by_copied copied is sent
       where
-        by_copied : (c : Bool) → message_at (players n).seat.local ≡ Sent e c → HasSent r.last.state.fixed (players n).seat e c → IsPortOfSeat p (players n).seat e.port
+        by_copied : (c : Bool) → message_at (players n).seat.local ≡ Sent e c → SendsOwnEntry r.last.state.fixed (players n).seat e c → IsPortOfSeat p (players n).seat e.port
         by_copied true at has = (
           subst (λ i. has_number i p.layout.sizes.ports ≡ true) has.0
               (subst (CallIsStored p wire.stands.held wire.stands.contents) at (stored p words players r n wire living leaves).call).0.fits.region.there,
@@ -170,7 +170,7 @@ module _ (p : Setting) (words : List ℕ) (players : ℕ → Player) (r : Run) (
     pub sent_used : has_number e.slot (slots_used (players n).seat e.port) ≡ true
     sent_used =
         sent_is_used (players n).seat (record { loan = e; copied = copied; to = [] }) (slots_by_message e.port (players n).seat.local ∙ ap (lent_slots e.port) is)
-        (λ isnt. let has = subst (HasSent r.last.state.fixed (players n).seat e) isnt sent in (has, ((mine.names.entries e has).own (loan_kept e.kind loan)).0))
+        (λ isnt. let has = subst (SendsOwnEntry r.last.state.fixed (players n).seat e) isnt sent in (has, ((mine.names.entries e has).own (loan_kept e.kind loan)).0))
 
   pub in_use : IsTidy (players n).seat → (e : Entry) (copied : Bool) → message_at (players n).seat.local ≡ Sent e copied → IsUsed e.port e.slot (players n).seat.desks
   in_use tidy e copied is =
@@ -216,7 +216,7 @@ module _ (p : Setting) (words : List ℕ) (players : ℕ → Player) (r : Run) (
       let at : message_at (players n).seat.local ≡ Sent d.loan d.copied = ap message_at is in
       let there : has_number d.loan.slot (slots_used y d.loan.port) ≡ true
       = sent_is_used y d (slots_by_message d.loan.port y.local ∙ ap (lent_slots d.loan.port) by.message)
-      (λ isnt. let has = subst (HasSent r.last.state.fixed (players n).seat d.loan) isnt (sent p words players r n wire living d.loan d.copied at) in (
+      (λ isnt. let has = subst (SendsOwnEntry r.last.state.fixed (players n).seat d.loan) isnt (sent p words players r n wire living d.loan d.copied at) in (
         ap (λ es. entry_at d.loan.number es) by.table ∙ has,
         (((mine p words players r n wire living d.loan d.copied at).names.entries d.loan has).own (loan_kept d.loan.kind (loan p words players r n wire living d.loan d.copied at))).0,
       )) in

@@ -5,7 +5,7 @@ use Rattle.std.proofs.Common.{◌≡◌, ℕ, ◌+◌, ◌-◌, Bool, true, fals
 use Rattle.iox_model.specs.declared.kind.Kind.{Kind}
 use Rattle.iox_model.specs.declared.kind.Kind.TheVariants.{Client, Server, RequestMut, RequestMutUninit, ResponseMut, ResponseMutUninit, PendingResponse, ActiveRequest, Response}
 use Rattle.iox_model.specs.Handles.{is_own, is_received, is_request_loan}
-use Rattle.iox_model.specs.Maps.{has_number, AreApart}
+use Rattle.iox_model.specs.Maps.{has_number, AreDistinctWays}
 use Rattle.iox_model.specs.Peers.{ports_of_node}
 use Rattle.iox_model.specs.Settings.{is_client}
 use Rattle.iox_laws.proofs.WeaveLaws.MapLemmas.{eqb-refl}
@@ -223,7 +223,7 @@ module _ (p : Setting) (x : Seat) (dead : ℕ) (all : AllUsesAreCounted p x) (is
   forgets port mine = record {
     desk = forgets_ports ports d;
     there = now;
-    ways = subst AreApart (sym (forgotten_ways ports d.recorded)) counted.ways;
+    ways = subst AreDistinctWays (sym (forgotten_ways ports d.recorded)) counted.ways;
     counts = same_counts (p.port port).pool (uses_of y port) (all_less (flat_map (slots_to ports) d.recorded) d) (forgets_ports ports d) refl refl
         (all_lessened (p.port port).pool (flat_map (slots_to ports) d.recorded) (uses_of x port) (uses_of y port) d counted.counts less);
   }

@@ -6,7 +6,7 @@ use Rattle.std.proofs.Common.{◌≡◌, ℕ, ◌+◌, ◌-◌, Bool, true, fals
 use Rattle.iox_model.specs.declared.kind.Kind.TheVariants.{ActiveRequest, Response}
 use Rattle.iox_model.specs.declared.way.Way.{Way}
 use Rattle.iox_model.specs.Handles.{is_own, is_received, is_request_loan}
-use Rattle.iox_model.specs.Maps.{has_number, AreApart, AreDistinct}
+use Rattle.iox_model.specs.Maps.{has_number, AreDistinctWays, AreDistinct}
 use Rattle.iox_model.specs.Peers.{node_of_port, ways_from}
 use Rattle.iox_model.specs.Settings.{is_client}
 use Rattle.iox_model.specs.States.{Port, State}
@@ -163,7 +163,7 @@ module _ (p : Setting) (held : Pools) (s t : State) (x : Seat) (ending : Ending)
       entries = entries fit.entries;
       call = tt;
       ways = ap ways_in (same.recorded port) ∙ fit.ways ∙ ap (λ (ps : List Port). ways_from (record (s.fixed) { ports = ps }) port) (sym leaves.ports);
-      apart = subst (λ rs. AreApart (ways_in rs)) (sym (same.recorded port)) fit.apart;
+      apart = subst (λ rs. AreDistinctWays (ways_in rs)) (sym (same.recorded port)) fit.apart;
       from = ap (list_all (λ r. r.way.sender == port)) (same.recorded port) ∙ fit.from;
       records = records fit.records;
       counted = λ i has. trans (held port i).serial (s.fixed.loans port) (t.fixed.loans port) (fit.counted i (old port i has)) (leaves.loans port);

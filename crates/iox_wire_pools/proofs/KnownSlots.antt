@@ -4,7 +4,7 @@ use Rattle.std.specs.List.{list_all}
 use Rattle.std.specs.Option.{option_map_or}
 use Rattle.std.proofs.Common.{◌≡◌, ℕ, ◌+◌, Bool, true, false, if◌then◌else◌, ◌==◌, List, [], ◌∷◌, Option, Some, None, refl, ap, sym, subst, ◌∙◌, arith, eqb-true}
 use Rattle.iox_model.specs.declared.way.Way.{Way}
-use Rattle.iox_model.specs.Maps.{has_number, without_number, AreApart}
+use Rattle.iox_model.specs.Maps.{has_number, without_number, AreDistinctWays}
 use Rattle.iox_model.specs.Moments.{Deliver, GetBack, moved}
 use Rattle.iox_model.specs.Peers.{node_of_port, ways_from}
 use Rattle.iox_model.specs.States.{Fixed, State}
@@ -86,7 +86,7 @@ module _ (x : Seat) (w : Way) (change : Desk → Desk) (f : List ℕ → List �
       entries = fit.entries;
       call = fit.call;
       ways = ways_now port ∙ fit.ways ∙ ap (λ (g : Fixed). ways_from g port) (sym same);
-      apart = subst AreApart (sym (ways_now port)) fit.apart;
+      apart = subst AreDistinctWays (sym (ways_now port)) fit.apart;
       from = from_ways port (recorded_of y port) ∙ ap (list_all (λ v. v.sender == port)) (ways_now port) ∙ sym (from_ways port (recorded_of x port)) ∙ fit.from;
       records = records;
       counted = λ i has. subst (λ (g : Fixed). (held port i).serial ≤ g.loans port) (sym same) (fit.counted i (old port i has));

@@ -3,7 +3,7 @@ use Rattle.std.specs.Prelude.{map, flat_map, is_some, ◌++◌}
 use Rattle.std.specs.Option.{option_map_or}
 use Rattle.std.proofs.Common.{◌≡◌, ℕ, ◌+◌, Bool, true, false, if◌then◌else◌, ◌==◌, List, [], ◌∷◌, Some, refl, ap, sym, subst, ◌∙◌, arith, true≢false}
 use Rattle.iox_model.specs.declared.way.Way.{Way}
-use Rattle.iox_model.specs.Maps.{has_number, has_way, same_way, without_number, AreApart}
+use Rattle.iox_model.specs.Maps.{has_number, has_way, same_way, without_number, AreDistinctWays}
 use Rattle.iox_laws.proofs.WeaveLaws.MapLemmas.{same_way-refl, same_way-true}
 use Rattle.iox_laws.proofs.WeaveLedger.Truths.{false_if, or-false}
 use Rattle.iox_wire_locals.specs.declared.table.Recorded.{Recorded}
@@ -59,7 +59,7 @@ late : (a b c d : ℕ) → d ≡ a + c → b + d ≡ a + (b + c)
 late a b c d e = omega (arith, e)
 
 -- what is delivered is recorded once more
-pub one_recorded : (w : Way) (slot n : ℕ) (rs : List Recorded) → AreApart (ways_in rs) → is_some (record_of w rs) ≡ true
+pub one_recorded : (w : Way) (slot n : ℕ) (rs : List Recorded) → AreDistinctWays (ways_in rs) → is_some (record_of w rs) ≡ true
     → how_often n (all_slots (map (with_slots w (λ slots. slots ++ slot ∷ [])) rs)) ≡ one_if (slot == n) + how_often n (all_slots rs)
 one_recorded w slot n [] apart there = absurd (true≢false (sym there))
 one_recorded w slot n (r ∷ rs) apart there = by_case (same_way r.way w) refl there (one_recorded w slot n rs apart.1)
@@ -81,7 +81,7 @@ one_recorded w slot n (r ∷ rs) apart there = by_case (same_way r.way w) refl t
         ∙ ap (λ k. one_if (slot == n) + k) (sym (often_both n r.slots (all_slots rs)))
 
 -- what is got back is recorded once less
-pub one_gone : (w : Way) (slot n : ℕ) (rs : List Recorded) → AreApart (ways_in rs) → has_number slot (slots_of_way w rs) ≡ true
+pub one_gone : (w : Way) (slot n : ℕ) (rs : List Recorded) → AreDistinctWays (ways_in rs) → has_number slot (slots_of_way w rs) ≡ true
     → how_often n (all_slots rs) ≡ one_if (slot == n) + how_often n (all_slots (map (with_slots w (without_number slot)) rs))
 one_gone w slot n [] apart there = absurd (true≢false (sym there))
 one_gone w slot n (r ∷ rs) apart there = by_case (same_way r.way w) refl there (one_gone w slot n rs apart.1)

@@ -3,7 +3,7 @@ use Rattle.std.specs.Prelude.{map, find, is_some, option_map, ◌++◌, ◌≤�
 use Rattle.std.specs.Option.{option_map_or}
 use Rattle.std.proofs.Common.{◌≡◌, ℕ, ◌+◌, Bool, true, false, if◌then◌else◌, ◌==◌, List, [], ◌∷◌, Some, refl, ap, sym, subst, ◌∙◌, arith, eqb-true}
 use Rattle.iox_model.specs.declared.way.Way.{Way}
-use Rattle.iox_model.specs.Maps.{has_number, without_number, AreApart}
+use Rattle.iox_model.specs.Maps.{has_number, without_number, AreDistinctWays}
 use Rattle.iox_laws.proofs.WeaveLaws.MapLemmas.{eqb-refl}
 use Rattle.iox_laws.proofs.WeaveLedger.Lists.{find-among}
 use Rattle.iox_wire_locals.specs.declared.seat.Seat.{Seat}
@@ -68,8 +68,8 @@ module _ (x y : Seat) (q : ℕ) (change : Desk → Desk) (is : ChangesDesk x y q
 
   -- what the change does at its port, and that own uses stay at all others
   pub desk_changed : (port pool : ℕ) → UsesAreCounted x port pool
-      → ((d : Desk) → port ≡ q → HasDesk x port d → HasDesk y port (change d) → AreApart (ways_in d.recorded) → CountsUses pool (uses_of x port) d
-      → AreApart (ways_in (change d).recorded) × CountsUses pool (uses_of y port) (change d))
+      → ((d : Desk) → port ≡ q → HasDesk x port d → HasDesk y port (change d) → AreDistinctWays (ways_in d.recorded) → CountsUses pool (uses_of x port) d
+      → AreDistinctWays (ways_in (change d).recorded) × CountsUses pool (uses_of y port) (change d))
       → ((port == q) ≡ false → (n : ℕ) → own_uses x port n ≡ own_uses y port n)
       → UsesAreCounted y port pool
   desk_changed port pool counted here beyond = by_case (port == q) refl
@@ -116,7 +116,7 @@ pub desk_same : (x y : Seat) (q : ℕ) (change : Desk → Desk) → ChangesDesk 
 desk_same x y q change is words frees records port pool own counted =
     desk_changed x y q change is port pool counted
     (λ d at there now apart counts. (
-      subst (λ rs. AreApart (ways_in rs)) (sym (records d)) apart,
+      subst (λ rs. AreDistinctWays (ways_in rs)) (sym (records d)) apart,
       same_counts pool (uses_of y port) d (change d) (words d) (frees d)
           (same_uses pool (uses_of x port) (uses_of y port) d
           (λ n. uses_are x port n d there ∙ ap (λ k. k + how_often n (all_slots d.recorded)) (own n)
@@ -132,7 +132,7 @@ pub desk_less : (x y : Seat) (q slot : ℕ) (rest : Desk → Desk) → ChangesDe
 desk_less x y q slot rest is words frees records port pool here beyond counted =
     desk_changed x y q (λ d. uses_less slot (rest d)) is port pool counted
     (λ d at there now apart counts. (
-      subst (λ rs. AreApart (ways_in rs)) (sym (records d)) apart,
+      subst (λ rs. AreDistinctWays (ways_in rs)) (sym (records d)) apart,
       lessened pool (uses_of x port) (uses_of y port) (rest d) slot (same_counts pool (uses_of x port) d (rest d) (words d) (frees d) counts)
           (λ n. uses_are x port n d there ∙ ap (λ k. k + how_often n (all_slots d.recorded)) (here at n)
           ∙ apart_from (one_if (slot == n)) (own_uses y port n) (how_often n (all_slots d.recorded))
@@ -154,7 +154,7 @@ got_back x w slot port pool out counted =
     let same : recorded_of x w.sender ≡ d.recorded = ap (recorded_of x) (sym at) ∙ recorded_is x port d there in
     let on : has_number slot (option_map_or (λ (r : Recorded). r.slots) (record_of w d.recorded) []) ≡ true
     = subst (λ rs. has_number slot (option_map_or (λ (r : Recorded). r.slots) (record_of w rs) []) ≡ true) same out.1 in (
-      subst AreApart (sym (ways_same w (without_number slot) d.recorded)) apart,
+      subst AreDistinctWays (sym (ways_same w (without_number slot) d.recorded)) apart,
       lessened pool (uses_of x port) (uses_of (at_desk x w.sender (gets_back w slot)) port)
           (record d { recorded = map (with_slots w (without_number slot)) d.recorded }) slot
           (same_counts pool (uses_of x port) d (record d { recorded = map (with_slots w (without_number slot)) d.recorded }) refl refl counts)
@@ -172,7 +172,7 @@ delivered x w slot port pool may counted =
     let same : recorded_of x w.sender ≡ d.recorded = ap (recorded_of x) (sym at) ∙ recorded_is x port d there in
     let on : is_some (record_of w d.recorded) ≡ true = subst (λ rs. is_some (record_of w rs) ≡ true) same may.1 in
     let some : 1 ≤ uses_of x port slot = subst (λ k. 1 ≤ uses_of x k slot) (sym at) (used slot (slots_used x w.sender) may.2) in (
-      subst AreApart (sym (ways_same w (λ slots. slots ++ slot ∷ []) d.recorded)) apart,
+      subst AreDistinctWays (sym (ways_same w (λ slots. slots ++ slot ∷ []) d.recorded)) apart,
       one_added pool (uses_of x port) (uses_of (at_desk x w.sender (delivers w slot)) port)
           (record d { recorded = map (with_slots w (λ slots. slots ++ slot ∷ [])) d.recorded }) slot
           (same_counts pool (uses_of x port) d (record d { recorded = map (with_slots w (λ slots. slots ++ slot ∷ [])) d.recorded }) refl refl counts)

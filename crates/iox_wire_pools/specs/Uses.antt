@@ -1,6 +1,6 @@
 -- How often each slot of a port is in use: that is what its desk counts.
 use Rattle.std.specs.Prelude.{◌≡◌, ℕ, ◌+◌, ◌<◌, ◌≤◌, ◌&&◌, if◌then◌else◌, ◌==◌, nat_lt, List, [], ◌∷◌, map, find, length, slice_index, Some}
-use Rattle.iox_model.specs.Maps.{has_number, AreApart, AreDistinct}
+use Rattle.iox_model.specs.Maps.{has_number, AreDistinctWays, AreDistinct}
 use Rattle.iox_wire_locals.specs.declared.seat.Seat.{Seat}
 use Rattle.iox_wire_locals.specs.declared.table.Desk.{Desk}
 use Rattle.iox_wire_locals.specs.Tables.{Setting}
@@ -30,7 +30,7 @@ pub record CountsUses (pool : ℕ) (uses : ℕ → ℕ) (d : Desk) : Type 0 wher
 pub record UsesAreCounted (x : Seat) (port pool : ℕ) : Type 0 where
   pub desk : Desk
   pub there : find (λ d. d.port == port) x.desks ≡ Some desk
-  pub ways : AreApart (map (λ r. r.way) desk.recorded)
+  pub ways : AreDistinctWays (map (λ r. r.way) desk.recorded)
   pub counts : CountsUses pool (uses_of x port) desk
 
 -- So it is at each port of the node.

@@ -5,7 +5,7 @@ use Rattle.std.specs.List.{prefix_len}
 use Rattle.std.proofs.lemmas.Bool.{ltb-false}
 use Rattle.std.proofs.lemmas.List.Quantifiers.{position-Some}
 use Rattle.iox_model.specs.declared.way.Way.{Way}
-use Rattle.iox_model.specs.Maps.{same_way, has_way, AreApart}
+use Rattle.iox_model.specs.Maps.{same_way, has_way, AreDistinctWays}
 use Rattle.iox_laws.proofs.WeaveLaws.MapLemmas.{same_way-true, same_way-flip}
 use Rattle.iox_wire_locals.specs.declared.table.Recorded.{Recorded}
 use Rattle.iox_wire_locals.specs.Desks.{with_slots}
@@ -54,7 +54,7 @@ none_has w (n ∷ ns) none = by_case (same_way w n.recorded.way) refl none (none
 
 -- ---- where one is
 
-changed_at : (w : Way) (f : List ℕ → List ℕ) (ns : List Noted) (i : ℕ) (e : Noted) → AreApart (ways_in ns) → i < length ns
+changed_at : (w : Way) (f : List ℕ → List ℕ) (ns : List Noted) (i : ℕ) (e : Noted) → AreDistinctWays (ways_in ns) → i < length ns
     → same_way (get_or ns i e).recorded.way w ≡ true → ((k : ℕ) → k < i → same_way (get_or ns k e).recorded.way w ≡ false)
     → slice_set ns i (changed f (get_or ns i e)) ≡ map (with_noted w f) ns
 changed_at w f [] i e apart h is first = absurd (omega (arith, h))
@@ -81,18 +81,18 @@ room_at w (n ∷ ns) (suc i) e room h is = room_at w ns i e room.1 (omega (arith
 
 -- ---- what was read at the place of the way
 
-pub stored_at : (w : Way) (f : List ℕ → List ℕ) (ns : List Noted) (i : ℕ) (n : Noted) → AreApart (ways_in ns)
+pub stored_at : (w : Way) (f : List ℕ → List ℕ) (ns : List Noted) (i : ℕ) (n : Noted) → AreDistinctWays (ways_in ns)
     → Some i ≡ position (λ x. same_way x.recorded.way w) ns → n ≡ get_or ns i n → slice_set ns i (changed f n) ≡ map (with_noted w f) ns
 stored_at w f ns i n apart at read =
     let facts = position-Some (λ (x : Noted). same_way x.recorded.way w) ns i n (sym at) in
     ap (λ (x : Noted). slice_set ns i (changed f x)) read ∙ changed_at w f ns i n apart facts.0 facts.1 facts.2
 
-pub kept_apart : (ns : List Noted) (i : ℕ) (n m : Noted) (w : Way) → AreApart (ways_in ns)
+pub kept_apart : (ns : List Noted) (i : ℕ) (n m : Noted) (w : Way) → AreDistinctWays (ways_in ns)
     → Some i ≡ position (λ x. same_way x.recorded.way w) ns → n ≡ get_or ns i n → m.recorded.way ≡ n.recorded.way
-    → AreApart (ways_in (slice_set ns i m))
+    → AreDistinctWays (ways_in (slice_set ns i m))
 kept_apart ns i n m w apart at read same =
     let facts = position-Some (λ (x : Noted). same_way x.recorded.way w) ns i n (sym at) in
-    subst AreApart (sym (ways_set ns i n m (same ∙ ap (λ (x : Noted). x.recorded.way) read) facts.0)) apart
+    subst AreDistinctWays (sym (ways_set ns i n m (same ∙ ap (λ (x : Noted). x.recorded.way) read) facts.0)) apart
 
 pub room_read : (w : Way) (ns : List Noted) (i : ℕ) (n : Noted) → HasRoomToNote w ns
     → Some i ≡ position (λ x. same_way x.recorded.way w) ns → n ≡ get_or ns i n → length n.recorded.slots < n.capacity
@@ -111,12 +111,12 @@ has_more v w (u ∷ ws) none other = by_case (same_way v u) refl none (λ miss. 
     by_case true is hit rest = absurd (true≢false hit)
     by_case false is miss rest = ap (λ t. t || has_way v (ws ++ w ∷ [])) is ∙ rest miss
 
-apart_more : (w : Way) (ws : List Way) → AreApart ws → has_way w ws ≡ false → AreApart (ws ++ w ∷ [])
+apart_more : (w : Way) (ws : List Way) → AreDistinctWays ws → has_way w ws ≡ false → AreDistinctWays (ws ++ w ∷ [])
 apart_more w [] apart none = (refl, tt)
 apart_more w (u ∷ ws) apart none = by_case (same_way w u) refl none (apart_more w ws apart.1)
   where
     by_case : (t : Bool) → same_way w u ≡ t → (t || has_way w ws) ≡ false
-        → (has_way w ws ≡ false → AreApart (ws ++ w ∷ [])) → AreApart (u ∷ ws ++ w ∷ [])
+        → (has_way w ws ≡ false → AreDistinctWays (ws ++ w ∷ [])) → AreDistinctWays (u ∷ ws ++ w ∷ [])
     by_case true is hit rest = absurd (true≢false hit)
     by_case false is miss rest = (has_more u w ws apart.0 (same_way-flip u w (same_way u w) is refl), rest miss)
 
@@ -128,10 +128,10 @@ pub recorded_more : (ns : List Noted) (n : Noted) → recorded_in (ns ++ n ∷ [
 recorded_more [] n = refl
 recorded_more (x ∷ ns) n = ap (λ rs. x.recorded ∷ rs) (recorded_more ns n)
 
-pub more_apart : (ns : List Noted) (n : Noted) (w : Way) → AreApart (ways_in ns) → has_way w (ways_in ns) ≡ false → n.recorded.way ≡ w
-    → AreApart (ways_in (ns ++ n ∷ []))
+pub more_apart : (ns : List Noted) (n : Noted) (w : Way) → AreDistinctWays (ways_in ns) → has_way w (ways_in ns) ≡ false → n.recorded.way ≡ w
+    → AreDistinctWays (ways_in (ns ++ n ∷ []))
 more_apart ns n w apart none is =
-    subst AreApart (sym (ways_more ns n))
+    subst AreDistinctWays (sym (ways_more ns n))
     (apart_more n.recorded.way (ways_in ns) apart (subst (λ v. has_way v (ways_in ns) ≡ false) (sym is) none))
 
 pub rooms_more : (k : ℕ) (ns : List Noted) (n : Noted) → k ≤ n.capacity → NotesHaveRoom k ns → NotesHaveRoom k (ns ++ n ∷ [])

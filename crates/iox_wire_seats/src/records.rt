@@ -88,14 +88,14 @@ pub struct Records {
 
 impl Model for Records {
     ghost use Rattle.std.specs.Prelude.{List};
-    ghost use Rattle.iox_model.specs.Maps.{AreApart};
+    ghost use Rattle.iox_model.specs.Maps.{AreDistinctWays};
     ghost use Rattle.iox_wire_seats.specs.Records.{Noted, ways_in};
 
     ghost Value = { List Noted };
 
     ghost view = { λ r. r.records.items };
 
-    ghost invariant = { λ r. AreApart (ways_in r.records.items) };
+    ghost invariant = { λ r. AreDistinctWays (ways_in r.records.items) };
 }
 
 impl Records {

@@ -22,7 +22,7 @@ use Rattle.iox_wire_laws.specs.WireShows.OwnedCalls.{ReceivesOn}
 use Rattle.iox_wire_laws.specs.WireRegions.OwnedWords.{Owns}
 use Rattle.iox_wire_laws.specs.WireHolding.Aside.{slot_aside}
 use Rattle.iox_wire_laws.specs.WireHolding.FarSlots.{IsInPool, NamesSlots, TakesFromPool}
-use Rattle.iox_wire_laws.specs.WireHolding.SlotsKnown.{HasEntry, HasSent, IsAside, NamesStand, PlaceStands}
+use Rattle.iox_wire_laws.specs.WireHolding.SlotsKnown.{HasEntry, SendsOwnEntry, IsAside, NamesStand, PlaceStands}
 use Rattle.iox_wire_stands.specs.Following.{CallMessage, NodeContinues, IsReturning, Leaving, Lent, OfEntry, Sent, Taken, TakesOn, drops, keeps, lets_go, message_at, picks_slot, puts_aside, sends_loan, takes}
 use Rattle.iox_wire_stands.specs.NamesLaws.{AccessesKeepNames, ReturnsNothing, TakesInPool}
 use Rattle.iox_wire_stands.proofs.Follows.{accesses_follow}
@@ -30,7 +30,7 @@ use Rattle.iox_wire_stands.proofs.Follows.{accesses_follow}
 -- ---- by the message
 
 abbrev pub Stands : Setting → Fixed → Seat → CallMessage → Type 0
-Stands p f x (Sent e copied) = HasSent f x e copied × IsInPool p e.sender e.slot
+Stands p f x (Sent e copied) = SendsOwnEntry f x e copied × IsInPool p e.sender e.slot
 Stands p f x (OfEntry e) = HasEntry x e
 Stands p f x (Leaving e) = HasEntry x e × IsAside p e
 Stands p f x (Taken w slot) = ReceivesOn p x.node f w × IsInPool p w.sender slot
@@ -79,7 +79,7 @@ module _ (p : Setting) (f : Fixed) (x y : Seat) (part : KeepsOwn x y) where
   has_entry : (e : Entry) → HasEntry x e → HasEntry y e
   has_entry e has = ap (entry_at e.number) part.table ∙ has
 
-  has_sent : (e : Entry) (copied : Bool) → HasSent f x e copied → HasSent f y e copied
+  has_sent : (e : Entry) (copied : Bool) → SendsOwnEntry f x e copied → SendsOwnEntry f y e copied
   has_sent e true has = (has.0, has.1 ∙ sym part.node)
   has_sent e false has = has_entry e has
 

@@ -5,7 +5,7 @@ use Rattle.std.specs.Option.{option_map_or}
 use Rattle.std.proofs.Common.{◌≡◌, ℕ, ◌+◌, Bool, true, false, ◌==◌, List, [], Some, None, refl, ap, sym, subst, ◌∙◌, arith, eq-eqb, eqb-true, true≢false}
 use Rattle.std.proofs.lemmas.List.{length-replicate}
 use Rattle.iox_model.specs.declared.way.Way.{Way}
-use Rattle.iox_model.specs.Maps.{AreApart, AreDistinct, has_number, same_way}
+use Rattle.iox_model.specs.Maps.{AreDistinctWays, AreDistinct, has_number, same_way}
 use Rattle.iox_model.specs.Peers.{borrow_limit_on, buffer_on, is_connected_port, node_of_port, ways_from}
 use Rattle.iox_model.specs.Runs.{IsReachableState}
 use Rattle.iox_model.specs.States.{Fixed, Port, State}
@@ -241,7 +241,7 @@ module _ (plan : WirePlan) (p : Setting) (s : State) (is : IsPlan plan) (roomy :
       counted = record {
         desk = opened_desk p port;
         there = desk_own;
-        ways = subst AreApart (sym (ways_recorded (ways_on p port))) (subst AreApart (sym (same_ways port)) (ways_apart f port fits.numbers));
+        ways = subst AreDistinctWays (sym (ways_recorded (ways_on p port))) (subst AreDistinctWays (sym (same_ways port)) (ways_apart f port fits.numbers));
         counts = record {
           words = length-replicate pool 0;
           told = λ slot low. zero_word pool slot ∙ ap (how_often slot) (sym (unused port));
@@ -263,7 +263,7 @@ module _ (plan : WirePlan) (p : Setting) (s : State) (is : IsPlan plan) (roomy :
         call = tt;
         ways = ap (map (λ (r : Recorded). r.way)) recorded_own ∙ ways_recorded (ways_on p port) ∙ same_ways port;
         apart =
-            subst AreApart (sym (ap (map (λ (r : Recorded). r.way)) recorded_own ∙ ways_recorded (ways_on p port) ∙ same_ways port))
+            subst AreDistinctWays (sym (ap (map (λ (r : Recorded). r.way)) recorded_own ∙ ways_recorded (ways_on p port) ∙ same_ways port))
             (ways_apart f port fits.numbers);
         from =
             ap (list_all (λ (r : Recorded). r.way.sender == port)) recorded_own

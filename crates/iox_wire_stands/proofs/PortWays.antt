@@ -5,7 +5,7 @@ use Rattle.std.proofs.Common.{◌≡◌, ℕ, List, [], ◌∷◌, ap, sym, subs
 use Rattle.iox_model.specs.declared.kind.Role.{Role}
 use Rattle.iox_model.specs.declared.kind.Role.TheVariants.{Client, Server}
 use Rattle.iox_model.specs.declared.way.Way.{Way}
-use Rattle.iox_model.specs.Maps.{AreApart, AreDistinct}
+use Rattle.iox_model.specs.Maps.{AreDistinctWays, AreDistinct}
 use Rattle.iox_model.specs.Messages.{request_way, response_way}
 use Rattle.iox_model.specs.Peers.{lanes_of, lanes_to, ports_of_role, role_at, ways_from, ways_from_client, ways_from_server}
 use Rattle.iox_model.specs.Settings.{is_client, same_role}
@@ -56,7 +56,7 @@ module _ (f : Fixed) (port : ℕ) where
         again : (y : Way) → IsAmong y (lanes_to f port client) → (a : ℕ) × IsAmong a clients × IsAmong y (lanes_to f port a) → ⊥
         again y here r = apart.0 (subst (λ k. IsAmong k clients) (sym (of_client r.0 y r.2) ∙ of_client client y here) r.1)
 
-    pub ways_apart : AreApart (ways_from f port)
+    pub ways_apart : AreDistinctWays (ways_from f port)
     ways_apart =
         apart_ways (ways_from f port)
         (either NoRepeats (is_client (role_at f port)) (ways_from_client f port) (ways_from_server f port)

@@ -3,7 +3,7 @@ use Rattle.std.specs.Prelude.{◌<◌, nat_lt, ◌&&◌, replicate, slice_index}
 use Rattle.std.specs.List.{range_with_len}
 use Rattle.std.proofs.Common.{◌≡◌, ℕ, ◌+◌, Bool, true, false, zero, suc, List, [], ◌∷◌, refl, inl, inr, arith}
 use Rattle.iox_model.specs.declared.way.Way.{Way}
-use Rattle.iox_model.specs.Maps.{AreApart, AreDistinct, has_number, has_way}
+use Rattle.iox_model.specs.Maps.{AreDistinctWays, AreDistinct, has_number, has_way}
 use Rattle.iox_laws.proofs.WeaveLedger.Lists.{IsAmong, NoRepeats, among-number, no_repeats-distinct, number-among, way-among}
 use Rattle.iox_laws.proofs.WeaveLedger.Ranges.{range-apart, range-has}
 use Rattle.iox_laws.proofs.WeaveLedger.Truths.{false_if}
@@ -51,6 +51,6 @@ zero_word (suc n) (suc k) = zero_word n k
 
 -- ---- ways
 
-pub apart_ways : (ws : List Way) → NoRepeats ws → AreApart ws
+pub apart_ways : (ws : List Way) → NoRepeats ws → AreDistinctWays ws
 apart_ways [] apart = tt
 apart_ways (w ∷ ws) apart = (false_if (has_way w ws) (λ has. apart.0 (way-among w ws has)), apart_ways ws apart.1)

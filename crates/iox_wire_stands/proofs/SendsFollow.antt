@@ -45,7 +45,7 @@ use Rattle.iox_wire_laws.specs.WireRegions.OwnedWords.{Owns}
 use Rattle.iox_wire_laws.proofs.WireRegions.OwnPorts.{both}
 use Rattle.iox_wire_laws.proofs.WireRegions.OwnedPlaces.{owners_may_access}
 use Rattle.iox_wire_laws.specs.WireHolding.FarSlots.{QueuesHaveSlots}
-use Rattle.iox_wire_laws.specs.WireHolding.SlotsKnown.{HasSent, IsPortOfSeat, PlaceStands, SlotsKnown}
+use Rattle.iox_wire_laws.specs.WireHolding.SlotsKnown.{SendsOwnEntry, IsPortOfSeat, PlaceStands, SlotsKnown}
 use Rattle.iox_wire_laws.proofs.WireHolding.WireWays.{way_there}
 use Rattle.iox_wire_pools.specs.FoundUses.{HasLoan, SendsFrom, SendsThere}
 use Rattle.iox_wire_stands.specs.NamesLaws.{TakesInPool}
@@ -193,7 +193,7 @@ module _ (p : Setting) (held : Pools) (word word' : ℕ → ℕ) (c : WireConten
       (tt, (from y on d.loan.port at, loan))
     where
       loan : HasLoan x d
-      loan copied = (subst (HasSent f x d.loan) copied names, own-loan d.loan.kind sent.0.loan.loan)
+      loan copied = (subst (SendsOwnEntry f x d.loan) copied names, own-loan d.loan.kind sent.0.loan.loan)
         where
           sent : FitsDoing (view f x.node) x.node (Delivering (send_of f held x.node d) last (y ∷ left) count)
           sent =

@@ -5,7 +5,7 @@ use Rattle.iox_model.specs.Maps.{put_at}
 use Rattle.iox_model.specs.States.{State}
 use Rattle.iox_model.specs.Weaves.{World}
 use Rattle.iox_laws.proofs.WeaveLedger.Truths.{none-some}
-use Rattle.iox_steps.specs.Accesses.{Changes}
+use Rattle.iox_steps.specs.Accesses.{ChangesWord}
 use Rattle.iox_wire_words.specs.Fits.{WireContents}
 use Rattle.iox_wire_words.specs.Laws.{AccessIsMade}
 use Rattle.iox_wire_words.specs.Programs.{program_access}
@@ -50,7 +50,7 @@ no_access p held x (SendEnds d last count) seen ending is = record { seat = refl
 no_access p held x local seen ending is = none-some ending is
 
 -- no word changes
-none_made : (word word' : ℕ → ℕ) → Changes word 0 (word 0) word' → word ≡ word'
+none_made : (word word' : ℕ → ℕ) → ChangesWord word 0 (word 0) word' → word ≡ word'
 none_made word word' made = λ i k. sym (by_case k (k == 0) refl) i
   where
     by_case : (k : ℕ) (b : Bool) → (k == 0) ≡ b → word' k ≡ word k

@@ -27,7 +27,7 @@ use Rattle.iox_wire_laws.specs.WireKeeping.Shows.{EndKnows, ShowsWorld}
 use Rattle.iox_wire_laws.specs.WireRegions.OwnedWords.{Owns}
 use Rattle.iox_wire_laws.specs.WireHolding.Aside.{shown}
 use Rattle.iox_wire_laws.specs.WireHolding.FarSlots.{EndsInPool, IsInPool, TakesFromPool}
-use Rattle.iox_wire_laws.specs.WireHolding.SlotsKnown.{EndingStands, HasSent, PlaceStands}
+use Rattle.iox_wire_laws.specs.WireHolding.SlotsKnown.{EndingStands, SendsOwnEntry, PlaceStands}
 use Rattle.iox_wire_stands.specs.Following.{Leaving, LeavesNothing, message_at}
 use Rattle.iox_wire_stands.specs.Nodes.{NodeStands}
 use Rattle.iox_wire_stands.specs.Runs.{Answered, GoesOnBy, Run, history, said_in}
@@ -59,11 +59,11 @@ ended_leaves (SendEnds d last count) ending is = tt
 ended_leaves local ending is = none-some ending is
 
 module _ (p : Setting) (s : State) (x : Seat) where
-  pub of_sent : (e : Entry) (copied : Bool) (count : ℕ) → HasSent s.fixed x e copied → EndsWith p s.fixed x (endings.Sends e copied count)
+  pub of_sent : (e : Entry) (copied : Bool) (count : ℕ) → SendsOwnEntry s.fixed x e copied → EndsWith p s.fixed x (endings.Sends e copied count)
   of_sent e true count has = tt
   of_sent e false count has = has
 
-  pub of_failed : (e : Entry) (copied : Bool) (r : CallRefusal) → HasSent s.fixed x e copied → EndsWith p s.fixed x (endings.FailsToSend e copied r)
+  pub of_failed : (e : Entry) (copied : Bool) (r : CallRefusal) → SendsOwnEntry s.fixed x e copied → EndsWith p s.fixed x (endings.FailsToSend e copied r)
   of_failed e true r has = tt
   of_failed e false r has = has
 

@@ -6,7 +6,7 @@ use Rattle.std.specs.Option.{option_map_or}
 use Rattle.std.proofs.Common.{◌≡◌, ℕ, true, ◌==◌, List, [], ◌∷◌, refl, ap, sym, subst, ◌∙◌, inl, inr}
 use Rattle.iox_model.specs.declared.way.Way.{Way}
 use Rattle.iox_model.specs.Handles.{is_own}
-use Rattle.iox_model.specs.Maps.{AreApart, AreDistinct, has_number}
+use Rattle.iox_model.specs.Maps.{AreDistinctWays, AreDistinct, has_number}
 use Rattle.iox_model.specs.Messages.{Message}
 use Rattle.iox_model.specs.States.{State}
 use Rattle.iox_laws.proofs.WeaveLaws.MapLemmas.{eqb-refl}
@@ -100,7 +100,7 @@ module _ (p : Setting) (held new : Pools) (s : State) (x y : Seat) (known : Slot
     entries = entries port own;
     call = call port own;
     ways = ap (map (λ r. r.way)) (recorded port) ∙ fit.ways;
-    apart = subst (λ rs. AreApart (map (λ r. r.way) rs)) (sym (recorded port)) fit.apart;
+    apart = subst (λ rs. AreDistinctWays (map (λ r. r.way) rs)) (sym (recorded port)) fit.apart;
     from = ap (list_all (λ r. r.way.sender == port)) (recorded port) ∙ fit.from;
     records = records fit.records;
     counted = λ slot has.

@@ -5,7 +5,7 @@ use Rattle.std.specs.Option.{option_map_or}
 use Rattle.std.proofs.Common.{◌≡◌, ℕ, Bool, true, false, if◌then◌else◌, ◌==◌, ◌&&◌, List, [], ◌∷◌, Option, Some, None, refl, ap, sym, subst, ◌∙◌, inl, inr, true≢false}
 use Rattle.iox_model.specs.declared.way.Way.{Way}
 use Rattle.iox_model.specs.Handles.{is_own}
-use Rattle.iox_model.specs.Maps.{AreApart, AreDistinct, has_number, same_way}
+use Rattle.iox_model.specs.Maps.{AreDistinctWays, AreDistinct, has_number, same_way}
 use Rattle.iox_model.specs.Peers.{node_of_port, ways_from}
 use Rattle.iox_model.specs.States.{Port, State}
 use Rattle.iox_laws.proofs.WeaveLaws.MapLemmas.{same_way-true}
@@ -161,7 +161,7 @@ module _ (p : Setting) (held : Pools) (s t : State) (x y : Seat) (cut : List ℕ
     call = subst (CallHolds held) (sym forgets.rests) tt;
     ways = ap (map (λ r. r.way)) (forgets.records port) ∙ forgotten_ways cut (recorded_of x port) ∙ fit.ways
         ∙ ap (λ (ps : List Port). ways_from (record (s.fixed) { ports = ps }) port) (sym forgets.ports);
-    apart = subst AreApart (sym (ap (map (λ r. r.way)) (forgets.records port) ∙ forgotten_ways cut (recorded_of x port))) fit.apart;
+    apart = subst AreDistinctWays (sym (ap (map (λ r. r.way)) (forgets.records port) ∙ forgotten_ways cut (recorded_of x port))) fit.apart;
     from = ap (list_all (λ r. r.way.sender == port)) (forgets.records port) ∙ from_same cut port (recorded_of x port) ∙ fit.from;
     records = records fit.records;
     counted = λ slot has. subst (λ (loans : ℕ → ℕ). (held port slot).serial ≤ loans port) (sym forgets.loans) (fit.counted slot (used_before port slot has));

@@ -30,7 +30,7 @@ use Rattle.iox_wire_locals.specs.Tables.{Setting, way_in}
 use Rattle.iox_wire_laws.specs.WireKeeping.Shows.{ShowsWorld}
 use Rattle.iox_wire_laws.proofs.WireKeeping.CountsKept.{no_port}
 use Rattle.iox_wire_laws.proofs.WireKeeping.Frames.{Frame, settled_frame}
-use Rattle.iox_wire_laws.specs.WireOwners.Borrowed.{IsCounted}
+use Rattle.iox_wire_laws.specs.WireOwners.Borrowed.{CountsItsWay}
 use Rattle.iox_wire_laws.proofs.WireOwners.Borrowed.{ends_keep_borrowed}
 use Rattle.iox_wire_laws.specs.WireOwners.Releases.{HasOwnStates, ReleasesOwnHandle}
 use Rattle.iox_wire_laws.specs.WireRegions.OwnedBegins.{LayoutFits}
@@ -159,7 +159,7 @@ module _ (p : Setting) (held : Pools) (word : ℕ → ℕ) (c : WireContents) (s
       (record { pending = it.pending; request = it.request; response = it.response })
 
   -- what is received, or given up, came on a way that the node counts
-  counted_end : (k : Ending) → EndsWith p s.fixed x k → IsCounted x k
+  counted_end : (k : Ending) → EndsWith p s.fixed x k → CountsItsWay x k
   counted_end (endings.Receives v z slot header) on = over.counted z on.way on.mine
   counted_end (endings.Drops e) there =
       λ received. over.counted (way_in e) ((over.entries e there).received received).1

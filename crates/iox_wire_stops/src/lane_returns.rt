@@ -103,7 +103,8 @@ fn list_port(
     requires list { vec_len stops.old + pool_of map.now (number_at map.now index)
         ≤ vec_capacity stops.old }
     ensures stops { stops.new.items ≡ stops.old.items
-        ++ stops_at map.now (is_other Client seat.now.seat.forgot) (client_stops map.now server) index }
+        ++ stops_at map.now (is_other Client seat.now.seat.forgot)
+        (client_stops map.now server) index }
     ensures room { (0 < length stops.old.items → room ≡ returning_room map.now.limits Server)
         → 0 < length stops.new.items → result ≡ returning_room map.now.limits Server }
     ensures many { vec_len stops.new

@@ -15,7 +15,7 @@ use Rattle.iox_steps.specs.declared.side.Popping.TheVariants as popping
 use Rattle.iox_steps.specs.Accesses.{IsPlace, IsWithin, seen_by, word_after, words_after}
 use Rattle.iox_steps.specs.Sites.{size}
 use Rattle.iox_steps.specs.Sides.{pushing_access, pushing_after, pushing_event, popping_access, popping_after, popping_event}
-use Rattle.iox_steps.specs.Laws.{Keeps, pushing_turn, popping_turn}
+use Rattle.iox_steps.specs.Laws.{KeepsQueue, pushing_turn, popping_turn}
 use Rattle.iox_steps.specs.EventLists.{QueueState, write_after}
 use Rattle.iox_steps.specs.Fits.{Fits}
 use Rattle.iox_steps.proofs.AccessLemmas.{within_wider, changes_outside, after_changes, list_changes, length-words_after}
@@ -125,7 +125,7 @@ module _ (p : WireLayout) (word word' : ℕ → ℕ) (programs : ℕ → Program
 
   module _ (q : WireQueue) (place : Pushing) (now : program ≡ Pushes q place) (plays : IsQueue p.sizes q × (pusher_of p q ≡ n))
       (made : AccessIsMade (pushing_access (site_of p q) place) word word') where
-    pub push_turn : Keeps (site_of p q) word word' (c.queues q).waiting (c.queues q).hand (pushing_turn (site_of p q) word place (popping_in q (programs (popper_of p q))))
+    pub push_turn : KeepsQueue (site_of p q) word word' (c.queues q).waiting (c.queues q).hand (pushing_turn (site_of p q) word place (popping_in q (programs (popper_of p q))))
     push_turn =
         let at : pushing_in q (programs (pusher_of p q)) ≡ place =
         ap (λ k. pushing_in q (programs k)) plays.1 ∙ ap (pushing_in q) (is ∙ now) ∙ rw (same_queue-refl q) refl in
@@ -171,7 +171,7 @@ module _ (p : WireLayout) (word word' : ℕ → ℕ) (programs : ℕ → Program
 
   module _ (q : WireQueue) (place : Popping) (now : program ≡ Pops q place) (plays : IsQueue p.sizes q × (popper_of p q ≡ n))
       (made : AccessIsMade (popping_access (site_of p q) place) word word') where
-    pub pop_turn : Keeps (site_of p q) word word' (c.queues q).waiting (c.queues q).hand (popping_turn (site_of p q) word (pushing_in q (programs (pusher_of p q))) place)
+    pub pop_turn : KeepsQueue (site_of p q) word word' (c.queues q).waiting (c.queues q).hand (popping_turn (site_of p q) word (pushing_in q (programs (pusher_of p q))) place)
     pop_turn =
         let at : popping_in q (programs (popper_of p q)) ≡ place =
         ap (λ k. popping_in q (programs k)) plays.1 ∙ ap (popping_in q) (is ∙ now) ∙ rw (same_queue-refl q) refl in

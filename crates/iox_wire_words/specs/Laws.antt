@@ -3,8 +3,8 @@
 use Rattle.std.specs.Prelude.{◌≡◌, ℕ, ◌≤◌, List, length, slice_index}
 use Rattle.iox_word_map.specs.Maps.{put_at}
 use Rattle.iox_steps.specs.declared.access.Access.{Access}
-use Rattle.iox_steps.specs.Accesses.{place_of, change_of, seen_by, words_after, IsWithin, Changes}
-use Rattle.iox_steps.specs.Laws.{Keeps, pushing_turn, popping_turn}
+use Rattle.iox_steps.specs.Accesses.{place_of, change_of, seen_by, words_after, IsWithin, ChangesWord}
+use Rattle.iox_steps.specs.Laws.{KeepsQueue, pushing_turn, popping_turn}
 use Rattle.iox_word_map.specs.WordMaps.{total_words}
 use Rattle.iox_wire_words.specs.Programs.{WireLayout, site_of, Program, Rests, Pushes, Pops, LoadsState, StoresState, ExchangesState, LoadsWord, StoresWord, pusher_of, popper_of, pushing_in, popping_in, program_access, program_after}
 use Rattle.iox_wire_words.specs.Fits.{WireContents, IsSized, WordsFit, contents_after, MayRun}
@@ -13,17 +13,17 @@ use Rattle.iox_wire_words.specs.Fits.{WireContents, IsSized, WordsFit, contents_
 -- changed
 abbrev pub AccessIsMade : Access → (ℕ → ℕ) → (ℕ → ℕ) → Type 0
 AccessIsMade access word word' =
-    let place = place_of access in Changes word place (change_of access (word place)) word'
+    let place = place_of access in ChangesWord word place (change_of access (word place)) word'
 
 -- what the next access of a program found: at a queue all that a turn of its party says, else the
 -- word
 abbrev pub Finds : WireLayout → (ℕ → ℕ) → (ℕ → ℕ) → (ℕ → Program) → WireContents → Program → ℕ → Type 0
 Finds p word word' programs c Rests seen = Unit {0}
 Finds p word word' programs c (Pushes q place) seen =
-    Keeps (site_of p q) word word' (c.queues q).waiting (c.queues q).hand
+    KeepsQueue (site_of p q) word word' (c.queues q).waiting (c.queues q).hand
     (pushing_turn (site_of p q) word place (popping_in q (programs (popper_of p q))))
 Finds p word word' programs c (Pops q place) seen =
-    Keeps (site_of p q) word word' (c.queues q).waiting (c.queues q).hand
+    KeepsQueue (site_of p q) word word' (c.queues q).waiting (c.queues q).hand
     (popping_turn (site_of p q) word (pushing_in q (programs (pusher_of p q))) place)
 Finds p word word' programs c (LoadsState way) seen = seen ≡ c.state way
 Finds p word word' programs c (StoresState way value) seen = seen ≡ c.state way

@@ -9,7 +9,7 @@ use Rattle.iox_word_places.specs.declared.plan.PlanPort.{PlanPort}
 use Rattle.iox_word_places.specs.declared.plan.WirePlan.{WirePlan}
 use Rattle.iox_word_places.specs.declared.word_map.PortPlaces.{PortPlaces}
 use Rattle.iox_word_places.specs.declared.way_sizes.WaySizes.{WaySizes}
-use Rattle.iox_word_places.specs.MapFields.{AreWaySizes, IsCounted, places_before}
+use Rattle.iox_word_places.specs.MapFields.{AreWaySizes, FitsUsize, places_before}
 use Rattle.iox_word_places.specs.Plans.{number_at, sizes_of, IsPlan, IsPortAt, IsLaneAt, message_words, returning_words}
 use Rattle.iox_word_places.specs.PortSums.{planned_lane_words, planned_pair_words, regions_before, clients_before, servers_before}
 use Rattle.iox_word_places.proofs.PlanLemmas.{there, pair_words_there, pair_place_there, pair_within}
@@ -25,7 +25,7 @@ weaker X P Q None less h = h
 weaker X P Q (Some x) less h = less x h
 
 -- so many lanes have so many words, of which each is counted where there is one
-lanes_are : (lanes L each rest : ℕ) → IsCounted each L → rest + lanes * L < 2 ^ 64 → lanes * each ≡ lanes * L
+lanes_are : (lanes L each rest : ℕ) → FitsUsize each L → rest + lanes * L < 2 ^ 64 → lanes * each ≡ lanes * L
 lanes_are zero L each rest counted fits = omega arith
 lanes_are (suc n) L each rest counted fits =
     let some : 1 * L ≤ suc n * L = mul-le 1 L (suc n) L (omega arith) (omega arith) in

@@ -33,14 +33,14 @@ places_behind limits servers p before = record {
 -- ---- sizes
 
 -- a number of words, where a `usize` counts them
-abbrev pub IsCounted : ℕ → ℕ → Type 0
-IsCounted number words = words < 2 ^ 64 → number ≡ words
+abbrev pub FitsUsize : ℕ → ℕ → Type 0
+FitsUsize number words = words < 2 ^ 64 → number ≡ words
 
 -- Those are the sizes of the queues of a sender's messages.
 pub record AreQueueSizes (l : PlanLimits) (sender : Role) (s : QueueSizes) : Type 0 where
-  pub waiting : IsCounted s.waiting (message_words l sender)
-  pub returning : IsCounted s.returning (returning_words l sender)
-  pub room : IsCounted s.room (returning_room l sender)
+  pub waiting : FitsUsize s.waiting (message_words l sender)
+  pub returning : FitsUsize s.returning (returning_words l sender)
+  pub room : FitsUsize s.room (returning_room l sender)
 
 -- the sizes of the queues of a sender of that role
 abbrev pub sizes_in : WaySizes → Role → QueueSizes
@@ -50,8 +50,8 @@ sizes_in s Server = s.responses
 -- Those are the sizes of all ways.
 pub record AreWaySizes (l : PlanLimits) (s : WaySizes) : Type 0 where
   pub queues : (sender : Role) → AreQueueSizes l sender (sizes_in s sender)
-  pub way : IsCounted s.way (message_words l Client + returning_words l Client)
-  pub lane : IsCounted s.lane (planned_lane_words l)
+  pub way : FitsUsize s.way (message_words l Client + returning_words l Client)
+  pub lane : FitsUsize s.lane (planned_lane_words l)
 
 -- ---- a map
 

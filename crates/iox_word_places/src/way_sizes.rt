@@ -1,7 +1,7 @@
 //! How many words the queues and the lanes of a wire have.
 ghost use Rattle.std.specs.Prelude.{◌≡◌, ◌+◌};
 ghost use Rattle.iox_model.specs.declared.kind.Role.TheVariants.{Client};
-ghost use Rattle.iox_word_places.specs.MapFields.{AreQueueSizes, AreWaySizes, IsCounted, sizes_in};
+ghost use Rattle.iox_word_places.specs.MapFields.{AreQueueSizes, AreWaySizes, FitsUsize, sizes_in};
 ghost use Rattle.iox_word_places.specs.Plans.{message_words, returning_room, returning_words};
 ghost use Rattle.iox_word_places.specs.PortSums.{planned_lane_words};
 

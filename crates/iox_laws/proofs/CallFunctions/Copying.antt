@@ -9,7 +9,7 @@ use Rattle.iox_model.specs.declared.reply.Reply.TheVariants.{Refused}
 use Rattle.iox_model.specs.Doings.{refused, Tells}
 use Rattle.iox_model.specs.Handles.{subject, Subject, ThePort, TheHandle}
 use Rattle.iox_model.specs.Loans.{Choice, lending_ways}
-use Rattle.iox_model.specs.Maps.{AreApart}
+use Rattle.iox_model.specs.Maps.{AreDistinctWays}
 use Rattle.iox_model.specs.Messages.{Message}
 use Rattle.iox_model.specs.Moments.{is_overfull}
 use Rattle.iox_model.specs.Peers.{role_at, buffer_on}
@@ -35,7 +35,7 @@ after_emptying s ws h may =
     let same : (t.fixed ≡ s.fixed) × ((t.waiting ≡ s.waiting) × (t.in_hand ≡ s.in_hand)) = emptied-same s ws in
     let over : (w : Way) → is_overfull t w ≡ is_overfull s w = λ w. ap₂ (λ (f : Fixed) (g : Way → List Message). nat_lt (buffer_on f w) (length (g w))) same.0 same.1.0 in
     record {
-      apart = subst (λ (f : Fixed). AreApart (sending_ways f h)) (sym same.0) may.apart;
+      apart = subst (λ (f : Fixed). AreDistinctWays (sending_ways f h)) (sym same.0) may.apart;
       within = λ on. subst (λ (f : Fixed). NotOver t (sending_ways f h)) (sym same.0)
           (all_not_over s t (sending_ways s.fixed h) over
           (may.within (subst (λ (f : Fixed). overflow_of f.limits (role_at f h.port) ≡ true) same.0 on)));

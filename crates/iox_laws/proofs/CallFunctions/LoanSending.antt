@@ -9,7 +9,7 @@ use Rattle.iox_model.specs.declared.reply.Reply.TheVariants.{Refused}
 use Rattle.iox_model.specs.Begins.{begins_at}
 use Rattle.iox_model.specs.Doings.{refused, Tells}
 use Rattle.iox_model.specs.Handles.{is_request_loan, own_state, subject, Subject, ThePort, TheHandle}
-use Rattle.iox_model.specs.Maps.{AreApart}
+use Rattle.iox_model.specs.Maps.{AreDistinctWays}
 use Rattle.iox_model.specs.Messages.{request_way}
 use Rattle.iox_model.specs.Peers.{role_at, others}
 use Rattle.iox_model.specs.Requests.{sends_request}
@@ -39,9 +39,9 @@ requests_lead : (f : Fixed) (s : State) (node : ℕ) (h : Handle) (copied b : Bo
     Leads (NoPayload f) s node (sends_request s.fixed h copied servers) (if b then sent_over_to s h copied servers else sent_to s h copied servers))
 requests_lead f s node h copied true request on hand may =
     sent_over_to_leads f s node h copied (others s.fixed h.node Server) request on hand
-    (subst AreApart (of_request s.fixed h request) may.apart) (subst (NotOver s) (of_request s.fixed h request) (may.within on))
+    (subst AreDistinctWays (of_request s.fixed h request) may.apart) (subst (NotOver s) (of_request s.fixed h request) (may.within on))
 requests_lead f s node h copied false request plain hand may =
-    sent_to_leads f s node h copied (others s.fixed h.node Server) request plain hand (subst AreApart (of_request s.fixed h request) may.apart)
+    sent_to_leads f s node h copied (others s.fixed h.node Server) request plain hand (subst AreDistinctWays (of_request s.fixed h request) may.apart)
 
 pub loan_sends_lead : (f : Fixed) (s : State) (node : ℕ) (h : Handle) (copied : Bool) → NoneInHand s → MaySend s h
     → Leads (NoPayload f) s node (sends s.fixed h copied) (sent_of s h copied)

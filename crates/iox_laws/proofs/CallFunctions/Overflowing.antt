@@ -18,7 +18,7 @@ use Rattle.iox_model.specs.Settings.{overflow_of}
 use Rattle.iox_model.specs.States.{Handle, Fixed, State}
 use Rattle.iox_model.specs.Requests.{targets, to_open, sending_of, opening, looking, emptying, sends_request, may_evict, is_over}
 use Rattle.iox_model.specs.Handles.{is_request_loan}
-use Rattle.iox_model.specs.Maps.{is_empty, first_of, rest_of, same_way, put, has_way, without_way, not_in, AreApart}
+use Rattle.iox_model.specs.Maps.{is_empty, first_of, rest_of, same_way, put, has_way, without_way, not_in, AreDistinctWays}
 use Rattle.iox_model.specs.Moments.{is_overfull, Holds, moved, Deliver, Evict, GetBack, Open}
 use Rattle.iox_model.specs.Messages.{request_way, serials_of, Message}
 use Rattle.iox_model.specs.Peers.{role_at, others, buffer_on, overflows_on}
@@ -121,7 +121,7 @@ push_one t node x w ws count end true e hand rest =
 push_one t node x w ws count end false e hand rest = rest (Some w) e
 
 pushes : (s : State) (node : ℕ) (x : Sending) (last : Option Way) (ws : List Way) (count : ℕ) → x.overflow ≡ true → is_over s last ≡ false
-    → Overflow s ws → NoneInHand s → NotOver s ws → AreApart ws
+    → Overflow s ws → NoneInHand s → NotOver s ws → AreDistinctWays ws
     → Ends s node (Delivering x last ws count) (pushed_to s x.loan.message ws) x (count + length ws)
 pushes s node x last [] count on over room hand p apart =
     (last, ([], tt, refl, ap (λ (n : ℕ). Delivering x last [] n) (omega arith)), over)
@@ -171,7 +171,7 @@ no_one_full [] = refl
 no_one_full (w ∷ ws) = ap (λ vs. w ∷ vs) (no_one_full ws)
 
 sends_over : (s : State) (node : ℕ) (x : Sending) → x.overflow ≡ true → NoneInHand s → NotOver s (targets x)
-    → Overflow s (targets x) → AreApart (targets x) → Ends s node (emptying x (targets x)) (sent_over s x).1 x (length (targets x))
+    → Overflow s (targets x) → AreDistinctWays (targets x) → Ends s node (emptying x (targets x)) (sent_over s x).1 x (length (targets x))
 sends_over s node x on hand p room apart =
     let to : List Way = targets x in
     let t : State = emptied s to in
@@ -196,7 +196,7 @@ sends_over s node x on hand p room apart =
     )
 
 pub over_leads : (f : Fixed) (s : State) (node : ℕ) (x : Sending) → x.overflow ≡ true → NoneInHand s → NotOver s (targets x)
-    → Overflow s (targets x) → AreApart (targets x) → Leads (NoPayload f) s node (emptying x (targets x)) (sent_over s x)
+    → Overflow s (targets x) → AreDistinctWays (targets x) → Leads (NoPayload f) s node (emptying x (targets x)) (sent_over s x)
 over_leads f s node x on hand p room apart =
     let walk : Ends s node (emptying x (targets x)) (sent_over s x).1 x (length (targets x)) = sends_over s node x on hand p room apart in (
       Delivering x walk.0 [] (length (targets x)),
@@ -206,13 +206,13 @@ over_leads f s node x on hand p room apart =
     )
 
 pub sent_over_to_leads : (f : Fixed) (s : State) (node : ℕ) (h : Handle) (copied : Bool) (servers : List ℕ) → is_request_loan h.kind ≡ true
-    → overflow_of s.fixed.limits (role_at s.fixed h.port) ≡ true → NoneInHand s → AreApart (map (request_way h.port) servers)
+    → overflow_of s.fixed.limits (role_at s.fixed h.port) ≡ true → NoneInHand s → AreDistinctWays (map (request_way h.port) servers)
     → NotOver s (map (request_way h.port) servers) → Leads (NoPayload f) s node (sends_request s.fixed h copied servers) (sent_over_to s h copied servers)
 sent_over_to_leads f s node h copied servers request on hand apart p =
     let x : Sending = sending_of s.fixed h copied servers in
     let to : targets x ≡ map (request_way h.port) servers = request_targets s.fixed h copied servers request in
     unless_spent f s node h copied servers (sent_over s x) request
-    (over_leads f s node x on hand (subst (NotOver s) (sym to) p) (subst (Overflow s) (sym to) (requests_overflow s h.port servers on)) (subst AreApart (sym to) apart))
+    (over_leads f s node x on hand (subst (NotOver s) (sym to) p) (subst (Overflow s) (sym to) (requests_overflow s h.port servers on)) (subst AreDistinctWays (sym to) apart))
 
 pub each_overflowing_send_is_whole : EachOverflowingSendIsWhole
 each_overflowing_send_is_whole s node n h is request on apart hand p =

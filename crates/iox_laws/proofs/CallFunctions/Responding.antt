@@ -9,7 +9,7 @@ use Rattle.iox_model.specs.declared.reply.Refusal.TheVariants.{UnknownNumber}
 use Rattle.iox_model.specs.Begins.{begins_at, start}
 use Rattle.iox_model.specs.Doings.{refused, Sending, Sends, Doing, Ended, Asking}
 use Rattle.iox_model.specs.Handles.{is_request_loan, own_state, Subject}
-use Rattle.iox_model.specs.Maps.{has_number, AreApart}
+use Rattle.iox_model.specs.Maps.{has_number, AreDistinctWays}
 use Rattle.iox_model.specs.Messages.{request_way, response_way, names}
 use Rattle.iox_model.specs.Moments.{Look}
 use Rattle.iox_model.specs.Peers.{role_at, others}
@@ -38,10 +38,10 @@ either_leads : (f : Fixed) (s : State) (node : ℕ) (h : Handle) (copied b : Boo
 either_leads f s node h copied true response on hand p =
     let to : targets (sending_of s.fixed h copied (h.client ∷ [])) ≡ own_state h ∷ [] = response_targets s.fixed h copied response in
     over_leads f s node (sending_of s.fixed h copied (h.client ∷ [])) on hand
-    (subst (NotOver s) (sym to) (p refl)) (subst (Overflow s) (sym to) (on, tt)) (subst AreApart (sym to) (refl, tt))
+    (subst (NotOver s) (sym to) (p refl)) (subst (Overflow s) (sym to) (on, tt)) (subst AreDistinctWays (sym to) (refl, tt))
 either_leads f s node h copied false response plain hand p =
     let to : targets (sending_of s.fixed h copied (h.client ∷ [])) ≡ own_state h ∷ [] = response_targets s.fixed h copied response in
-    sent_leads f s node (sending_of s.fixed h copied (h.client ∷ [])) plain hand (subst AreApart (sym to) (refl, tt))
+    sent_leads f s node (sending_of s.fixed h copied (h.client ∷ [])) plain hand (subst AreDistinctWays (sym to) (refl, tt))
 
 pub responds_leads : (f : Fixed) (s : State) (node : ℕ) (h : Handle) (copied : Bool) → is_request_loan h.kind ≡ false → NoneInHand s
     → (overflow_of s.fixed.limits (role_at s.fixed h.port) ≡ true → NotOver s (own_state h ∷ []))

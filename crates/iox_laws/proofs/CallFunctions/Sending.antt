@@ -12,7 +12,7 @@ use Rattle.iox_laws.proofs.CallFunctions.Walks.{Walks, stays, goes, joins}
 use Rattle.iox_model.specs.Doings.{Sending, FailsToSend, Doing, Ended, Emptying, Looking, Opening, Delivering}
 use Rattle.iox_model.specs.States.{State}
 use Rattle.iox_model.specs.Requests.{targets, to_open, opening, looking, emptying, may_evict}
-use Rattle.iox_model.specs.Maps.{same_way, has_way, without_way, not_in, AreApart}
+use Rattle.iox_model.specs.Maps.{same_way, has_way, without_way, not_in, AreDistinctWays}
 use Rattle.iox_model.specs.Moments.{moved, Deliver, SeesFull, SeesRoom, Open}
 use Rattle.iox_model.specs.Messages.{Message}
 use Rattle.iox_model.specs.Peers.{buffer_on}
@@ -64,7 +64,7 @@ room_stays s w m (v ∷ vs) apart room =
 fits_in : (b n e : ℕ) → nat_le b n ≡ false → nat_lt n (b + e) ≡ true
 fits_in b n e h = grind (arith)
 
-delivers : (s : State) (node : ℕ) (x : Sending) (ws : List Way) (count : ℕ) → x.overflow ≡ false → EachHasRoom s ws → AreApart ws
+delivers : (s : State) (node : ℕ) (x : Sending) (ws : List Way) (count : ℕ) → x.overflow ≡ false → EachHasRoom s ws → AreDistinctWays ws
     → Walks s node (Delivering x None ws count) (delivered_to s x.loan.message ws) (Delivering x None [] (count + length ws))
 delivers s node x [] count plain room apart = ([], tt, refl, ap (λ (n : ℕ). Delivering x None [] n) (omega arith))
 delivers s node x (w ∷ ws) count plain room apart =
@@ -94,7 +94,7 @@ looked x full =
     else Delivering x None [] (length (not_in full (targets x)))
 
 sends_past : (s : State) (node : ℕ) (x : Sending) (full : List Way) → x.overflow ≡ false
-    → EachHasRoom s (not_in full (targets x)) → AreApart (not_in full (targets x))
+    → EachHasRoom s (not_in full (targets x)) → AreDistinctWays (not_in full (targets x))
     → Walks s node (opening x (to_open x) full) (sent_past s x full).1 (Delivering x None [] (length (not_in full (targets x))))
 sends_past s node x full plain room apart =
     let to : List Way = not_in full (targets x) in
@@ -104,7 +104,7 @@ sends_past s node x full plain room apart =
     (delivers t node x to 0 plain (opened_room s x.loan.request (to_open x) to room) apart))
 
 sends_or_not : (s : State) (node : ℕ) (x : Sending) (full : List Way) → x.overflow ≡ false
-    → EachHasRoom s (not_in full (targets x)) → AreApart (not_in full (targets x))
+    → EachHasRoom s (not_in full (targets x)) → AreDistinctWays (not_in full (targets x))
     → Walks s node (looking x [] full) (sent_or_not s x full).1 (looked x full)
 sends_or_not s node x full plain room apart =
     elim (list_any x.fails full) as (λ b. Walks s node (if b then Ended (FailsToSend x.loan x.copied UnableToDeliver) else opening x (to_open x) full)
@@ -156,10 +156,10 @@ absent w full (v ∷ vs) h =
       | false ↦ rw parts.0 (absent w full vs parts.1)
     ]
 
-apart_not_in : (full ws : List Way) → AreApart ws → AreApart (not_in full ws)
+apart_not_in : (full ws : List Way) → AreDistinctWays ws → AreDistinctWays (not_in full ws)
 apart_not_in full [] apart = tt
 apart_not_in full (w ∷ ws) apart =
-    elim (has_way w full) as (λ b. AreApart (if not b then w ∷ not_in full ws else not_in full ws)) [
+    elim (has_way w full) as (λ b. AreDistinctWays (if not b then w ∷ not_in full ws else not_in full ws)) [
       | true ↦ apart_not_in full ws apart.1
       | false ↦ (absent w full ws apart.0, apart_not_in full ws apart.1)
     ]
@@ -168,7 +168,7 @@ apart_not_in full (w ∷ ws) apart =
 abbrev pub sent_at : State → Sending → Doing
 sent_at s x = let t : State = emptied s (targets x) in looked x (full_of t (targets x) [])
 
-pub sent_walks : (s : State) (node : ℕ) (x : Sending) → x.overflow ≡ false → NoneInHand s → AreApart (targets x)
+pub sent_walks : (s : State) (node : ℕ) (x : Sending) → x.overflow ≡ false → NoneInHand s → AreDistinctWays (targets x)
     → Walks s node (emptying x (targets x)) (sent s x).1 (sent_at s x)
 sent_walks s node x plain hand apart =
     let t : State = emptied s (targets x) in

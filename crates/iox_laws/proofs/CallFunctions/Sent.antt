@@ -17,7 +17,7 @@ use Rattle.iox_model.specs.Requests.{targets, sending_of, emptying, is_active_sp
 use Rattle.iox_model.specs.Handles.{is_request_loan, Subject, TheHandle}
 use Rattle.iox_model.specs.Handles.{subject}
 use Rattle.iox_model.specs.WholeCalls.{MayHold}
-use Rattle.iox_model.specs.Maps.{not_in, AreApart}
+use Rattle.iox_model.specs.Maps.{not_in, AreDistinctWays}
 use Rattle.iox_model.specs.Begins.{begins_at, start}
 use Rattle.iox_model.specs.Messages.{request_way, response_way}
 use Rattle.iox_model.specs.Settings.{overflow_of}
@@ -42,7 +42,7 @@ looked_holds f t x full =
       | false ↦ tt
     ]
 
-pub sent_leads : (f : Fixed) (s : State) (node : ℕ) (x : Sending) → x.overflow ≡ false → NoneInHand s → AreApart (targets x)
+pub sent_leads : (f : Fixed) (s : State) (node : ℕ) (x : Sending) → x.overflow ≡ false → NoneInHand s → AreDistinctWays (targets x)
     → Leads (NoPayload f) s node (emptying x (targets x)) (sent s x)
 sent_leads f s node x plain hand apart =
     let t : State = emptied s (targets x) in
@@ -68,12 +68,12 @@ unless_spent f s node h copied servers v request more =
     (λ e. subst (λ (ws : List Way). Leads (NoPayload f) s node (emptying (sending_of s.fixed h copied servers) ws) v) (request_targets s.fixed h copied servers request) more)
 
 pub sent_to_leads : (f : Fixed) (s : State) (node : ℕ) (h : Handle) (copied : Bool) (servers : List ℕ) → is_request_loan h.kind ≡ true
-    → overflow_of s.fixed.limits (role_at s.fixed h.port) ≡ false → NoneInHand s → AreApart (map (request_way h.port) servers)
+    → overflow_of s.fixed.limits (role_at s.fixed h.port) ≡ false → NoneInHand s → AreDistinctWays (map (request_way h.port) servers)
     → Leads (NoPayload f) s node (sends_request s.fixed h copied servers) (sent_to s h copied servers)
 sent_to_leads f s node h copied servers request plain hand apart =
     let x : Sending = sending_of s.fixed h copied servers in
     unless_spent f s node h copied servers (sent s x) request
-    (sent_leads f s node x plain hand (subst AreApart (sym (request_targets s.fixed h copied servers request)) apart))
+    (sent_leads f s node x plain hand (subst AreDistinctWays (sym (request_targets s.fixed h copied servers request)) apart))
 
 -- how the send of a request begins
 pub request_starts : (s : State) (node n : ℕ) (h : Handle) → subject s.fixed node n ≡ Some (TheHandle h) → is_request_loan h.kind ≡ true

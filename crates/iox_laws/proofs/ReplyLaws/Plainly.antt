@@ -5,7 +5,7 @@ use Rattle.iox_model.specs.declared.call.Call.TheVariants.{Send, Receive}
 use Rattle.iox_model.specs.declared.kind.Role.TheVariants.{Server}
 use Rattle.iox_model.specs.Commands.{Reply, Call}
 use Rattle.iox_model.specs.Handles.{handle_at, subject, TheHandle}
-use Rattle.iox_model.specs.Maps.{AreApart}
+use Rattle.iox_model.specs.Maps.{AreDistinctWays}
 use Rattle.iox_model.specs.Messages.{request_way}
 use Rattle.iox_model.specs.Names.{misnamed}
 use Rattle.iox_model.specs.Peers.{is_connected_port, others, port_at, buffer_on}
@@ -58,7 +58,7 @@ receives_answer_plainly s t node n reply left call =
 
 -- ---- sends
 
-pub servers_apart : (s : State) (h : Handle) → IsReachableState s → AreApart (map (request_way h.port) (others s.fixed h.node Server))
+pub servers_apart : (s : State) (h : Handle) → IsReachableState s → AreDistinctWays (map (request_way h.port) (others s.fixed h.node Server))
 servers_apart s h left =
     apart-requests h.port (others s.fixed h.node Server) (distinct-others s.fixed h.node Server (reached_ports s left))
 

@@ -5,7 +5,7 @@ use Rattle.iox_model.specs.declared.kind.Role.TheVariants.{Server}
 use Rattle.iox_model.specs.declared.way.Way.{Way}
 use Rattle.iox_model.specs.Handles.{handle_at, is_request_loan, own_state, subject, Subject, ThePort, TheHandle}
 use Rattle.iox_model.specs.Loans.{Choice, Order}
-use Rattle.iox_model.specs.Maps.{AreApart}
+use Rattle.iox_model.specs.Maps.{AreDistinctWays}
 use Rattle.iox_model.specs.Messages.{request_way}
 use Rattle.iox_model.specs.Peers.{is_connected_port, others, port_at, buffer_on}
 use Rattle.iox_model.specs.Runs.{IsReachableState}
@@ -29,7 +29,7 @@ use Rattle.iox_laws.proofs.ReplyLaws.Remembering.{nobody_forgot}
 -- ---- loans may be sent
 
 apart_by : (s : State) (h : Handle) (b : Bool) → IsReachableState s
-    → AreApart (if b then map (request_way h.port) (others s.fixed h.node Server) else own_state h ∷ [])
+    → AreDistinctWays (if b then map (request_way h.port) (others s.fixed h.node Server) else own_state h ∷ [])
 apart_by s h true left = servers_apart s h left
 apart_by s h false left = (refl, tt)
 

@@ -15,7 +15,7 @@ use Rattle.iox_model.specs.States.{Handle, Fixed, State}
 use Rattle.iox_model.specs.Settings.{is_client, overflow_of}
 use Rattle.iox_model.specs.Requests.{is_last, targets, to_open, opening, looking, emptying, sending_of, sends_request, is_active_spent}
 use Rattle.iox_model.specs.Handles.{same_kind, is_request_loan}
-use Rattle.iox_model.specs.Maps.{has_number, has_way, without_way, not_in, AreApart, AreDistinct}
+use Rattle.iox_model.specs.Maps.{has_number, has_way, without_way, not_in, AreDistinctWays, AreDistinct}
 use Rattle.iox_model.specs.Messages.{request_way, response_way, names, Message}
 use Rattle.iox_model.specs.Looks.{checking, checked, hinting, is_shown}
 use Rattle.iox_model.specs.Outstandings.{kept, is_dry}
@@ -80,14 +80,14 @@ emptying_fits s node x [] own within from =
 emptying_fits s node x (w ∷ left) own within from = (own, from, refl)
 
 apart_request : (f : Fixed) (h : Handle) (copied : Bool) (to : List ℕ) → is_request_loan h.kind ≡ true → AreDistinct to
-    → AreApart (targets (sending_of f h copied to))
+    → AreDistinctWays (targets (sending_of f h copied to))
 apart_request f h copied to is distinct =
-    either AreApart (is_request_loan h.kind) (map (request_way h.port) to) (map (λ client. response_way client h.lane h.port) to)
+    either AreDistinctWays (is_request_loan h.kind) (map (request_way h.port) to) (map (λ client. response_way client h.lane h.port) to)
     (λ u. apart-requests h.port to distinct) (λ e. absurd (true≢false (sym is ∙ e)))
 
-apart_response : (f : Fixed) (h : Handle) (copied : Bool) → AreApart (targets (sending_of f h copied (h.client ∷ [])))
+apart_response : (f : Fixed) (h : Handle) (copied : Bool) → AreDistinctWays (targets (sending_of f h copied (h.client ∷ [])))
 apart_response f h copied =
-    either AreApart (is_request_loan h.kind) (map (request_way h.port) (h.client ∷ [])) (map (λ client. response_way client h.lane h.port) (h.client ∷ []))
+    either AreDistinctWays (is_request_loan h.kind) (map (request_way h.port) (h.client ∷ [])) (map (λ client. response_way client h.lane h.port) (h.client ∷ []))
     (λ u. (refl, tt)) (λ u. (refl, tt))
 
 pub sends_fits : (s : State) (node : ℕ) (h : Handle) (copied : Bool) → AreDistinctPorts s.fixed → IsOwn s.fixed node h

@@ -5,7 +5,7 @@ use Rattle.iox_model.specs.declared.way.Way.{Way}
 use Rattle.iox_model.specs.Doings.{Receiver, Sending, Doing, Ended, Loaning, Asking, Emptying, Looking, Opening, Delivering, Evicted, Visiting, Again, Judging, Stale, Closing, Returning, Leaving, Checking, Hinting, Seeking}
 use Rattle.iox_model.specs.States.{State}
 use Rattle.iox_model.specs.Requests.{may_evict}
-use Rattle.iox_model.specs.Maps.{is_empty, rest_of, same_way, put, has_way, without_way, AreApart}
+use Rattle.iox_model.specs.Maps.{is_empty, rest_of, same_way, put, has_way, without_way, AreDistinctWays}
 use Rattle.iox_model.specs.Moments.{Holds, moved, Moment, room_on, Deliver, Evict, Take, GiveBack, GetBack, SeesEmpty, SeesWaiting, SeesFull, SeesRoom, SeesNoneBack, Open, Close, Hint, Look}
 use Rattle.iox_model.specs.Messages.{serials_of, Message}
 use Rattle.iox_model.specs.Responses.{copies}
@@ -42,7 +42,7 @@ room_seen s w v e same =
 
 -- ---- deliveries and evictions
 
-room_after_delivery : (s : State) (w : Way) (m : Message) (left : List Way) → AreApart left → HaveRoom s left
+room_after_delivery : (s : State) (w : Way) (m : Message) (left : List Way) → AreDistinctWays left → HaveRoom s left
     → HaveRoom (moved s (Deliver w m)) (without_way w left)
 room_after_delivery s w m left apart rooms v there =
     subst (λ (xs : List Message). nat_lt (length xs) (room_on s.fixed v) ≡ true)

@@ -8,7 +8,7 @@ use Rattle.iox_model.specs.Weaves.{World}
 use Rattle.iox_model.specs.Settings.{is_client, overflow_of}
 use Rattle.iox_model.specs.States.{Handle, Fixed, State}
 use Rattle.iox_model.specs.Requests.{targets, is_last}
-use Rattle.iox_model.specs.Maps.{is_empty, has_way, not_in, AreApart, AreDistinct}
+use Rattle.iox_model.specs.Maps.{is_empty, has_way, not_in, AreDistinctWays, AreDistinct}
 use Rattle.iox_model.specs.Responses.{copies}
 use Rattle.iox_model.specs.Peers.{is_connected_port, role_at, node_of_port, buffer_on}
 use Rattle.iox_laws.proofs.WeaveLaws.Plays.{has_room}
@@ -53,7 +53,7 @@ HaveRoom s ways = (v : Way) → has_way v ways ≡ true → has_room s v ≡ tru
 -- what a send keeps of its port is so
 abbrev pub IsSending : Fixed → ℕ → Sending → Type 0
 IsSending f node x =
-    IsOwn f node x.loan × (x.overflow ≡ overflow_of f.limits (role_at f x.loan.port)) × AreApart (targets x)
+    IsOwn f node x.loan × (x.overflow ≡ overflow_of f.limits (role_at f x.loan.port)) × AreDistinctWays (targets x)
 
 -- ---- what is left to do
 
@@ -81,9 +81,9 @@ SoundDoing s node (Looking x left full) =
 SoundDoing s node (Opening x left full) =
     IsSending s.fixed node x × (is_empty left ≡ false) × HaveRoom s (not_in full (targets x))
 SoundDoing s node (Delivering x last left count) =
-    IsSending s.fixed node x × AreFrom x.loan.port left × AreApart left × HaveRoom s left × IsLast x last
+    IsSending s.fixed node x × AreFrom x.loan.port left × AreDistinctWays left × HaveRoom s left × IsLast x last
 SoundDoing s node (Evicted x w left count) =
-    IsSending s.fixed node x × AreFrom x.loan.port left × AreApart left × HaveRoom s left × (w.sender ≡ x.loan.port)
+    IsSending s.fixed node x × AreFrom x.loan.port left × AreDistinctWays left × HaveRoom s left × (w.sender ≡ x.loan.port)
     × (is_empty (s.in_hand w) ≡ false)
 SoundDoing s node (Visiting x left seen) = IsPortOf s.fixed node x.port × (is_empty left ≡ false) × AreTo x left
 SoundDoing s node (Again x w left seen) = IsPortOf s.fixed node x.port × IsTo x w × AreTo x left

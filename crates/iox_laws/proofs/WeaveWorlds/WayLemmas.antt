@@ -9,7 +9,7 @@ use Rattle.iox_model.specs.States.{Handle, Fixed}
 use Rattle.iox_model.specs.Requests.{is_request, targets}
 use Rattle.iox_model.specs.Loans.{request_ways, response_ways, lending_ways}
 use Rattle.iox_model.specs.Handles.{is_request_loan}
-use Rattle.iox_model.specs.Maps.{has_number, same_way, has_way, without_way, not_in, AreApart, AreDistinct}
+use Rattle.iox_model.specs.Maps.{has_number, same_way, has_way, without_way, not_in, AreDistinctWays, AreDistinct}
 use Rattle.iox_model.specs.Messages.{request_way, response_way}
 use Rattle.iox_model.specs.Peers.{lanes_of, others, lanes_to}
 use Rattle.iox_laws.proofs.WeaveLaws.CallLaws.{not-true}
@@ -32,7 +32,7 @@ has_way-without v w (u ∷ us) e =
     (λ b p. or-through (same_way v u) (has_way v (without_way w us)) (has_way v us) (has_way-without v w us) p) e
 
 -- where each stands once, what was taken out is there no more
-gone : (v w : Way) (left : List Way) → AreApart left → v ≡ w → has_way v (without_way w left) ≡ false
+gone : (v w : Way) (left : List Way) → AreDistinctWays left → v ≡ w → has_way v (without_way w left) ≡ false
 gone v w [] apart is = refl
 gone v w (u ∷ us) apart is =
     either (λ ws. has_way v ws ≡ false) (same_way u w) us (u ∷ without_way w us)
@@ -40,14 +40,14 @@ gone v w (u ∷ us) apart is =
     (λ other. or-neither (same_way v u) (has_way v (without_way w us))
     (subst (λ x. same_way x u ≡ false) (sym is) (same_way-flip w u (same_way w u) other refl)) (gone v w us apart.1 is))
 
-pub apart-gone : (v w : Way) (left : List Way) → AreApart left → has_way v (without_way w left) ≡ true → same_way v w ≡ false
+pub apart-gone : (v w : Way) (left : List Way) → AreDistinctWays left → has_way v (without_way w left) ≡ true → same_way v w ≡ false
 apart-gone v w left apart e =
     false_if (same_way v w) (λ same. true≢false (sym e ∙ gone v w left apart (same_way-true v w same)))
 
-pub apart-without : (w : Way) (left : List Way) → AreApart left → AreApart (without_way w left)
+pub apart-without : (w : Way) (left : List Way) → AreDistinctWays left → AreDistinctWays (without_way w left)
 apart-without w [] apart = tt
 apart-without w (u ∷ us) apart =
-    either AreApart (same_way u w) us (u ∷ without_way w us) (λ e. apart.1)
+    either AreDistinctWays (same_way u w) us (u ∷ without_way w us) (λ e. apart.1)
     (λ e. (
       false_if (has_way u (without_way w us)) (λ p. true≢false (sym (has_way-without u w us p) ∙ apart.0)),
       apart-without w us apart.1,
@@ -67,10 +67,10 @@ not_in-has v full (u ∷ us) e =
     later : (has_way v us ≡ true) × (has_way v full ≡ false) → (has_way v (u ∷ us) ≡ true) × (has_way v full ≡ false)
     later q = (or-right (same_way v u) (has_way v us) q.0, q.1)
 
-pub apart-not_in : (full ways : List Way) → AreApart ways → AreApart (not_in full ways)
+pub apart-not_in : (full ways : List Way) → AreDistinctWays ways → AreDistinctWays (not_in full ways)
 apart-not_in full [] apart = tt
 apart-not_in full (u ∷ us) apart =
-    either AreApart (not (has_way u full)) (u ∷ not_in full us) (not_in full us)
+    either AreDistinctWays (not (has_way u full)) (u ∷ not_in full us) (not_in full us)
     (λ e. (
       false_if (has_way u (not_in full us)) (λ p. true≢false (sym (not_in-has u full us p).0 ∙ apart.0)),
       apart-not_in full us apart.1,
@@ -94,7 +94,7 @@ not_among port n (k ∷ ks) e =
     or-neither (same_way (request_way port n) (request_way port k)) (has_way (request_way port n) (map (request_way port) ks))
     (other_request port n k q.0) (not_among port n ks q.1)
 
-pub apart-requests : (port : ℕ) (to : List ℕ) → AreDistinct to → AreApart (map (request_way port) to)
+pub apart-requests : (port : ℕ) (to : List ℕ) → AreDistinct to → AreDistinctWays (map (request_way port) to)
 apart-requests port [] distinct = tt
 apart-requests port (n ∷ ns) distinct = (not_among port n ns distinct.0, apart-requests port ns distinct.1)
 

@@ -35,7 +35,7 @@ call_by s node (HasResponse n) c payload = has_response_by s node n
 
 -- A call of the node finds the state as whole calls leave it: the node forgot nobody, nothing is in
 -- hand, and what is lent or to be lent may be sent.
-pub record IsReady (s : State) (node : ℕ) : Type 0 where
+pub record IsBetweenWholeCalls (s : State) (node : ℕ) : Type 0 where
   pub nobody : s.fixed.forgot node ≡ []
   pub none : NoneInHand s
   pub sends : (n : ℕ) (h : Handle) → subject s.fixed node n ≡ Some (TheHandle h) → MaySend s h
@@ -51,6 +51,6 @@ LoanMayHold s node call c payload = ⊤
 -- be so.
 abbrev pub EachCallIsWhole : Type 0
 EachCallIsWhole =
-    (s : State) (node : ℕ) (call : Call) (c : Choice) (payload : List ℕ) → IsReady s node
+    (s : State) (node : ℕ) (call : Call) (c : Choice) (payload : List ℕ) → IsBetweenWholeCalls s node
     → MayChoose s.fixed node c call → LoanMayHold s node call c payload
     → IsWholeCall s node call (call_by s node call c payload).0 (call_by s node call c payload).1

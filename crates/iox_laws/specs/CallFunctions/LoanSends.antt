@@ -6,7 +6,7 @@ use Rattle.iox_model.specs.declared.call.Call.TheVariants.{Send}
 use Rattle.iox_model.specs.Commands.{Reply}
 use Rattle.iox_model.specs.Doings.{Outcome}
 use Rattle.iox_model.specs.Handles.{is_request_loan, own_state, subject, TheHandle}
-use Rattle.iox_model.specs.Maps.{AreApart}
+use Rattle.iox_model.specs.Maps.{AreDistinctWays}
 use Rattle.iox_model.specs.Messages.{request_way}
 use Rattle.iox_model.specs.Peers.{role_at, others}
 use Rattle.iox_model.specs.Settings.{overflow_of}
@@ -43,7 +43,7 @@ sending_ways f h =
 
 -- The loan may be sent: its ways differ, and with overflow on none of them one too many waits.
 pub record MaySend (s : State) (h : Handle) : Type 0 where
-  pub apart : AreApart (sending_ways s.fixed h)
+  pub apart : AreDistinctWays (sending_ways s.fixed h)
   pub within :
       overflow_of s.fixed.limits (role_at s.fixed h.port) ≡ true
       → NotOver s (sending_ways s.fixed h)

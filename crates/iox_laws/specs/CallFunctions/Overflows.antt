@@ -12,7 +12,7 @@ use Rattle.iox_model.specs.States.{Handle, State}
 use Rattle.iox_model.specs.Requests.{targets, to_open, sending_of, is_active_spent}
 use Rattle.iox_model.specs.Handles.{is_request_loan, subject, TheHandle}
 use Rattle.iox_model.specs.WholeCalls.{IsWholeCall}
-use Rattle.iox_model.specs.Maps.{rest_of, put, AreApart}
+use Rattle.iox_model.specs.Maps.{rest_of, put, AreDistinctWays}
 use Rattle.iox_model.specs.Moments.{is_overfull, moved, Deliver}
 use Rattle.iox_model.specs.Commands.{Reply}
 use Rattle.iox_model.specs.Messages.{request_way, serials_of, Message}
@@ -67,7 +67,7 @@ EachOverflowingSendIsWhole =
     (s : State) (node n : ℕ) (h : Handle) → subject s.fixed node n ≡ Some (TheHandle h)
     → is_request_loan h.kind ≡ true
     → overflow_of s.fixed.limits (role_at s.fixed h.port) ≡ true
-    → AreApart (map (request_way h.port) (others s.fixed h.node Server))
+    → AreDistinctWays (map (request_way h.port) (others s.fixed h.node Server))
     → NoneInHand s
     → NotOver s (map (request_way h.port) (others s.fixed h.node Server))
     → IsWholeCall s node (Send n) (sent_over_by s node n h).0 (sent_over_by s node n h).1

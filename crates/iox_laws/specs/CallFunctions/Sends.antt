@@ -12,7 +12,7 @@ use Rattle.iox_model.specs.States.{Handle, State}
 use Rattle.iox_model.specs.Requests.{targets, to_open, sending_of, is_active_spent}
 use Rattle.iox_model.specs.Handles.{is_request_loan, subject, TheHandle}
 use Rattle.iox_model.specs.WholeCalls.{IsWholeCall}
-use Rattle.iox_model.specs.Maps.{put_at, put, not_in, AreApart}
+use Rattle.iox_model.specs.Maps.{put_at, put, not_in, AreDistinctWays}
 use Rattle.iox_model.specs.Moments.{moved, Deliver, Open}
 use Rattle.iox_model.specs.Commands.{Reply}
 use Rattle.iox_model.specs.Messages.{request_way, Message}
@@ -92,6 +92,6 @@ EachSendIsWhole =
     (s : State) (node n : ℕ) (h : Handle) → subject s.fixed node n ≡ Some (TheHandle h)
     → is_request_loan h.kind ≡ true
     → overflow_of s.fixed.limits (role_at s.fixed h.port) ≡ false
-    → AreApart (map (request_way h.port) (others s.fixed h.node Server))
+    → AreDistinctWays (map (request_way h.port) (others s.fixed h.node Server))
     → NoneInHand s
     → IsWholeCall s node (Send n) (sent_by s node n h).0 (sent_by s node n h).1

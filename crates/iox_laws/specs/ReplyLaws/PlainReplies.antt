@@ -10,7 +10,7 @@ use Rattle.iox_model.specs.Runs.{IsReachableState}
 use Rattle.iox_model.specs.Settings.{overflow_of}
 use Rattle.iox_model.specs.States.{Handle, State}
 use Rattle.iox_model.specs.WholeCalls.{IsWholeCall}
-use Rattle.iox_laws.specs.CallFunctions.Calls.{call_by, IsReady, LoanMayHold}
+use Rattle.iox_laws.specs.CallFunctions.Calls.{call_by, IsBetweenWholeCalls, LoanMayHold}
 use Rattle.iox_laws.specs.CallFunctions.Overflows.{sent_over_by}
 use Rattle.iox_laws.specs.CallFunctions.Searches.{received}
 use Rattle.iox_laws.specs.CallFunctions.Sends.{sent_by}
@@ -40,7 +40,7 @@ OverflowingSendsAnswerPlainly =
 
 -- Each state that a service and its hub come to is ready for each call of each node,
 abbrev pub ReachableStatesAreReady : Type 0
-ReachableStatesAreReady = (s : State) (node : ℕ) → IsReachableState s → IsReady s node
+ReachableStatesAreReady = (s : State) (node : ℕ) → IsReachableState s → IsBetweenWholeCalls s node
 
 -- and there each call that takes no memory answers what its function says.
 abbrev pub CallsAnswerPlainly : Type 0

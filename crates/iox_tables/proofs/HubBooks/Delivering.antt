@@ -3,7 +3,7 @@ use Rattle.std.specs.Prelude.{◌≡◌, ℕ, Bool, true, false, ◌||◌, if◌
 use Rattle.std.specs.Option.{option_map, option_map_or}
 use Rattle.std.proofs.Common.{sym, ap, subst, ◌∙◌, true≢false}
 use Rattle.iox_model.specs.declared.way.Way.{Way}
-use Rattle.iox_model.specs.Maps.{AreApart, has_number, has_way, or_else, same_way}
+use Rattle.iox_model.specs.Maps.{AreDistinctWays, has_number, has_way, or_else, same_way}
 use Rattle.iox_laws.proofs.WeaveLaws.MapLemmas.{same_way-refl, same_way-true}
 use Rattle.iox_lanes.specs.Lanes.{LaneState}
 use Rattle.iox_lanes.specs.Pipes.{PipeState, with_lane}
@@ -66,7 +66,7 @@ module _ (P : LaneState → Type 0) where
 
   -- ---- several ways
 
-  pub lanes_keep_at : (g : LaneState → LaneState) (ports : List PortState) (ws : List Way) → AreApart ws
+  pub lanes_keep_at : (g : LaneState → LaneState) (ports : List PortState) (ws : List Way) → AreDistinctWays ws
       → ((w : Way) (l : LaneState) → has_way w ws ≡ true → lane_on ports w ≡ Some l → P l → P (g l)) → OfAllLanes P ports → OfAllLanes P (with_lanes_on g ports ws)
   lanes_keep_at g ports [] apart keeps a = a
   lanes_keep_at g ports (w ∷ ws) apart keeps a =

@@ -3,7 +3,7 @@ use Rattle.std.specs.Prelude.{◌≡◌, ℕ, ◌+◌, Bool, true, false, ◌||�
 use Rattle.std.specs.Option.{option_map, option_map_or}
 use Rattle.std.proofs.Common.{sym, ap, ap₂, subst, ◌∙◌, arith, true≢false}
 use Rattle.iox_model.specs.declared.way.Way.{Way}
-use Rattle.iox_model.specs.Maps.{AreApart, has_way, same_way}
+use Rattle.iox_model.specs.Maps.{AreDistinctWays, has_way, same_way}
 use Rattle.iox_laws.proofs.WeaveLaws.MapLemmas.{same_way-flip}
 use Rattle.iox_lanes.specs.declared.wanted.Wanted.{Wanted}
 use Rattle.iox_lanes.specs.Lanes.{LaneState}
@@ -40,7 +40,7 @@ elsewhere f g on w (v ∷ vs) apart = step (same_way w v) refl apart (elsewhere 
     step false is e rest = ap₂ (λ (a b : ℕ). a + b) (one is) (rest e)
 
 module _ (f : LaneState → ℕ) (g : LaneState → LaneState) where
-  pub lanes_total : (ports : List PortState) (ws : List Way) → AreApart ws
+  pub lanes_total : (ports : List PortState) (ws : List Way) → AreDistinctWays ws
       → on_lanes f (with_lanes_on g ports ws) + total (by_lane f 0 (lane_on ports)) ws
       ≡ on_lanes f ports + total (by_lane (λ l. f (g l)) 0 (lane_on ports)) ws
   lanes_total ports [] apart = refl

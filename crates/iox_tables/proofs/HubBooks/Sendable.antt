@@ -12,7 +12,7 @@ use Rattle.iox_model.specs.declared.way.RequestState.{RequestState}
 use Rattle.iox_model.specs.declared.way.RequestState.TheVariants.{Closed}
 use Rattle.iox_model.specs.Doings.{Sending}
 use Rattle.iox_model.specs.Handles.{is_own, is_request_loan, is_response_loan, same_kind}
-use Rattle.iox_model.specs.Maps.{AreApart, AreDistinct, has_number, has_way}
+use Rattle.iox_model.specs.Maps.{AreDistinctWays, AreDistinct, has_number, has_way}
 use Rattle.iox_model.specs.Messages.{names, request_way, response_way}
 use Rattle.iox_model.specs.Peers.{others}
 use Rattle.iox_model.specs.Requests.{targets, to_open}
@@ -60,7 +60,7 @@ on_each P on [] each = tt
 on_each P on (w ∷ ws) each = (each w (inl refl), on_each P on ws (λ v a. each v (inr a)))
 
 -- ways to different numbers differ
-pub apart_map : (to : ℕ → Way) (back : Way → ℕ) → ((n : ℕ) → back (to n) ≡ n) → (ns : List ℕ) → NoRepeats ns → AreApart (map to ns)
+pub apart_map : (to : ℕ → Way) (back : Way → ℕ) → ((n : ℕ) → back (to n) ≡ n) → (ns : List ℕ) → NoRepeats ns → AreDistinctWays (map to ns)
 apart_map to back is [] once = tt
 apart_map to back is (n ∷ ns) once = (absent (has_way (to n) (map to ns)) refl, apart_map to back is ns once.1)
   where
@@ -229,8 +229,8 @@ module _ (t : HubTables) (order : AreInOrder t) where
       pub request_may_be_sent : MaySendFrom x t y h.pool h.slot
       request_may_be_sent = record {
         message = refl;
-        apart = subst AreApart (sym targets_are) (apart_map (request_way h.port) (λ w. w.receiver) (λ k. refl) (numbers_of_role Server t.ports) (roles_apart Server));
-        states_apart = subst AreApart (sym opens_are) (apart_map (response_way h.port (lane_of t h)) (λ w. w.sender) (λ k. refl) (numbers_of_role Server t.ports) (roles_apart Server));
+        apart = subst AreDistinctWays (sym targets_are) (apart_map (request_way h.port) (λ w. w.receiver) (λ k. refl) (numbers_of_role Server t.ports) (roles_apart Server));
+        states_apart = subst AreDistinctWays (sym opens_are) (apart_map (response_way h.port (lane_of t h)) (λ w. w.sender) (λ k. refl) (numbers_of_role Server t.ports) (roles_apart Server));
         once = λ w l there. once_on t order x w l there;
         lanes = subst (OnEach (IsOpenToNew x t h.pool h.slot) (lane_on t.ports)) (sym targets_are) (on_each (IsOpenToNew x t h.pool h.slot) (lane_on t.ports) _ to_server);
         states = subst (OnEach (IsOpenable t) (state_on t.ports)) (sym opens_are) (on_each (IsOpenable t) (state_on t.ports) _ state_of_server);
@@ -301,8 +301,8 @@ module _ (t : HubTables) (order : AreInOrder t) where
       pub response_may_be_sent : MaySendFrom x t z h.pool h.slot
       response_may_be_sent = record {
         message = refl;
-        apart = subst AreApart (sym one_target) (refl, tt);
-        states_apart = subst AreApart (sym none_opened) tt;
+        apart = subst AreDistinctWays (sym one_target) (refl, tt);
+        states_apart = subst AreDistinctWays (sym none_opened) tt;
         once = λ w l there. once_on t order x w l there;
         lanes = subst (OnEach (IsOpenToNew x t h.pool h.slot) (lane_on t.ports)) (sym one_target) (to_client, tt);
         states = subst (OnEach (IsOpenable t) (state_on t.ports)) (sym none_opened) tt;

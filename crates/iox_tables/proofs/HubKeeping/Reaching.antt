@@ -16,7 +16,7 @@ use Rattle.iox_tables.specs.HubStates.Ends.{DifferInHolders}
 use Rattle.iox_tables.specs.HubStates.Releases.{with_value_released}
 use Rattle.iox_tables.specs.HubStates.States.{no_id, node_id_of, port_id_of, state_shown}
 use Rattle.iox_tables.proofs.HubStates.Holding.{holders_are_not_shown}
-use Rattle.iox_tables.specs.HubBooks.Hubs.{AreInOrder, IsHub}
+use Rattle.iox_tables.specs.HubBooks.Hubs.{AreInOrder, TablesAreReached}
 use Rattle.iox_tables.specs.HubBooks.Keeps.{bare_pool, bare_pools}
 use Rattle.iox_tables.specs.HubBooks.Reached.{IsCallReached}
 use Rattle.iox_tables.proofs.HubBooks.Reaching.{each_call_is_reached}
@@ -64,7 +64,7 @@ hubs_drop_pools t hub place free = record {
 
 -- ---- a port is released
 
-module _ (t : HubTables) (hub : IsHub t) (node n : ℕ) (p : PortState) (there : port_in t.ports n ≡ Some p) (on_node : p.node ≡ node) (held : p.held ≡ true) where
+module _ (t : HubTables) (hub : TablesAreReached t) (node n : ℕ) (p : PortState) (there : port_in t.ports n ≡ Some p) (on_node : p.node ≡ node) (held : p.held ≡ true) where
   abbrev v : HubTables
   v = with_value_released t n
 

@@ -7,7 +7,7 @@ use Rattle.std.proofs.Common.{sym, ap, ap₂, subst, ◌∙◌, arith, true≢fa
 use Rattle.iox_model.specs.declared.kind.Role.{Role}
 use Rattle.iox_model.specs.declared.kind.Role.TheVariants.{Client, Server}
 use Rattle.iox_model.specs.declared.way.Way.{Way}
-use Rattle.iox_model.specs.Maps.{AreApart, has_number, has_way}
+use Rattle.iox_model.specs.Maps.{AreDistinctWays, has_number, has_way}
 use Rattle.iox_model.specs.Messages.{request_way, response_way}
 use Rattle.iox_model.specs.Settings.{is_client, other_role}
 use Rattle.iox_laws.proofs.WeaveLedger.Lists.{IsAmong, NoRepeats, flat-among, map-among, no_repeats-append, no_repeats-map, way-among}
@@ -33,7 +33,7 @@ use Rattle.iox_tables.proofs.HubLending.Emptied.{emptying_keeps_order}
 
 -- ---- ways
 
-apart_ways : (ws : List Way) → NoRepeats ws → AreApart ws
+apart_ways : (ws : List Way) → NoRepeats ws → AreDistinctWays ws
 apart_ways [] once = tt
 apart_ways (w ∷ ws) once = (not_true (has_way w ws) (λ e. once.0 (way-among w ws e)), apart_ways ws once.1)
 
@@ -47,7 +47,7 @@ no_repeats-flat f (x ∷ xs) once each one =
     once.0 (subst (λ a. IsAmong a xs) (sym (one x r.0 b p r.2)) r.1))
 
 module _ (t : HubTables) (order : AreInOrder t) where
-  pub ways_apart : (role : Role) (n : ℕ) → AreApart (ways_by role t n)
+  pub ways_apart : (role : Role) (n : ℕ) → AreDistinctWays (ways_by role t n)
   ways_apart Client n =
       apart_ways (map (request_way n) (numbers_of_role Server t.ports))
       (no_repeats-map (request_way n) (numbers_of_role Server t.ports) (λ a b e. ap (λ (w : Way). w.receiver) e) (roles_apart t order Server))

@@ -7,7 +7,7 @@ use Rattle.iox_model.specs.declared.kind.Role.TheVariants.{Client, Server}
 use Rattle.iox_model.specs.declared.way.RequestState.{RequestState}
 use Rattle.iox_model.specs.declared.way.Way.{Way}
 use Rattle.iox_model.specs.Doings.{Sending}
-use Rattle.iox_model.specs.Maps.{AreApart}
+use Rattle.iox_model.specs.Maps.{AreDistinctWays}
 use Rattle.iox_model.specs.Requests.{targets, to_open}
 use Rattle.iox_model.specs.Settings.{same_role}
 use Rattle.iox_lanes.specs.Lanes.{LaneState}
@@ -96,8 +96,8 @@ module _ (x : Given) (t : HubTables) (h : HandleState) (role : Role) where
   pub may_be_copied : MaySendFrom x u y h.pool h.slot → MaySendFrom x t z h.pool h.slot
   may_be_copied may = record {
     message = may.message;
-    apart = subst AreApart targets_same may.apart;
-    states_apart = subst AreApart to_open_same may.states_apart;
+    apart = subst AreDistinctWays targets_same may.apart;
+    states_apart = subst AreDistinctWays to_open_same may.states_apart;
     once = subst (OfEachLane (HasEachOnce (message_of x t.pools))) lanes_stay may.once;
     lanes = subst (λ (ws : List Way). OnEach (IsOpenToNew x t h.pool h.slot) (lane_on t.ports) ws) targets_same
         (subst (λ (on : OnWays LaneState). OnEach (IsOpenToNew x t h.pool h.slot) on (targets y)) lanes_stay

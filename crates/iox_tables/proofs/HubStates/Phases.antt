@@ -6,7 +6,7 @@ use Rattle.std.proofs.lemmas.Option.{none-some}
 use Rattle.iox_model.specs.declared.way.Way.{Way}
 use Rattle.iox_model.specs.declared.way.RequestState.{RequestState}
 use Rattle.iox_model.specs.declared.way.RequestState.TheVariants.{Named}
-use Rattle.iox_model.specs.Maps.{has_way, same_way, put, AreApart, AreDistinct}
+use Rattle.iox_model.specs.Maps.{has_way, same_way, put, AreDistinctWays, AreDistinct}
 use Rattle.iox_model.specs.Messages.{Message, closed_for, hinted_for}
 use Rattle.iox_model.specs.Moments.{moved, is_overfull, Deliver, Open}
 use Rattle.iox_model.specs.Peers.{buffer_on, is_connected_port}
@@ -49,7 +49,7 @@ steps step s (w ∷ ws) = steps step (step s w) ws
 -- If a change on one way is a step, then changes on all ways are the steps.
 pub each_way : {A : Type 0} (S : OnWays A → State) (step : State → Way → State) (P : Way → A → Type 0) (g : A → A)
     → ((on : OnWays A) (w : Way) (x : A) → on w ≡ Some x → P w x → S (at g on w) ≡ step (S on) w)
-    → (on : OnWays A) (ws : List Way) → AreApart ws → OnEach P on ws → S (at_each g on ws) ≡ steps step (S on) ws
+    → (on : OnWays A) (ws : List Way) → AreDistinctWays ws → OnEach P on ws → S (at_each g on ws) ≡ steps step (S on) ws
 each_way S step P g one on [] apart has = refl
 each_way S step P g one on (w ∷ ws) apart has =
     each_way S step P g one (at g on w) ws apart.1 (on_others P g on w ws apart.0 has.1)
@@ -96,7 +96,7 @@ module _ (members : Members) (f : Fixed) (message : MessagesByPlace) where
   as_deliveries s m [] = refl
   as_deliveries s m (w ∷ ws) = as_deliveries (moved s (Deliver w m)) m ws
 
-  pub delivers_all : (states : OnWays RequestState) (lanes : OnWays LaneState) (pool k : ℕ) (ws : List Way) → AreApart ws
+  pub delivers_all : (states : OnWays RequestState) (lanes : OnWays LaneState) (pool k : ℕ) (ws : List Way) → AreDistinctWays ws
       → OnEach (MayDeliver pool k) lanes ws
       → S (at_each (λ l. delivered l k) lanes ws) states ≡ delivered_to (S lanes states) (message pool k) ws
   delivers_all states lanes pool k ws apart has =
@@ -150,7 +150,7 @@ module _ (members : Members) (f : Fixed) (message : MessagesByPlace) where
   as_pushes s m [] = refl
   as_pushes s m (w ∷ ws) = as_pushes (pushed s m w) m ws
 
-  pub pushes_all : (states : OnWays RequestState) (lanes : OnWays LaneState) (pool k : ℕ) (ws : List Way) → AreApart ws
+  pub pushes_all : (states : OnWays RequestState) (lanes : OnWays LaneState) (pool k : ℕ) (ws : List Way) → AreDistinctWays ws
       → OnEach (MayPush pool k) lanes ws
       → S (at_each (pushed_lane k) lanes ws) states ≡ pushed_to (S lanes states) (message pool k) ws
   pushes_all states lanes pool k ws apart has =
@@ -178,7 +178,7 @@ module _ (members : Members) (f : Fixed) (message : MessagesByPlace) where
   abbrev pub MayOpen : Way → RequestState → Type 0
   MayOpen w r = is_connected_port f w.receiver ≡ true
 
-  pub opens_all : (lanes : OnWays LaneState) (states : OnWays RequestState) (id : ℕ) (ws : List Way) → AreApart ws → OnEach MayOpen states ws
+  pub opens_all : (lanes : OnWays LaneState) (states : OnWays RequestState) (id : ℕ) (ws : List Way) → AreDistinctWays ws → OnEach MayOpen states ws
       → S lanes (at_each (λ r. Named id false) states ws) ≡ opened_at (S lanes states) id ws
   opens_all lanes states id ws apart has =
       each_way (S lanes) (λ t w. moved t (Open w id)) MayOpen (λ r. Named id false)

@@ -7,7 +7,7 @@ use Rattle.iox_model.specs.declared.way.Way.{Way}
 use Rattle.iox_model.specs.declared.way.RequestState.TheVariants.{Named}
 use Rattle.iox_model.specs.declared.reply.Refusal.TheVariants.{UnableToDeliver}
 use Rattle.iox_model.specs.Doings.{Sending, Outcome, Sends, FailsToSend}
-use Rattle.iox_model.specs.Maps.{has_way, same_way, AreApart}
+use Rattle.iox_model.specs.Maps.{has_way, same_way, AreDistinctWays}
 use Rattle.iox_model.specs.Peers.{is_connected_port, role_at}
 use Rattle.iox_model.specs.Requests.{targets, to_open}
 use Rattle.iox_model.specs.States as m
@@ -61,11 +61,11 @@ filter_off v test (w ∷ ws) e = step (test w) (same_way v w) refl (filter_off v
     step true false is more h = ap (λ d. d || has_way v (filter test ws)) is ∙ more h
     step false false is more h = more h
 
-filter_apart : (test : Way → Bool) (ws : List Way) → AreApart ws → AreApart (filter test ws)
+filter_apart : (test : Way → Bool) (ws : List Way) → AreDistinctWays ws → AreDistinctWays (filter test ws)
 filter_apart test [] apart = tt
 filter_apart test (w ∷ ws) apart = step (test w) (filter_apart test ws apart.1)
   where
-    step : (b : Bool) → AreApart (filter test ws) → AreApart (if b then w ∷ filter test ws else filter test ws)
+    step : (b : Bool) → AreDistinctWays (filter test ws) → AreDistinctWays (if b then w ∷ filter test ws else filter test ws)
     step true more = (filter_off w test ws apart.0, more)
     step false more = more
 

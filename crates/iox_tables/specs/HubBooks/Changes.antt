@@ -1,7 +1,7 @@
 -- How counts over lanes and handles change with the tables, and how many holders there may be.
 use Rattle.std.specs.Prelude.{◌≡◌, ℕ, ◌+◌, ◌<◌, ◌≤◌, ◌^◌, List, [], ◌∷◌, ◌++◌, map, Some}
 use Rattle.iox_model.specs.declared.way.Way.{Way}
-use Rattle.iox_model.specs.Maps.{AreApart, AreDistinct}
+use Rattle.iox_model.specs.Maps.{AreDistinctWays, AreDistinct}
 use Rattle.iox_lanes.specs.declared.wanted.Wanted.{Wanted}
 use Rattle.iox_lanes.specs.Lanes.{LaneState}
 use Rattle.iox_lanes.specs.Searches.{LabelsByPlace}
@@ -28,7 +28,7 @@ OneLaneCounts =
 abbrev pub EachLaneCounts : Type 0
 EachLaneCounts =
     (f : LaneState → ℕ) (g : LaneState → LaneState) (ports : List PortState) (ws : List Way)
-    → AreApart ws
+    → AreDistinctWays ws
     → on_lanes f (with_lanes_on g ports ws) + total (by_lane f 0 (lane_on ports)) ws
     ≡ on_lanes f ports + total (by_lane (λ l. f (g l)) 0 (lane_on ports)) ws
 

@@ -142,7 +142,7 @@ pub record AreInOrder (t : HubTables) : Type 0 where
   pub received : ReceivedAreFromLanes t
 
 -- The tables of a hub: they agree, and a service and its hub can reach the state that they show.
-pub record IsHub (t : HubTables) : Type 0 where
+pub record TablesAreReached (t : HubTables) : Type 0 where
   pub tables : AreInOrder t
   pub given : Given
   pub reached : IsReachableState (state_shown given t)

@@ -4,7 +4,7 @@ use Rattle.std.specs.Option.{option_map}
 use Rattle.iox_model.specs.declared.kind.Kind.TheVariants.{PendingResponse}
 use Rattle.iox_model.specs.declared.way.RequestState.{RequestState}
 use Rattle.iox_model.specs.declared.way.Way.{Way}
-use Rattle.iox_model.specs.Maps.{AreApart, has_way, not_in}
+use Rattle.iox_model.specs.Maps.{AreDistinctWays, has_way, not_in}
 use Rattle.iox_model.specs.Messages.{request_way, response_way}
 use Rattle.iox_model.specs.Handles.{is_received, is_request_loan, is_response_loan}
 use Rattle.iox_model.specs.declared.kind.Role.TheVariants.{Client, Server}
@@ -144,7 +144,7 @@ LittleChangesKeepOrder =
 -- The ways of a loan's message: they differ, they come from the loan's port, and those to clients
 -- are of the loan's lane.
 pub record AreTargetsOf (t : HubTables) (h : HandleState) (ws : List Way) : Type 0 where
-  pub apart : AreApart ws
+  pub apart : AreDistinctWays ws
   pub sender : (w : Way) → has_way w ws ≡ true → w.sender ≡ h.port
   pub lane :
       (w : Way) → has_way w ws ≡ true → role_in t.ports w.receiver ≡ Client

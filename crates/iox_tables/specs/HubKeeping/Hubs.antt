@@ -9,7 +9,7 @@ use Rattle.iox_model.specs.WholeCalls.{IsWholeCall}
 use Rattle.iox_tables.specs.HubStates.Tables.{HubSettings, HubTables, PoolState, PortState, port_in}
 use Rattle.iox_tables.specs.HubStates.States.{Given, state_shown}
 use Rattle.iox_tables.specs.HubStates.Releases.{with_value_released}
-use Rattle.iox_tables.specs.HubBooks.Hubs.{IsHub}
+use Rattle.iox_tables.specs.HubBooks.Hubs.{TablesAreReached}
 use Rattle.iox_tables.specs.HubMaking.Disconnections.{is_unused, with_disconnected}
 use Rattle.iox_tables.specs.HubMaking.FreePools.{IsPut, OthersStay, with_pool_gone}
 use Rattle.iox_tables.specs.HubMaking.NewPorts.{given_made, making_refused, pool_made, port_made, with_port_made}
@@ -21,7 +21,7 @@ use Rattle.iox_tables.specs.HubLending.Emptying.{HasFewerHolders}
 
 -- The tables are those of a hub, where this is given besides.
 pub record IsHubWith (x : Given) (t : HubTables) : Type 0 where
-  pub hub : IsHub t
+  pub hub : TablesAreReached t
   pub given : hub.given ≡ x
 
 -- The tables with no port are those of a hub.
@@ -42,7 +42,7 @@ pub record IsPoolOf (x : Given) (t : HubTables) (new : PortState) (words : Given
 -- The tables of a hub are so once a port is made, if that is not refused.
 abbrev pub HubsTakePorts : Type 0
 HubsTakePorts =
-    (t : HubTables) (hub : IsHub t) (node : ℕ) (role : Role) (id : UniqueSystemId) (o : Options)
+    (t : HubTables) (hub : TablesAreReached t) (node : ℕ) (role : Role) (id : UniqueSystemId) (o : Options)
     → (memory : Bool) (place : ℕ) (words : Given) (pools : List (Option PoolState))
     → making_refused hub.given t role o memory ≡ None
     → IsPoolOf hub.given t (port_made hub.given t node role id o place) words pools
@@ -71,7 +71,7 @@ pub record PortIsReleased (x : Given) (t : HubTables) (node n : ℕ) : Type 0 wh
 -- It is so of each port of the node whose own value is there.
 abbrev pub HubsReleasePorts : Type 0
 HubsReleasePorts =
-    (t : HubTables) (hub : IsHub t) (node n : ℕ) (p : PortState)
+    (t : HubTables) (hub : TablesAreReached t) (node n : ℕ) (p : PortState)
     → port_in t.ports n ≡ Some p → p.node ≡ node → p.held ≡ true
     → PortIsReleased hub.given t node n
 
@@ -80,5 +80,5 @@ HubsReleasePorts =
 -- The tables of a hub are so once a pool is gone that nobody has messages of.
 abbrev pub HubsDropPools : Type 0
 HubsDropPools =
-    (t : HubTables) (hub : IsHub t) (place : ℕ) → IsFreePlace t place
+    (t : HubTables) (hub : TablesAreReached t) (place : ℕ) → IsFreePlace t place
     → IsHubWith hub.given (with_pool_gone t place)

@@ -2,7 +2,7 @@
 use Rattle.std.specs.Prelude.{◌≡◌, ℕ, ◌+◌, if◌then◌else◌, ◌==◌, List, Option, Some}
 use Rattle.std.specs.List.{list_all}
 use Rattle.iox_model.specs.declared.way.Way.{Way}
-use Rattle.iox_model.specs.Maps.{AreApart}
+use Rattle.iox_model.specs.Maps.{AreDistinctWays}
 use Rattle.iox_lanes.specs.Lanes.{LaneState}
 use Rattle.iox_tables.specs.HubStates.Tables.{HubTables, PoolState, PortState, port_in, slot_at, slots_of}
 use Rattle.iox_tables.specs.HubStates.Ways.{lane_on}
@@ -33,7 +33,7 @@ returned_on t ws pool k = total (by_lane (returned_count pool k) 0 (lane_on t.po
 -- was given back there.
 abbrev pub EmptyingKeepsOrder : Type 0
 EmptyingKeepsOrder =
-    (t : HubTables) (ws : List Way) (pools : List (Option PoolState)) → AreInOrder t → AreApart ws
+    (t : HubTables) (ws : List Way) (pools : List (Option PoolState)) → AreInOrder t → AreDistinctWays ws
     → HasFewerHolders t.pools pools (returned_on t ws)
     → AreInOrder (record (with_lanes emptied_lane t ws) { pools = pools })
 

@@ -5,7 +5,7 @@ use Rattle.iox_model.specs.declared.way.Way.{Way}
 use Rattle.iox_model.specs.declared.way.RequestState.TheVariants.{Named}
 use Rattle.iox_model.specs.declared.reply.Refusal.TheVariants.{UnableToDeliver}
 use Rattle.iox_model.specs.Doings.{Sending, Outcome, Sends, FailsToSend}
-use Rattle.iox_model.specs.Maps.{not_in, AreApart}
+use Rattle.iox_model.specs.Maps.{not_in, AreDistinctWays}
 use Rattle.iox_model.specs.Requests.{targets, to_open}
 use Rattle.iox_laws.specs.CallFunctions.Sends.{sent}
 use Rattle.iox_laws.specs.CallFunctions.Overflows.{sent_over}
@@ -58,8 +58,8 @@ outcome_of_send y None = FailsToSend y.loan y.copied UnableToDeliver
 -- a lane twice, the new one too.
 pub record MaySendFrom (x : Given) (t : HubTables) (y : Sending) (pool k : ℕ) : Type 0 where
   pub message : message_of x t.pools pool k ≡ y.loan.message
-  pub apart : AreApart (targets y)
-  pub states_apart : AreApart (to_open y)
+  pub apart : AreDistinctWays (targets y)
+  pub states_apart : AreDistinctWays (to_open y)
   pub once : OfEachLane (HasEachOnce (message_of x t.pools)) (lane_on t.ports)
   pub lanes : OnEach (IsOpenToNew x t pool k) (lane_on t.ports) (targets y)
   pub states : OnEach (IsOpenable t) (state_on t.ports) (to_open y)

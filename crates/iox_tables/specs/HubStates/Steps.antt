@@ -5,7 +5,7 @@ use Rattle.std.specs.Option.{option_map_or}
 use Rattle.iox_model.specs.declared.way.Way.{Way}
 use Rattle.iox_model.specs.declared.way.RequestState.{RequestState}
 use Rattle.iox_model.specs.declared.way.RequestState.TheVariants.{Named}
-use Rattle.iox_model.specs.Maps.{has_number, AreApart}
+use Rattle.iox_model.specs.Maps.{has_number, AreDistinctWays}
 use Rattle.iox_model.specs.Messages.{closed_for, hinted_for}
 use Rattle.iox_model.specs.States.{Members, Fixed}
 use Rattle.iox_laws.specs.CallFunctions.Sends.{delivered_to, emptied, full_of, opened_at}
@@ -74,7 +74,7 @@ pub record IsOpenTo (t : HubTables) (pool : ℕ) (w : Way) (l : LaneState) : Typ
 -- A message is delivered on each of these ways.
 abbrev pub DeliveriesAreShown : Type 0
 DeliveriesAreShown =
-    (x : Given) (t : HubTables) (pool k : ℕ) (ws : List Way) → AreApart ws
+    (x : Given) (t : HubTables) (pool k : ℕ) (ws : List Way) → AreDistinctWays ws
     → OnEach (IsOpenTo t pool) (lane_on t.ports) ws
     → state_shown x (with_lanes (λ l. delivered l k) t ws)
     ≡ delivered_to (state_shown x t) (message_of x t.pools pool k) ws
@@ -88,7 +88,7 @@ pub record IsOpenToNew (x : Given) (t : HubTables) (pool k : ℕ) (w : Way) (l :
 -- It is delivered on each, and where it is one too many the oldest is pushed out.
 abbrev pub PushesAreShown : Type 0
 PushesAreShown =
-    (x : Given) (t : HubTables) (pool k : ℕ) (ws : List Way) → AreApart ws
+    (x : Given) (t : HubTables) (pool k : ℕ) (ws : List Way) → AreDistinctWays ws
     → OnEach (IsOpenToNew x t pool k) (lane_on t.ports) ws
     → state_shown x (with_lanes (pushed_lane k) t ws)
     ≡ pushed_to (state_shown x t) (message_of x t.pools pool k) ws
@@ -115,7 +115,7 @@ IsOpenable t w r = is_there t.ports w.receiver ≡ true
 -- A request is opened on each of these ways.
 abbrev pub OpensAreShown : Type 0
 OpensAreShown =
-    (x : Given) (t : HubTables) (id : ℕ) (ws : List Way) → AreApart ws
+    (x : Given) (t : HubTables) (id : ℕ) (ws : List Way) → AreDistinctWays ws
     → OnEach (IsOpenable t) (state_on t.ports) ws
     → state_shown x (with_states (λ r. Named id false) t ws) ≡ opened_at (state_shown x t) id ws
 

@@ -22,7 +22,8 @@ impl Member {
     /// not have that port.
     pub(crate) fn outstanding(&self, way: Way) -> usize
         ensures { result
-            ≡ option_map_or (outstanding_at way) (desk_of way.sender self.now.node.seat.seat.desks) 0 }
+            ≡ option_map_or (outstanding_at way)
+            (desk_of way.sender self.now.node.seat.seat.desks) 0 }
     {
         match self.node.outstanding(way) {
             Some(count) => count,

@@ -25,7 +25,7 @@ use Rattle.iox_wire_laws.specs.WireShows.OwnedCalls.{ReceivesOn}
 use Rattle.iox_wire_laws.specs.WireRegions.OwnedBegins.{LayoutFits}
 use Rattle.iox_wire_laws.proofs.WireRegions.ReceiveBegins.{layouts_stay_fit}
 use Rattle.iox_wire_laws.specs.WireHolding.OthersNames.{OthersLeaveNames}
-use Rattle.iox_wire_laws.specs.WireHolding.SlotsKnown.{EndingStands, HasSent, IsAside, PlaceStands}
+use Rattle.iox_wire_laws.specs.WireHolding.SlotsKnown.{EndingStands, SendsOwnEntry, IsAside, PlaceStands}
 use Rattle.iox_wire_laws.proofs.WireHolding.WireWays.{way_there}
 
 -- the node's own part stays
@@ -41,7 +41,7 @@ view_stays w u (Ends k reply payload) n reach beat other =
     ∙ settled-else w.state k n payload beat.3 h.holding.fits.wire (h.holding.fits.handles k) fits other
 
 module _ (p : Setting) (f g : Fixed) (x : Seat) (same : view g x.node ≡ view f x.node) (receives : (w : Way) → ReceivesOn p x.node f w → ReceivesOn p x.node g w) where
-  sent : (e : Entry) (copied : Bool) → HasSent f x e copied → HasSent g x e copied
+  sent : (e : Entry) (copied : Bool) → SendsOwnEntry f x e copied → SendsOwnEntry g x e copied
   sent e true has = (has.0, ap (λ (v : View). node_in v.ports e.port) same ∙ has.1)
   sent e false has = has
 

@@ -46,7 +46,7 @@ use Rattle.iox_wire_laws.specs.WireShows.OwnedCalls.{ReceivesOn}
 use Rattle.iox_wire_laws.specs.WireRegions.OwnedBegins.{LayoutFits}
 use Rattle.iox_wire_laws.proofs.WireRegions.OwnPorts.{both}
 use Rattle.iox_wire_laws.specs.WireHolding.Named.{IsOnNoWay, ending_names, is_slot_on, place_names}
-use Rattle.iox_wire_laws.specs.WireHolding.SlotsKnown.{EndingStands, HasEntry, HasSent, IsAside, NamesStand, PlaceStands}
+use Rattle.iox_wire_laws.specs.WireHolding.SlotsKnown.{EndingStands, HasEntry, SendsOwnEntry, IsAside, NamesStand, PlaceStands}
 use Rattle.iox_wire_laws.proofs.WireHolding.WireWays.{way_there}
 
 none_if : (b : Bool) → not b ≡ true → b ≡ false
@@ -334,7 +334,7 @@ module _ (p : Setting) (held : Pools) (word : ℕ → ℕ) (c : WireContents) (s
         entry_not e has = named_not e (find-among (λ q. q.number == e.number) e (seats r).table has).0
 
         sent_not : (e : Entry) (copied : Bool) → (slots_in_call port (seats r).local ≡ slot_of_loan port e.port copied e.slot)
-            → HasSent w.state.fixed (seats r) e copied → is_slot_of e port slot ≡ false
+            → SendsOwnEntry w.state.fixed (seats r) e copied → is_slot_of e port slot ≡ false
         sent_not e true call has = copy e call has.0 has.1
         sent_not e false call has = entry_not e has
 

@@ -4,7 +4,7 @@ use Rattle.std.specs.List.{list_all}
 use Rattle.std.specs.Option.{option_map_or}
 use Rattle.std.proofs.Common.{◌≡◌, ℕ, Bool, true, false, if◌then◌else◌, ◌==◌, ◌&&◌, List, [], ◌∷◌, Option, Some, None, refl, ap, sym, subst, ◌∙◌, arith, eq-eqb, eqb-true, true≢false}
 use Rattle.iox_model.specs.declared.way.Way.{Way}
-use Rattle.iox_model.specs.Maps.{has_number, same_way, AreApart, AreDistinct}
+use Rattle.iox_model.specs.Maps.{has_number, same_way, AreDistinctWays, AreDistinct}
 use Rattle.iox_model.specs.Messages.{Message, request_way}
 use Rattle.iox_model.specs.Moments.{SeesNoneBack}
 use Rattle.iox_model.specs.States.{State}
@@ -209,7 +209,7 @@ module _ (p : Setting) (held : Pools) (s : State) (x : Seat) (o : NewLoan) (slot
     entries = fit.entries;
     call = ap (λ (m : Message). m.serial) new_here;
     ways = ap (λ (rs : List Recorded). map (λ r. r.way) rs) (recorded q) ∙ fit.ways;
-    apart = subst (λ (rs : List Recorded). AreApart (map (λ r. r.way) rs)) (sym (recorded q)) fit.apart;
+    apart = subst (λ (rs : List Recorded). AreDistinctWays (map (λ r. r.way) rs)) (sym (recorded q)) fit.apart;
     from = ap (λ (rs : List Recorded). list_all (λ r. r.way.sender == q) rs) (recorded q) ∙ fit.from;
     records = records fit.records;
     counted =

@@ -9,7 +9,7 @@ use Rattle.iox_model.specs.declared.way.Way.{Way}
 use Rattle.iox_model.specs.Doings.{Receiver, Sending, Sends, FailsToSend, Receives, Loans, Doing, Ended, Asking, Again, Judging, Stale}
 use Rattle.iox_model.specs.Handles.{is_request_loan, is_own}
 use Rattle.iox_model.specs.Keeping.{serials_of_loan, under_way}
-use Rattle.iox_model.specs.Maps.{has_number, has_way, same_way, AreApart}
+use Rattle.iox_model.specs.Maps.{has_number, has_way, same_way, AreDistinctWays}
 use Rattle.iox_model.specs.Messages.{Message, request_way}
 use Rattle.iox_model.specs.Peers.{others, forgot_port}
 use Rattle.iox_model.specs.Receives.{took}
@@ -175,7 +175,7 @@ in_handles held node port k (e ∷ es) all =
 -- ---- on ways
 
 -- in records of ways that are apart, each is the record of its way
-pub own_record : (r : Recorded) (rs : List Recorded) → IsAmong r rs → AreApart (map (λ k. k.way) rs) → record_of r.way rs ≡ Some r
+pub own_record : (r : Recorded) (rs : List Recorded) → IsAmong r rs → AreDistinctWays (map (λ k. k.way) rs) → record_of r.way rs ≡ Some r
 own_record r [] among apart = absurd among
 own_record r (q ∷ qs) (inl is) apart =
     subst (λ (k : Recorded). (if same_way k.way r.way then Some k else record_of r.way qs) ≡ Some r) is (rw (same_way-refl r.way) refl)

@@ -28,7 +28,7 @@ use Rattle.iox_wire_locals.specs.Known.{known}
 use Rattle.iox_wire_locals.specs.Settlements as own
 use Rattle.iox_wire_locals.specs.Tables.{Setting, handle_of, way_in}
 use Rattle.iox_wire_locals.proofs.KnowingLemmas.{role_known, way_known}
-use Rattle.iox_wire_laws.specs.WireOwners.Borrowed.{BorrowedFits, CountsTellLimits, EndsKeepBorrowed, IsCounted, OwnPartsKeepBorrowed}
+use Rattle.iox_wire_laws.specs.WireOwners.Borrowed.{BorrowedFits, CountsTellLimits, EndsKeepBorrowed, CountsItsWay, OwnPartsKeepBorrowed}
 
 -- ---- limits and own parts
 
@@ -172,7 +172,7 @@ module _ (p : Setting) (x : Seat) (s : State) (held : Pools) (payload : List ℕ
   abbrev fixed_after : Ending → Fixed
   fixed_after ending = (ends.settled s x.node payload (outcome_of p held x.node ending)).fixed
 
-  settles : (ending : Ending) → IsCounted x ending
+  settles : (ending : Ending) → CountsItsWay x ending
       → BorrowedFits p (own.settled p x ending) (ends.settled s x.node payload (outcome_of p held x.node ending)).fixed
   settles (Refuses r) counted = fits
   settles Nothing counted = fits

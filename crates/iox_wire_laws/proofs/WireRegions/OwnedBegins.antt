@@ -5,7 +5,7 @@ use Rattle.std.proofs.Common.{◌≡◌, ℕ, true, false, ◌+◌, ◌==◌, Li
 use Rattle.iox_model.specs.declared.kind.Role.TheVariants.{Client, Server}
 use Rattle.iox_model.specs.Handles.{is_request_loan}
 use Rattle.iox_model.specs.Loans.{lending_ways, request_ways, response_ways}
-use Rattle.iox_model.specs.Maps.{has_number, AreApart}
+use Rattle.iox_model.specs.Maps.{has_number, AreDistinctWays}
 use Rattle.iox_model.specs.Messages.{request_way, response_way}
 use Rattle.iox_model.specs.Peers.{lanes_of, lanes_to, others}
 use Rattle.iox_model.specs.States.{Fixed}
@@ -56,9 +56,9 @@ module _ (p : Setting) (f : Fixed) (n : ℕ) (fits : LayoutFits p f) where
           (λ s there. (request_goes p f fits n e.port s (by.request is).0 (among-number s (others f n Server) there), sym by.own)))
           (never (is_request_loan e.kind) is)
 
-      request_ways_apart : AreApart (ways_to d)
+      request_ways_apart : AreDistinctWays (ways_to d)
       request_ways_apart =
-          either AreApart (is_request_loan e.kind) (map (request_way e.port) (others f n Server)) (map (λ client. response_way client e.lane e.port) (others f n Server))
+          either AreDistinctWays (is_request_loan e.kind) (map (request_way e.port) (others f n Server)) (map (λ client. response_way client e.lane e.port) (others f n Server))
           (λ k. apart-requests e.port (others f n Server) (distinct-others f n Server fits.numbers)) (never (is_request_loan e.kind) is)
 
       opens_owned : Each (OpensOn p d) (states_to d)
@@ -85,7 +85,7 @@ module _ (p : Setting) (f : Fixed) (n : ℕ) (fits : LayoutFits p f) where
             (map (λ client. response_way client e.lane e.port) (e.client ∷ [])) (λ k. never (is_request_loan e.kind) k is)
             (λ k. ((response_goes p f fits n e.client e.lane e.port (by.response is).0 there (by.response is).1, sym by.own), tt));
         apart =
-            either AreApart (is_request_loan e.kind) (map (request_way e.port) (e.client ∷ [])) (map (λ client. response_way client e.lane e.port) (e.client ∷ []))
+            either AreDistinctWays (is_request_loan e.kind) (map (request_way e.port) (e.client ∷ [])) (map (λ client. response_way client e.lane e.port) (e.client ∷ []))
             (λ k. never (is_request_loan e.kind) k is) (λ k. (refl, tt));
         opens =
             either (Each (OpensOn p r)) (is_request_loan e.kind) (map (response_way e.port e.lane) (e.client ∷ [])) [] (λ k. never (is_request_loan e.kind) k is)

@@ -6,7 +6,7 @@ use Rattle.iox_model.specs.declared.kind.Role.TheVariants.{Client, Server}
 use Rattle.iox_model.specs.declared.way.RequestState.{RequestState}
 use Rattle.iox_model.specs.declared.way.Way.{Way}
 use Rattle.iox_model.specs.Handles.{is_request_loan}
-use Rattle.iox_model.specs.Maps.{has_number, not_in, AreApart}
+use Rattle.iox_model.specs.Maps.{has_number, not_in, AreDistinctWays}
 use Rattle.iox_model.specs.Messages.{request_way, response_way}
 use Rattle.iox_model.specs.Peers.{others}
 use Rattle.iox_model.specs.Requests.{targets, to_open, is_active_spent}
@@ -40,7 +40,7 @@ module _ (p : Setting) (z : Seat) (f : Fixed) (shown : Way → RequestState) whe
   abbrev D : Delivery → Way → Type 0
   D d = DeliversOn p n f d
 
-  delivering : (d : Delivery) (left : List Way) (count : ℕ) → Each (D d) left → AreApart left → K (courses.delivering z d None left count)
+  delivering : (d : Delivery) (left : List Way) (count : ℕ) → Each (D d) left → AreDistinctWays left → K (courses.delivering z d None left count)
   delivering d [] count each apart = tt
   delivering d (w ∷ left) count each apart = (each, apart, refl, tt, each_all (IsLeft p n f None) (λ v. tt) (w ∷ left))
 

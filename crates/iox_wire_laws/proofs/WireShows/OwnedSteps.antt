@@ -14,7 +14,7 @@ use Rattle.iox_model.specs.declared.way.RequestState.{RequestState}
 use Rattle.iox_model.specs.declared.way.Way.{Way}
 use Rattle.iox_model.specs.Handles.{same_kind}
 use Rattle.iox_model.specs.Looks.{is_shown}
-use Rattle.iox_model.specs.Maps.{not_in, put, AreApart}
+use Rattle.iox_model.specs.Maps.{not_in, put, AreDistinctWays}
 use Rattle.iox_model.specs.Messages.{names, names_with_hint, closed_for}
 use Rattle.iox_model.specs.Moments.{Moment}
 use Rattle.iox_model.specs.Requests.{targets, to_open}
@@ -75,12 +75,12 @@ module _ (p : Setting) (z : Seat) (f : Fixed) (shown : Way → RequestState) (li
 
   -- ---- sends
 
-  delivering : (y : Seat) (d : Delivery) (last : Option Way) (left : List Way) (count : ℕ) → Each (D d) left → AreApart left → OwnsLast p n f last
+  delivering : (y : Seat) (d : Delivery) (last : Option Way) (left : List Way) (count : ℕ) → Each (D d) left → AreDistinctWays left → OwnsLast p n f last
       → Each (IsLeft p n f last) left → K (courses.delivering y d last left count)
   delivering y d last [] count each apart owns others = owns
   delivering y d last (w ∷ left) count each apart owns others = (each, apart, refl, owns, others)
 
-  delivering_first : (y : Seat) (d : Delivery) (left : List Way) (count : ℕ) → Each (D d) left → AreApart left → K (courses.delivering y d None left count)
+  delivering_first : (y : Seat) (d : Delivery) (left : List Way) (count : ℕ) → Each (D d) left → AreDistinctWays left → K (courses.delivering y d None left count)
   delivering_first y d left count each apart = delivering y d None left count each apart tt (each_all (IsLeft p n f None) (λ v. tt) left)
 
   opening : (d : Delivery) (left full : List Way) → OwnsSend p n f d → Each (OpensOn p d) left → K (courses.opening p z d left full)
@@ -118,7 +118,7 @@ module _ (p : Setting) (z : Seat) (f : Fixed) (shown : Way → RequestState) (li
   looked d w left full owns each place event = (owns, each)
 
   -- once it is delivered on a way, which may then be overfull
-  delivered : (y : Seat) (d : Delivery) (w : Way) (left : List Way) (count : ℕ) (over : Bool) → Each (D d) (w ∷ left) → AreApart (w ∷ left)
+  delivered : (y : Seat) (d : Delivery) (w : Way) (left : List Way) (count : ℕ) (over : Bool) → Each (D d) (w ∷ left) → AreDistinctWays (w ∷ left)
       → K (courses.delivering y d (if over then Some w else None) left count)
   delivered y d w left count true each apart = delivering y d (Some w) left count each.1 apart.1 each.0.0 (each_other w left apart.0)
   delivered y d w left count false each apart = delivering_first y d left count each.1 apart.1
@@ -157,7 +157,7 @@ module _ (p : Setting) (z : Seat) (f : Fixed) (shown : Way → RequestState) (li
   abbrev evicted : Bool → Site → ℕ → Pushing
   evicted won site read = in_push {R = PushReply} (if won then next.Goes (push.TakesOld (cell_at site read)) else next.Ends Pushed)
 
-  evicts : (d : Delivery) (w : Way) (left : List Way) (count read : ℕ) (won : Bool) → Each (D d) (w ∷ left) → AreApart (w ∷ left)
+  evicts : (d : Delivery) (w : Way) (left : List Way) (count read : ℕ) (won : Bool) → Each (D d) (w ∷ left) → AreDistinctWays (w ∷ left)
       → K (findings.send_evicted z d w left count (evicted won (site_of p.layout (MessageQueue w)) read) (if won then Evict else Quiet))
   evicts d w left count read true each apart = (each, apart)
   evicts d w left count read false each apart = delivered z d w left count true each apart

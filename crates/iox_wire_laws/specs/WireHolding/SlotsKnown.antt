@@ -61,16 +61,16 @@ IsAside p e = (p.port e.sender).pool ≤ e.slot
 -- ---- of places
 
 -- what a send sends is an entry of the node, or the loan that the same call made by the node's port
-abbrev pub HasSent : Fixed → Seat → Entry → Bool → Type 0
-HasSent f x e true = (e.sender ≡ e.port) × (node_of_port f e.port ≡ x.node)
-HasSent f x e false = HasEntry x e
+abbrev pub SendsOwnEntry : Fixed → Seat → Entry → Bool → Type 0
+SendsOwnEntry f x e true = (e.sender ≡ e.port) × (node_of_port f e.port ≡ x.node)
+SendsOwnEntry f x e false = HasEntry x e
 
 -- what a call ends with is an entry of the node, or what it took on a way to its port; what it
 -- drops is put aside, unless it forgot the sender
 abbrev pub EndingStands : Setting → Fixed → Seat → Ending → Type 0
 EndingStands p f x (endings.Fills e words) = HasEntry x e
-EndingStands p f x (endings.Sends e copied count) = HasSent f x e copied
-EndingStands p f x (endings.FailsToSend e copied r) = HasSent f x e copied
+EndingStands p f x (endings.Sends e copied count) = SendsOwnEntry f x e copied
+EndingStands p f x (endings.FailsToSend e copied r) = SendsOwnEntry f x e copied
 EndingStands p f x (endings.Receives v w slot header) = ReceivesOn p x.node f w
 EndingStands p f x (endings.Drops e) =
     HasEntry x e
@@ -81,14 +81,14 @@ EndingStands p f x ending = Unit {0}
 abbrev pub PlaceStands : Setting → Fixed → Seat → Local → Type 0
 PlaceStands p f x (Ends ending) = EndingStands p f x ending
 PlaceStands p f x (Writes e words next) = HasEntry x e
-PlaceStands p f x (SendAsks d) = HasSent f x d.loan d.copied
-PlaceStands p f x (SendEmpties d w place left) = HasSent f x d.loan d.copied
-PlaceStands p f x (SendLooks d w place left full) = HasSent f x d.loan d.copied
-PlaceStands p f x (SendOpens d w left full) = HasSent f x d.loan d.copied
-PlaceStands p f x (SendPushes d last w place left count) = HasSent f x d.loan d.copied
-PlaceStands p f x (SendEvicts d w place left count) = HasSent f x d.loan d.copied
-PlaceStands p f x (SendGetsBack d w place left count) = HasSent f x d.loan d.copied
-PlaceStands p f x (SendEnds d last count) = HasSent f x d.loan d.copied
+PlaceStands p f x (SendAsks d) = SendsOwnEntry f x d.loan d.copied
+PlaceStands p f x (SendEmpties d w place left) = SendsOwnEntry f x d.loan d.copied
+PlaceStands p f x (SendLooks d w place left full) = SendsOwnEntry f x d.loan d.copied
+PlaceStands p f x (SendOpens d w left full) = SendsOwnEntry f x d.loan d.copied
+PlaceStands p f x (SendPushes d last w place left count) = SendsOwnEntry f x d.loan d.copied
+PlaceStands p f x (SendEvicts d w place left count) = SendsOwnEntry f x d.loan d.copied
+PlaceStands p f x (SendGetsBack d w place left count) = SendsOwnEntry f x d.loan d.copied
+PlaceStands p f x (SendEnds d last count) = SendsOwnEntry f x d.loan d.copied
 PlaceStands p f x (ReceiveLoads v w slot header left waiting) = ReceivesOn p x.node f w
 PlaceStands p f x (ReceiveAsks v w slot header left waiting) = ReceivesOn p x.node f w
 PlaceStands p f x (ReceiveReturns v w slot place left waiting) = ReceivesOn p x.node f w

@@ -2,7 +2,7 @@
 use Rattle.std.specs.Prelude.{◌≡◌, ℕ, ◌≤◌, Bool, true, not, ◌&&◌, ◌||◌, if◌then◌else◌, ◌==◌, List, [], ◌∷◌, ◌++◌, map, filter, flat_map}
 use Rattle.std.specs.List.{list_all}
 use Rattle.iox_model.specs.Handles.{is_own}
-use Rattle.iox_model.specs.Maps.{has_number, AreApart}
+use Rattle.iox_model.specs.Maps.{has_number, AreDistinctWays}
 use Rattle.iox_model.specs.Peers.{node_of_port, ways_from}
 use Rattle.iox_model.specs.States.{State}
 use Rattle.iox_wire_moments.specs.MomentsOf.{Pools}
@@ -89,7 +89,7 @@ pub record PortFits (held : Pools) (s : State) (x : Seat) (port : ℕ) : Type 0 
   pub entries : list_all (λ e. not (is_own e.kind) || (e.sender == e.port)) x.table ≡ true
   pub call : CallHolds held x.local
   pub ways : map (λ r. r.way) (recorded_of x port) ≡ ways_from s.fixed port
-  pub apart : AreApart (map (λ r. r.way) (recorded_of x port))
+  pub apart : AreDistinctWays (map (λ r. r.way) (recorded_of x port))
   pub from : list_all (λ r. r.way.sender == port) (recorded_of x port) ≡ true
   pub records : RecordsFit held s x
   pub counted : (slot : ℕ) → has_number slot (slots_used x port) ≡ true

@@ -39,16 +39,16 @@ abbrev pub HasCount : Seat → Way → Type 0
 HasCount x y = list_any (λ b. same_way b.way y) x.borrowed ≡ true
 
 -- what the end of a call gains or gives up came on a way that the node counts
-abbrev pub IsCounted : Seat → Ending → Type 0
-IsCounted x (Receives v w slot header) = HasCount x w
-IsCounted x (Drops e) = is_received e.kind ≡ true → HasCount x (way_in e)
-IsCounted x ending = Unit {0}
+abbrev pub CountsItsWay : Seat → Ending → Type 0
+CountsItsWay x (Receives v w slot header) = HasCount x w
+CountsItsWay x (Drops e) = is_received e.kind ≡ true → HasCount x (way_in e)
+CountsItsWay x ending = Unit {0}
 
 -- As a call ends, both count one more on the way of what was received, one less on that of a
 -- received message that is released, and else as many.
 abbrev pub EndsKeepBorrowed : Type 0
 EndsKeepBorrowed =
     (p : Setting) (x : Seat) (s : State) (held : Pools) (payload : List ℕ) (ending : Ending)
-    → Counts p x s held → BorrowedFits p x s.fixed → IsCounted x ending
+    → Counts p x s held → BorrowedFits p x s.fixed → CountsItsWay x ending
     → BorrowedFits p (settled p x ending)
     (ends.settled s x.node payload (outcome_of p held x.node ending)).fixed

@@ -6,7 +6,7 @@ use Rattle.iox_model.specs.declared.way.RequestState.{RequestState}
 use Rattle.iox_model.specs.declared.way.RequestState.TheVariants.{Closed}
 use Rattle.iox_model.specs.declared.way.Way.{Way}
 use Rattle.iox_model.specs.Handles.{is_request_loan, same_kind}
-use Rattle.iox_model.specs.Maps.{has_number, same_way, AreApart}
+use Rattle.iox_model.specs.Maps.{has_number, same_way, AreDistinctWays}
 use Rattle.iox_model.specs.Messages.{closed_for, names, request_way, response_way}
 use Rattle.iox_model.specs.Moments.{Moment, moved}
 use Rattle.iox_model.specs.Peers.{is_counted_on}
@@ -97,7 +97,7 @@ states_to d =
 -- A send delivers on the node's own ways, on each once, and it opens states of the wire.
 pub record OwnsSend (p : Setting) (node : ℕ) (f : Fixed) (d : Delivery) : Type 0 where
   pub ways : Each (DeliversOn p node f d) (ways_to d)
-  pub apart : AreApart (ways_to d)
+  pub apart : AreDistinctWays (ways_to d)
   pub opens : Each (OpensOn p d) (states_to d)
 
 -- the header of what was taken stands in its sender's region
@@ -130,13 +130,13 @@ OwnsCall p node f shown (SendOpens d w left full) =
     OwnsSend p node f d × Each (OpensOn p d) (w ∷ left)
 -- a push publishes the send's own message, and the ways left are others than that of the last
 OwnsCall p node f shown (SendPushes d last w place left count) =
-    Each (DeliversOn p node f d) (w ∷ left) × AreApart (w ∷ left)
+    Each (DeliversOn p node f d) (w ∷ left) × AreDistinctWays (w ∷ left)
     × (unpublished place ≡ Some d.loan.slot)
     × OwnsLast p node f last × Each (IsLeft p node f last) (w ∷ left)
 OwnsCall p node f shown (SendEvicts d w place left count) =
-    Each (DeliversOn p node f d) (w ∷ left) × AreApart (w ∷ left)
+    Each (DeliversOn p node f d) (w ∷ left) × AreDistinctWays (w ∷ left)
 OwnsCall p node f shown (SendGetsBack d w place left count) =
-    Each (DeliversOn p node f d) (w ∷ left) × AreApart (w ∷ left)
+    Each (DeliversOn p node f d) (w ∷ left) × AreDistinctWays (w ∷ left)
 OwnsCall p node f shown (ReleaseCloses e w left) = Each (ClosesOn p shown e) (w ∷ left)
 -- a release gives back the entry's own message, and of a request it then asks the state
 OwnsCall p node f shown (ReleaseReturns e place) =

@@ -44,7 +44,8 @@ impl StoredNode {
         requires list { most_ways map.now ≤ vec_capacity stops.old }
         requires rooms { HasRoomToCopy map.now self.old.copies_response.lends }
         ensures begun { (p : Setting) → IsSettingWith map.now terms.now p → OnOk result
-            (IsUnderWay p self.old (Port (SendCopy number (payload_with p role words.now))) self.new) }
+            (IsUnderWay p self.old (Port (SendCopy number (payload_with p role words.now)))
+            self.new) }
         ensures refused { (p : Setting) → IsSettingWith map.now terms.now p → IfErr result
             (λ error. refusal_at p (seat_in self.old)
             (Port (SendCopy number (payload_with p role words.now))) ≡ refusal_in error) }

@@ -18,7 +18,8 @@ impl StoredSeat {
     /// How many messages its sender delivered on the way and did not get back, if that is a port of
     /// the node.
     pub fn outstanding(&self, way: Way) -> Option<usize>
-        ensures { result ≡ option_map (outstanding_at way) (desk_of way.sender self.now.seat.desks) }
+        ensures { result ≡ option_map (outstanding_at way)
+            (desk_of way.sender self.now.seat.desks) }
     {
         self.desks.outstanding(way)
     }
