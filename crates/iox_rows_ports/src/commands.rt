@@ -48,6 +48,8 @@ enum Told {
     Words(usize, u64),
     Answer(bool),
     Refused(Refusal<Infallible>),
+    /// The node has no id, so nothing was asked.
+    NoId,
 }
 
 /// One server, two clients, and one active request of each.
@@ -288,7 +290,7 @@ fn ask(hub: &mut TheHub, alloc: Global, node: u64, asked: Asked) -> Result<Told,
 {
     match command_of(alloc, node, asked)? {
         Some(command) => Ok(without_list(apply(hub, alloc, command))),
-        None => Ok(Told::Nothing),
+        None => Ok(Told::NoId),
     }
 }
 

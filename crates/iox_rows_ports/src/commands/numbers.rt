@@ -71,7 +71,7 @@ fn ask(hub: &mut Numbers, alloc: Global, node: u64, asked: Asked) -> Result<Told
 {
     match command_of(alloc, node, asked)? {
         Some(command) => Ok(without_list(apply(hub, alloc, command))),
-        None => Ok(Told::Nothing),
+        None => Ok(Told::NoId),
     }
 }
 

@@ -24,7 +24,8 @@ fn both_are_full(rt: &impl Abort, config: &mut DynamicConfig) -> Result<(), Fail
     Ok(())
 }
 
-fn each_call_stops_where_it_is_told_to(rt: &impl Abort, config: &DynamicConfig) {
+/// There is one writer at most, so only a listing of readers could go on after a stop.
+fn each_listing_stops_where_it_is_told_to(rt: &impl Abort, config: &DynamicConfig) {
     let mut calls = 0u8;
     config.list_readers(|_| {
         calls = calls.saturating_add(1);
@@ -77,7 +78,7 @@ fn readers_and_writers_come_and_go(rt: HostRuntime) -> Result<(), Fail> {
     equal(&rt, config.reader_details(second), Some(reader(2)?));
     equal(&rt, config.writer_details(other), Some(writer(1)?));
     a_handle_of_the_other_kind_is_foreign(&rt, &mut config, first, other);
-    each_call_stops_where_it_is_told_to(&rt, &config);
+    each_listing_stops_where_it_is_told_to(&rt, &config);
     a_released_handle_is_spent(&rt, &mut config, second);
     equal(&rt, config.release_writer_handle(other), Ok(()));
     Ok(())

@@ -18,13 +18,13 @@ fn add_listener(config: &mut DynamicConfig, process: u32) -> Result<RegistryHand
 
 fn both_are_full(rt: &impl Abort, config: &mut DynamicConfig) -> Result<(), Fail> {
     equal(rt, config.add_notifier_id(notifier(3)?), None);
-    equal(rt, config.add_listener_id(listener(2)?), None);
+    equal(rt, config.add_listener_id(listener(3)?), None);
     equal(rt, config.number_of_notifiers(), 2);
-    equal(rt, config.number_of_listeners(), 1);
+    equal(rt, config.number_of_listeners(), 2);
     Ok(())
 }
 
-fn each_call_stops_where_it_is_told_to(rt: &impl Abort, config: &DynamicConfig) {
+fn each_listing_stops_where_it_is_told_to(rt: &impl Abort, config: &DynamicConfig) {
     let mut calls = 0u8;
     config.list_notifiers(|_| {
         calls = calls.saturating_add(1);
@@ -34,9 +34,15 @@ fn each_call_stops_where_it_is_told_to(rt: &impl Abort, config: &DynamicConfig) 
     let mut calls = 0u8;
     config.list_listeners(|_| {
         calls = calls.saturating_add(1);
-        CallbackProgression::Continue
+        CallbackProgression::Stop
     });
     equal(rt, calls, 1);
+    let mut calls = 0u8;
+    config.list_listeners(|_| {
+        calls = calls.saturating_add(1);
+        CallbackProgression::Continue
+    });
+    equal(rt, calls, 2);
 }
 
 fn a_released_handle_is_spent(rt: &impl Abort, config: &mut DynamicConfig, handle: RegistryHandle) {
@@ -69,15 +75,16 @@ fn a_handle_of_the_other_kind_is_foreign(
 
 #[test]
 fn notifiers_and_listeners_come_and_go(rt: HostRuntime) -> Result<(), Fail> {
-    let mut config = DynamicConfig::new(rt.alloc(), 5, 2, 1)?;
+    let mut config = DynamicConfig::new(rt.alloc(), 5, 2, 2)?;
     let first = add_notifier(&mut config, 1)?;
     let second = add_notifier(&mut config, 2)?;
     let other = add_listener(&mut config, 1)?;
+    add_listener(&mut config, 2)?;
     both_are_full(&rt, &mut config)?;
     equal(&rt, config.notifier_details(second), Some(notifier(2)?));
     equal(&rt, config.listener_details(other), Some(listener(1)?));
     a_handle_of_the_other_kind_is_foreign(&rt, &mut config, first, other);
-    each_call_stops_where_it_is_told_to(&rt, &config);
+    each_listing_stops_where_it_is_told_to(&rt, &config);
     a_released_handle_is_spent(&rt, &mut config, second);
     equal(&rt, config.release_listener_handle(other), Ok(()));
     Ok(())

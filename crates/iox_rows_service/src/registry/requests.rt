@@ -18,13 +18,13 @@ fn add_server(config: &mut DynamicConfig, process: u32) -> Result<RegistryHandle
 
 fn both_are_full(rt: &impl Abort, config: &mut DynamicConfig) -> Result<(), Fail> {
     equal(rt, config.add_client_id(client(3)?), None);
-    equal(rt, config.add_server_id(server(2)?), None);
+    equal(rt, config.add_server_id(server(3)?), None);
     equal(rt, config.number_of_clients(), 2);
-    equal(rt, config.number_of_servers(), 1);
+    equal(rt, config.number_of_servers(), 2);
     Ok(())
 }
 
-fn each_call_stops_where_it_is_told_to(rt: &impl Abort, config: &DynamicConfig) {
+fn each_listing_stops_where_it_is_told_to(rt: &impl Abort, config: &DynamicConfig) {
     let mut calls = 0u8;
     config.list_clients(|_| {
         calls = calls.saturating_add(1);
@@ -34,9 +34,15 @@ fn each_call_stops_where_it_is_told_to(rt: &impl Abort, config: &DynamicConfig) 
     let mut calls = 0u8;
     config.list_servers(|_| {
         calls = calls.saturating_add(1);
-        CallbackProgression::Continue
+        CallbackProgression::Stop
     });
     equal(rt, calls, 1);
+    let mut calls = 0u8;
+    config.list_servers(|_| {
+        calls = calls.saturating_add(1);
+        CallbackProgression::Continue
+    });
+    equal(rt, calls, 2);
 }
 
 fn a_released_handle_is_spent(rt: &impl Abort, config: &mut DynamicConfig, handle: RegistryHandle) {
@@ -69,15 +75,16 @@ fn a_handle_of_the_other_kind_is_foreign(
 
 #[test]
 fn clients_and_servers_come_and_go(rt: HostRuntime) -> Result<(), Fail> {
-    let mut config = DynamicConfig::new(rt.alloc(), 5, 2, 1)?;
+    let mut config = DynamicConfig::new(rt.alloc(), 5, 2, 2)?;
     let first = add_client(&mut config, 1)?;
     let second = add_client(&mut config, 2)?;
     let other = add_server(&mut config, 1)?;
+    add_server(&mut config, 2)?;
     both_are_full(&rt, &mut config)?;
     equal(&rt, config.client_details(second), Some(client(2)?));
     equal(&rt, config.server_details(other), Some(server(1)?));
     a_handle_of_the_other_kind_is_foreign(&rt, &mut config, first, other);
-    each_call_stops_where_it_is_told_to(&rt, &config);
+    each_listing_stops_where_it_is_told_to(&rt, &config);
     a_released_handle_is_spent(&rt, &mut config, second);
     equal(&rt, config.release_server_handle(other), Ok(()));
     Ok(())

@@ -26,13 +26,13 @@ fn add_subscriber(config: &mut DynamicConfig, process: u32) -> Result<RegistryHa
 
 fn both_are_full(rt: &impl Abort, config: &mut DynamicConfig) -> Result<(), Fail> {
     equal(rt, config.add_publisher_id(publisher(3)?), None);
-    equal(rt, config.add_subscriber_id(subscriber(2)?), None);
+    equal(rt, config.add_subscriber_id(subscriber(3)?), None);
     equal(rt, config.number_of_publishers(), 2);
-    equal(rt, config.number_of_subscribers(), 1);
+    equal(rt, config.number_of_subscribers(), 2);
     Ok(())
 }
 
-fn each_call_stops_where_it_is_told_to(rt: &impl Abort, config: &DynamicConfig) {
+fn each_listing_stops_where_it_is_told_to(rt: &impl Abort, config: &DynamicConfig) {
     let mut calls = 0u8;
     config.list_publishers(|_| {
         calls = calls.saturating_add(1);
@@ -42,9 +42,15 @@ fn each_call_stops_where_it_is_told_to(rt: &impl Abort, config: &DynamicConfig) 
     let mut calls = 0u8;
     config.list_subscribers(|_| {
         calls = calls.saturating_add(1);
-        CallbackProgression::Continue
+        CallbackProgression::Stop
     });
     equal(rt, calls, 1);
+    let mut calls = 0u8;
+    config.list_subscribers(|_| {
+        calls = calls.saturating_add(1);
+        CallbackProgression::Continue
+    });
+    equal(rt, calls, 2);
 }
 
 fn a_released_handle_is_spent(rt: &impl Abort, config: &mut DynamicConfig, handle: RegistryHandle) {
@@ -77,15 +83,16 @@ fn a_handle_of_the_other_kind_is_foreign(
 
 #[test]
 fn publishers_and_subscribers_come_and_go(rt: HostRuntime) -> Result<(), Fail> {
-    let mut config = DynamicConfig::new(rt.alloc(), 5, 2, 1)?;
+    let mut config = DynamicConfig::new(rt.alloc(), 5, 2, 2)?;
     let first = add_publisher(&mut config, 1)?;
     let second = add_publisher(&mut config, 2)?;
     let other = add_subscriber(&mut config, 1)?;
+    add_subscriber(&mut config, 2)?;
     both_are_full(&rt, &mut config)?;
     equal(&rt, config.publisher_details(second), Some(publisher(2)?));
     equal(&rt, config.subscriber_details(other), Some(subscriber(1)?));
     a_handle_of_the_other_kind_is_foreign(&rt, &mut config, first, other);
-    each_call_stops_where_it_is_told_to(&rt, &config);
+    each_listing_stops_where_it_is_told_to(&rt, &config);
     a_released_handle_is_spent(&rt, &mut config, second);
     equal(&rt, config.release_subscriber_handle(other), Ok(()));
     Ok(())
