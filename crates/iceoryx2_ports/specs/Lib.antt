@@ -37,6 +37,11 @@ pub use Rattle.iox_hub_laws.specs.Loans as HubLoans
 pub use Rattle.iox_hub_laws.specs.Slots as HubSlots
 pub use Rattle.iox_hub_laws.specs.Gone as HubGone
 pub use Rattle.iox_tables.specs.HubKeeping.Connected as HubConnected
+-- of identifiers, and of what a callback is called with
+pub use Rattle.iox_types.specs.Identifiers
+pub use Rattle.iox_types.specs.PortIds
+pub use Rattle.iox_attributes.specs.Visits
+pub use Rattle.iox_port_commands.specs.Listings
 -- of commands
 pub use Rattle.iox_model.specs.declared.command.PortCommand
 pub use Rattle.iox_model.specs.declared.command.PortOptions

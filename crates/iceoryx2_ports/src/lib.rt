@@ -41,6 +41,14 @@ pub mod uses_slice_trip;
 pub mod uses_slices;
 pub mod uses_streams;
 
+/// What a hub's calls by number take and answer.
+pub mod by_number {
+    pub use iox_hub_laws::{
+        Answered, Copied, Lent, LoanRefusal, MessageHeader, NotMade, Options, Received, Requested,
+        Responded, Written,
+    };
+}
+
 pub use active_request::ActiveRequest;
 pub use client::Client;
 pub use errors::{
@@ -57,13 +65,13 @@ pub use iox_model::reply::{PortReply, Refusal};
 pub use iox_port_commands::{ApplyCommand, Elements};
 pub use iox_store::{Many, One, Payload};
 pub use iox_types::identifiers::{
-    UniqueClientId, UniqueNodeId, UniqueNodeIdError, UniqueServerId, UniqueSystemId,
+    Time, UniqueClientId, UniqueId, UniqueNodeId, UniqueNodeIdError, UniqueServerId, UniqueSystemId,
 };
 pub use iox_types::{
     AllocationStrategy, BackpressureStrategy, ChannelState, RequestHeader, RequestId,
-    ResponseHeader,
+    ResponseHeader, TypeDetailError,
 };
-pub use iox_words::{Words, ZeroCopySend};
+pub use iox_words::{CallbackProgression, Words, ZeroCopySend};
 pub use pending_response::PendingResponse;
 pub use port_factory_client::{PortFactoryClient, PreallocatedClient};
 pub use port_factory_server::{PortFactoryServer, PreallocatedServer};

@@ -2,6 +2,14 @@
 pub use Rattle.iox_types.specs.Compatibility
 pub use Rattle.iox_types.specs.Details
 pub use Rattle.iox_types.specs.Identifiers
+pub use Rattle.iox_types.specs.Layouts
+pub use Rattle.iox_types.specs.Places
+pub use Rattle.iox_types.specs.PortIds
+pub use Rattle.iox_names.specs.Names as BoundedNames
+pub use Rattle.iox_names.specs.Pairs
+pub use Rattle.iox_names.specs.ServiceNames
+pub use Rattle.iox_names.specs.Texts
+pub use Rattle.iox_attributes.specs.Sets
 pub use Rattle.iox_attributes.specs.Verifiers
 pub use Rattle.iox_attributes.specs.Visits
 pub use Rattle.iox_attributes.specs.declared.verification_error.AttributeVerificationError
