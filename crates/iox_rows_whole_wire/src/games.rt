@@ -5,6 +5,7 @@ use super::delivered::Delivered;
 use super::four;
 use super::play::{Ask, Came, Told, begin, steps};
 use super::settings::{NO_FIRE_AND_FORGET, NO_OVERFLOW, OVERFLOW, Service};
+use crate::expected::{equal, holds};
 use iox_wire::Wire;
 use std::alloc::Global;
 use std::process::Abort;
@@ -271,7 +272,7 @@ impl Game {
         let Some(made) = self.wire.events().get(before).copied() else {
             return Ok(call.came);
         };
-        assert_eq!(rt; made.node, call.of.node);
+        equal(rt, made.node, call.of.node);
         let word = Game::word(call);
         let taken = self.delivered.goes_on(rt, made.event, word)?;
         Ok(taken.unwrap_or(call.came))
@@ -280,7 +281,7 @@ impl Game {
     /// The node steps in its call, which is over within its bound, and answered as it may be.
     fn steps(&mut self, rt: &impl Abort, call: Call) -> Result<(), Fail> {
         let made = call.made.saturating_add(1);
-        assert!(rt; made <= bound(call.of.kind, call.ask));
+        holds(rt, made <= bound(call.of.kind, call.ask));
         let before = self.wire.events().len();
         let step = steps(&mut self.wire, call.of.node, 1);
         let came = self.records(rt, call, before)?;
@@ -289,10 +290,10 @@ impl Game {
             Came::UnderWay => self.calls.push(call)?,
             Came::Ended(_, told) => {
                 let may = self.may(call, told);
-                assert_eq!(rt; (told, may), (told, true));
+                equal(rt, (told, may), (told, true));
                 self.ends(call, told)?;
             }
-            came => assert_eq!(rt; came, Came::UnderWay),
+            came => equal(rt, came, Came::UnderWay),
         }
         Ok(())
     }
@@ -326,8 +327,8 @@ fn plays(rt: &impl Abort, alloc: Global, service: Service) -> Result<(), Fail> {
                 game.counts(rt);
             }
         }
-        assert_eq!(rt; game.wire.replies().len(), game.ended);
-        assert!(rt; game.ended > 100);
+        equal(rt, game.wire.replies().len(), game.ended);
+        holds(rt, game.ended > 100);
     }
     Ok(())
 }

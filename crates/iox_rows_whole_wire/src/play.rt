@@ -1,4 +1,5 @@
 //! Tables of what nodes of a wire do, and of what they are answered.
+use crate::expected::equal;
 use iox_model::kind::Role;
 use iox_wire::{
     CopyReply, HandleCall, LendReply, NodeCall, NodePayload, NodeReply, Progress, ReceiveReply,
@@ -320,6 +321,6 @@ fn wanted(act: Act) -> Came {
 pub(super) fn plays(rt: &impl Abort, wire: &mut Wire, table: &[Act]) {
     for (place, act) in table.iter().enumerate() {
         let came = acts(wire, *act);
-        assert_eq!(rt; (place, came), (place, wanted(*act)));
+        equal(rt, (place, came), (place, wanted(*act)));
     }
 }

@@ -5,6 +5,7 @@ use super::four;
 use super::lists::Lists;
 use super::play::{Came, calls};
 use super::settings::{NO_FIRE_AND_FORGET, NO_OVERFLOW, OVERFLOW, Service};
+use crate::expected::{equal, holds};
 use iox_wire::{Wire, WireRefusal};
 use std::alloc::Global;
 use std::process::Abort;
@@ -26,7 +27,7 @@ fn turn(
     let asked = ask(held.of.kind, held.of.number, chance.below(1 << 20) as u64);
     let came = calls(wire, node as u64, asked);
     if dead.get(node).copied().unwrap_or(false) {
-        assert_eq!(rt; came, Came::Refused(WireRefusal::NodeIsDead));
+        equal(rt, came, Came::Refused(WireRefusal::NodeIsDead));
         return Ok(true);
     }
     let told = lists.answer(held, asked)?;
@@ -34,7 +35,7 @@ fn turn(
         Came::Ended(steps, _) => steps,
         _ => 0,
     };
-    assert_eq!(rt; came, Came::Ended(steps, told));
+    equal(rt, came, Came::Ended(steps, told));
     Ok(true)
 }
 
@@ -58,7 +59,7 @@ fn plays(rt: &impl Abort, alloc: Global, service: Service, seed: u64) -> Result<
             }
         }
     }
-    assert!(rt; made > 100);
+    holds(rt, made > 100);
     Ok(())
 }
 
