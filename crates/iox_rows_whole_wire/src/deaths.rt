@@ -98,23 +98,32 @@ impl Game {
     }
 }
 
-/// Two nodes of a wire of that service die, or fewer, and what is left goes on. Says how many died.
-fn plays(rt: &impl Abort, alloc: Global, service: Service, seed: u64) -> Result<usize, Fail> {
-    let mut game = Game::new(alloc, service, seed)?;
-    game.deadly = Some(200);
-    for _ in 0..700 {
+/// So many turns of the game.
+fn turns(rt: &impl Abort, game: &mut Game, count: u32) -> Result<(), Fail> {
+    for _ in 0..count {
         game.turn(rt)?;
     }
+    Ok(())
+}
+
+/// Two nodes die, or fewer, and what is left goes on. Says how many died.
+fn goes_on(rt: &impl Abort, game: &mut Game) -> Result<usize, Fail> {
+    game.deadly = Some(200);
+    turns(rt, game, 700)?;
     game.counts(rt);
     game.deadly = None;
     let ended = game.ended;
-    for _ in 0..300 {
-        game.turn(rt)?;
-    }
+    turns(rt, game, 300)?;
     game.counts(rt);
     holds(rt, game.ended > ended);
     equal(rt, game.wire.replies().len(), game.ended);
     Ok(game.deaths.len())
+}
+
+/// The same on a new wire of that service.
+fn plays(rt: &impl Abort, alloc: Global, service: Service, seed: u64) -> Result<usize, Fail> {
+    let mut game = Game::new(alloc, service, seed)?;
+    goes_on(rt, &mut game)
 }
 
 /// Ends the test where nodes are answered what they may not be, as others die in their calls.

@@ -317,18 +317,29 @@ impl Game {
     }
 }
 
-/// Ends the test where nodes of a wire of that service are answered what they may not be.
+/// Ends the test where nodes are answered what they may not be.
+fn play(rt: &impl Abort, game: &mut Game) -> Result<(), Fail> {
+    for turn in 0..20_000 {
+        game.turn(rt)?;
+        if turn % 64 == 0 {
+            game.counts(rt);
+        }
+    }
+    equal(rt, game.wire.replies().len(), game.ended);
+    holds(rt, game.ended > 100);
+    Ok(())
+}
+
+/// The same on a new wire of that service.
+fn play_by(rt: &impl Abort, alloc: Global, service: Service, chance: u64) -> Result<(), Fail> {
+    let mut game = Game::new(alloc, service, chance)?;
+    play(rt, &mut game)
+}
+
+/// The same by four chances.
 fn plays(rt: &impl Abort, alloc: Global, service: Service) -> Result<(), Fail> {
     for chance in 1..5 {
-        let mut game = Game::new(alloc, service, chance)?;
-        for turn in 0..20_000 {
-            game.turn(rt)?;
-            if turn % 64 == 0 {
-                game.counts(rt);
-            }
-        }
-        equal(rt, game.wire.replies().len(), game.ended);
-        holds(rt, game.ended > 100);
+        play_by(rt, alloc, service, chance)?;
     }
     Ok(())
 }

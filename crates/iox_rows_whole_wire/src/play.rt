@@ -12,7 +12,7 @@ use std::process::Abort;
 const MOST_STEPS: u64 = 1000;
 
 /// A call of the port or the handle of that number. What is written or copied is one word.
-#[derive(Clone, Copy, Debug)]
+#[derive(Clone, Copy)]
 pub(super) enum Ask {
     Loan(u64),
     /// A loan of so many elements.
@@ -66,7 +66,7 @@ pub(super) enum Told {
 }
 
 /// What a node does, and what is to come of it.
-#[derive(Clone, Copy, Debug)]
+#[derive(Clone, Copy)]
 pub(super) enum Act {
     /// It makes a call from its begin to its end, in so many steps, and is answered that.
     Whole(u64, Ask, u64, Told),

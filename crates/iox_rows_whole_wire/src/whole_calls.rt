@@ -39,28 +39,39 @@ fn turn(
     Ok(true)
 }
 
-/// A game of so many calls. After each it may be that a node dies.
-fn plays(rt: &impl Abort, alloc: Global, service: Service, seed: u64) -> Result<(), Fail> {
-    let mut wire = four::open_with(alloc, service, 64)?;
-    let mut lists = Lists::new(alloc, service)?;
+/// It may be that a node dies now.
+fn may_die(wire: &mut Wire, chance: &mut Chance, dead: &mut [bool; 3]) {
+    if chance.below(300) != 0 {
+        return;
+    }
+    let node = chance.below(3);
+    if wire.declare_dead(node as u64).is_ok() {
+        if let Some(place) = dead.get_mut(node) {
+            *place = true;
+        }
+    }
+}
+
+/// A game of 400 turns. After each it may be that a node dies.
+fn goes(rt: &impl Abort, wire: &mut Wire, lists: &mut Lists, seed: u64) -> Result<(), Fail> {
     let mut chance = Chance::new(seed);
     let mut dead = [false; 3];
     let mut made: usize = 0;
     for _ in 0..400 {
-        if turn(rt, &mut wire, &mut lists, &mut chance, &dead)? {
+        if turn(rt, wire, lists, &mut chance, &dead)? {
             made = made.saturating_add(1);
         }
-        if chance.below(300) == 0 {
-            let node = chance.below(3);
-            if wire.declare_dead(node as u64).is_ok() {
-                if let Some(place) = dead.get_mut(node) {
-                    *place = true;
-                }
-            }
-        }
+        may_die(wire, &mut chance, &mut dead);
     }
     holds(rt, made > 100);
     Ok(())
+}
+
+/// The same on a new wire of that service.
+fn plays(rt: &impl Abort, alloc: Global, service: Service, seed: u64) -> Result<(), Fail> {
+    let mut wire = four::open_with(alloc, service, 64)?;
+    let mut lists = Lists::new(alloc, service)?;
+    goes(rt, &mut wire, &mut lists, seed)
 }
 
 /// Ends the test where a wire of that service answers another thing than the lists say.
