@@ -150,8 +150,8 @@ fn serial_is_told_and_not_the_slot(rt: HostRuntime) -> Result<(), Fail> {
     records(&rt, rt.alloc(), &COPY_BEHIND_FOUR, WANTED)
 }
 
-/// The client gives its request up, copies another one and dies behind the push. The server receives
-/// both.
+/// The client gives its request up, copies another one and dies behind the push. The server
+/// receives both.
 fn client_dies_behind_its_push(rt: &impl Abort, wire: &mut Wire) {
     are_answered(rt, wire, &COPY_BEHIND_FOUR);
     are_answered(rt, wire, &[(0, Ask::Release(6), Told::Done)]);

@@ -127,8 +127,8 @@ fn register_three(nodes: &mut Nodes) -> Result<(), Fail> {
     Ok(())
 }
 
-/// The processes of the last three nodes that are listed, where the listing is stopped at the second
-/// one, or is not.
+/// The processes of the last three nodes that are listed, where the listing is stopped at the
+/// second one, or is not.
 fn listed(nodes: &Nodes, stops: bool) -> [Option<u32>; 3] {
     let mut seen = [None; 3];
     nodes.list_node_ids(|id| {
