@@ -1,14 +1,13 @@
 //! Lines and answers as they stand in scripts.
+mod replies;
+
 use crate::expected::{equal, holds};
 use iox_model::command::{Command, PortCommand};
-use iox_model::reply::{Refusal, Reply};
-use iox_script::{
-    LineCause, ParseError, Payload, ScriptCommand, ScriptRefusal, ScriptReply, parse,
-    push_bad_line, push_reply,
-};
+use iox_model::kind::Role;
+use iox_script::{LineCause, ParseError, ScriptCommand, parse};
 use iox_types::identifiers::UniqueSystemId;
 use std::alloc::{AllocError, Global};
-use std::convert::Infallible;
+use std::process::Abort;
 use std::test::Fail;
 
 fn cause_of(alloc: Global, line: &[u8]) -> Option<LineCause> {
@@ -18,15 +17,25 @@ fn cause_of(alloc: Global, line: &[u8]) -> Option<LineCause> {
     }
 }
 
-fn printed(alloc: Global, reply: &ScriptReply) -> Result<Vec<u8>, AllocError> {
-    let mut out = Vec::from_slice(alloc, b"> ")?;
-    push_reply(&mut out, reply)?;
-    Ok(out)
+/// Ends the test where a line is read as another command.
+fn is_read(rt: &impl Abort, alloc: Global, line: &[u8], command: &str) -> Result<(), Fail> {
+    let said = parse(alloc, line)?;
+    let shown = format!(in alloc; "{said:?}")?;
+    equal(rt, shown.as_str(), command);
+    Ok(())
+}
+
+/// The same of each line.
+fn are_read(rt: &impl Abort, alloc: Global, lines: &[(&[u8], &str)]) -> Result<(), Fail> {
+    for (line, command) in lines {
+        is_read(rt, alloc, line, command)?;
+    }
+    Ok(())
 }
 
 #[test]
 fn each_command_is_read(rt: HostRuntime) -> Result<(), Fail> {
-    let lines: [(&[u8], &str); 8] = [
+    const LINES: &[(&[u8], &str)] = &[
         (
             b"set request-overflow 0",
             "Set { key: RequestOverflow, value: 0 }",
@@ -57,61 +66,74 @@ fn each_command_is_read(rt: HostRuntime) -> Result<(), Fail> {
             "Service(Port(SendCopy { node: 1, number: 3, payload: Payload { words: [5, 0, 18446744073709551615] } }))",
         ),
     ];
-    for (line, command) in lines {
-        let said = parse(rt.alloc(), line)?;
-        equal(&rt, format!(in rt.alloc(); "{said:?}")?.as_str(), command);
-    }
-    Ok(())
+    are_read(&rt, rt.alloc(), LINES)
+}
+
+/// The port that a line makes, if it makes one: its role, its node, and the greatest length of its
+/// messages.
+fn port(alloc: Global, line: &[u8]) -> Result<Option<(Role, u64, u64)>, ParseError> {
+    Ok(match parse(alloc, line)? {
+        ScriptCommand::Service(Command::Port(PortCommand::Client { node, options, .. })) => {
+            Some((Role::Client, node, options.max_slice_len))
+        }
+        ScriptCommand::Service(Command::Port(PortCommand::Server { node, options, .. })) => {
+            Some((Role::Server, node, options.max_slice_len))
+        }
+        _ => None,
+    })
 }
 
 #[test]
 fn a_port_is_made_with_the_length_of_its_messages(rt: HostRuntime) -> Result<(), Fail> {
-    match parse(rt.alloc(), b"client 0 8")? {
-        ScriptCommand::Service(Command::Port(PortCommand::Client { node, options, .. })) => {
-            equal(&rt, (node, options.max_slice_len), (0, 8));
-        }
-        _ => assert!(rt; false, "no client"),
-    }
-    match parse(rt.alloc(), b"server 1 0000000000000000000000000016")? {
-        ScriptCommand::Service(Command::Port(PortCommand::Server { node, options, .. })) => {
-            equal(&rt, (node, options.max_slice_len), (1, 16));
-        }
-        _ => assert!(rt; false, "no server"),
-    }
+    let client = port(rt.alloc(), b"client 0 8")?;
+    equal(&rt, client, Some((Role::Client, 0, 8)));
+    let server = port(rt.alloc(), b"server 1 0000000000000000000000000016")?;
+    equal(&rt, server, Some((Role::Server, 1, 16)));
+    Ok(())
+}
+
+/// The id of a creator.
+const CREATOR: UniqueSystemId = UniqueSystemId {
+    process: 1,
+    seconds: 0,
+    nanoseconds: 0,
+    counter: 0,
+};
+
+/// Ends the test where a line does not create a service of that name.
+fn creates(rt: &impl Abort, alloc: Global, line: &[u8], bytes: &[u8]) -> Result<(), Fail> {
+    let said = parse(alloc, line)?;
+    let ScriptCommand::Create { name, id } = &said else {
+        return Err(Fail::from("no service to create"));
+    };
+    equal(rt, name.as_bytes(), bytes);
+    equal(rt, *id, CREATOR);
     Ok(())
 }
 
 #[test]
 fn the_name_of_a_service_is_read_from_digits_of_either_case(rt: HostRuntime) -> Result<(), Fail> {
-    let names: [(&[u8], &[u8]); 3] = [
+    const NAMES: &[(&[u8], &[u8])] = &[
         (b"create 612f62 1 0 0 0", b"a/b"),
         (b"create 2F 1 0 0 0", b"/"),
         (b"create 00fF 1 0 0 0", b"\0\xff"),
     ];
-    for (line, bytes) in names {
-        match parse(rt.alloc(), line)? {
-            ScriptCommand::Create { name, id } => {
-                equal(&rt, name.as_bytes(), bytes);
-                equal(
-                    &rt,
-                    id,
-                    UniqueSystemId {
-                        process: 1,
-                        seconds: 0,
-                        nanoseconds: 0,
-                        counter: 0,
-                    },
-                );
-            }
-            _ => assert!(rt; false, "no create"),
-        }
+    for (line, bytes) in NAMES {
+        creates(&rt, rt.alloc(), line, bytes)?;
     }
     Ok(())
 }
 
+/// Ends the test where a line is not bad for that cause.
+fn are_bad(rt: &impl Abort, alloc: Global, lines: &[(&[u8], LineCause)]) {
+    for (line, cause) in lines {
+        equal(rt, (*line, cause_of(alloc, line)), (*line, Some(*cause)));
+    }
+}
+
 #[test]
 fn a_bad_line_gives_its_first_cause(rt: HostRuntime) {
-    let lines: [(&[u8], LineCause); 34] = [
+    const LINES: &[(&[u8], LineCause)] = &[
         (b"", LineCause::UnknownCommand),
         (b" ", LineCause::UnknownCommand),
         (b"sets request-overflow 0", LineCause::UnknownCommand),
@@ -147,9 +169,7 @@ fn a_bad_line_gives_its_first_cause(rt: HostRuntime) {
         (b"create 616 x 0 0 0", LineCause::BadText),
         (b"create 6g 1 0 0 0", LineCause::BadText),
     ];
-    for (line, cause) in lines {
-        assert_eq!(rt; cause_of(rt.alloc(), line), Some(cause), "at {line:?}");
-    }
+    are_bad(&rt, rt.alloc(), LINES);
 }
 
 #[test]
@@ -183,144 +203,24 @@ fn longest_create(alloc: Global) -> Result<Vec<u8>, AllocError> {
     Ok(line)
 }
 
+/// Ends the test where a line does not send these words.
+fn sends(rt: &impl Abort, alloc: Global, line: &[u8], words: &[u64]) -> Result<(), Fail> {
+    let said = parse(alloc, line)?;
+    let ScriptCommand::Service(Command::Port(PortCommand::SendCopy { payload, .. })) = &said else {
+        return Err(Fail::from("no words to send"));
+    };
+    holds(rt, payload.as_slice() == words);
+    Ok(())
+}
+
 #[test]
 fn the_longest_lines_are_read_whole(rt: HostRuntime) -> Result<(), Fail> {
-    let said = parse(rt.alloc(), longest_send(rt.alloc())?.as_slice())?;
-    match &said {
-        ScriptCommand::Service(Command::Port(PortCommand::SendCopy { payload, .. })) => {
-            let words = vec![in rt.alloc(); 7; 32_761]?;
-            assert!(rt; payload.as_slice() == words.as_slice());
-        }
-        _ => assert!(rt; false, "no words to send"),
-    }
-    let said = parse(rt.alloc(), longest_create(rt.alloc())?.as_slice())?;
-    match &said {
-        ScriptCommand::Create { name, .. } => {
-            let bytes = vec![in rt.alloc(); b'a'; 32_760]?;
-            holds(&rt, name.as_bytes() == bytes.as_slice());
-        }
-        _ => assert!(rt; false, "no service to create"),
-    }
-    Ok(())
-}
-
-#[test]
-fn each_reply_is_a_line_behind_what_stands_there(rt: HostRuntime) -> Result<(), Fail> {
-    let words = Payload::new(Vec::from_slice(rt.alloc(), &[0, 7, u64::MAX])?);
-    equal(&rt, words.as_slice(), [0, 7, u64::MAX].as_slice());
-    let empty = Payload::new(Vec::new(rt.alloc()));
-    let numbers = Payload::new(Vec::from_slice(rt.alloc(), &[1, 3])?);
-    let replies: [(Reply<Payload, Infallible>, &[u8]); 12] = [
-        (Reply::Done, b"> ok\n"),
-        (Reply::Node(0), b"> node 0\n"),
-        (Reply::Client(1), b"> client 1\n"),
-        (Reply::Server(20), b"> server 20\n"),
-        (Reply::Handle(u64::MAX), b"> handle 18446744073709551615\n"),
-        (Reply::Sent(2), b"> sent 2\n"),
-        (Reply::Nothing, b"> none\n"),
-        (Reply::Words(words), b"> words 0 7 18446744073709551615\n"),
-        (Reply::Words(empty), b"> words\n"),
-        (Reply::Answer(true), b"> true\n"),
-        (Reply::Answer(false), b"> false\n"),
-        (Reply::Listed(numbers), b"> list 1 3\n"),
-    ];
-    for (reply, line) in replies {
-        let reply = ScriptReply::Service(reply);
-        equal(&rt, printed(rt.alloc(), &reply)?.as_slice(), line);
-    }
-    Ok(())
-}
-
-#[test]
-fn each_refusal_has_its_name(rt: HostRuntime) -> Result<(), Fail> {
-    let refusals: [Refusal<Infallible>; 36] = [
-        Refusal::UnknownNode,
-        Refusal::NodeIsDead,
-        Refusal::NodeIsAlive,
-        Refusal::UnknownNumber,
-        Refusal::ForeignNumber,
-        Refusal::WrongKind,
-        Refusal::CallsSpent,
-        Refusal::WrongLength,
-        Refusal::ExceedsMaxLoanSize,
-        Refusal::ExceedsMaxLoans,
-        Refusal::OutOfMemory,
-        Refusal::WantOfMemory,
-        Refusal::ExceedsMaxActiveRequests,
-        Refusal::UnableToDeliver,
-        Refusal::ExceedsMaxBorrows,
-        Refusal::UnableToCreatePortTag,
-        Refusal::UnableToCreateDataSegment,
-        Refusal::ExceedsMaxSupportedClients,
-        Refusal::ExceedsMaxSupportedServers,
-        Refusal::MarkedForDestruction,
-        Refusal::InvalidNodeId,
-        Refusal::NodeIdInUse,
-        Refusal::IncompatibleRequestTypes,
-        Refusal::IncompatibleResponseTypes,
-        Refusal::LimitTooLarge,
-        Refusal::ExceedsMaxNumberOfNodes,
-        Refusal::HasPorts,
-        Refusal::MessagesUnderWay,
-        Refusal::GrowingStrategy,
-        Refusal::HandlerSet,
-        Refusal::UnsuitableAlignment,
-        Refusal::TooManyWords,
-        Refusal::Busy,
-        Refusal::AtRest,
-        Refusal::AccessesSpent,
-        Refusal::NotOnThreads,
-    ];
-    for refusal in refusals {
-        let line = format!(in rt.alloc(); "> refused {refusal:?}\n")?;
-        let reply = ScriptReply::Service(Reply::Refused(refusal));
-        equal(
-            &rt,
-            printed(rt.alloc(), &reply)?.as_slice(),
-            line.as_bytes(),
-        );
-    }
-    let refusals = [
-        ScriptRefusal::ServiceExists,
-        ScriptRefusal::NoService,
-        ScriptRefusal::ExceedsMaximumLength,
-        ScriptRefusal::InvalidContent,
-    ];
-    for refusal in refusals {
-        let line = format!(in rt.alloc(); "> refused {refusal:?}\n")?;
-        let reply = ScriptReply::Refused(refusal);
-        equal(
-            &rt,
-            printed(rt.alloc(), &reply)?.as_slice(),
-            line.as_bytes(),
-        );
-    }
-    Ok(())
-}
-
-#[test]
-fn a_bad_line_is_answered_with_its_number_and_cause(rt: HostRuntime) -> Result<(), Fail> {
-    let causes: [(u64, LineCause, &[u8]); 5] = [
-        (1, LineCause::TooLong, b"bad line 1: too long\n"),
-        (
-            2,
-            LineCause::UnknownCommand,
-            b"bad line 2: unknown command\n",
-        ),
-        (30, LineCause::WrongCount, b"bad line 30: wrong count\n"),
-        (400, LineCause::BadNumber, b"bad line 400: bad number\n"),
-        (
-            u64::MAX,
-            LineCause::BadText,
-            b"bad line 18446744073709551615: bad text\n",
-        ),
-    ];
-    for (number, cause, line) in causes {
-        let mut out = Vec::new(rt.alloc());
-        push_bad_line(&mut out, number, cause)?;
-        equal(&rt, out.as_slice(), line);
-    }
-    Ok(())
+    let line = longest_send(rt.alloc())?;
+    let words = vec![in rt.alloc(); 7; 32_761]?;
+    sends(&rt, rt.alloc(), &line, &words)?;
+    let line = longest_create(rt.alloc())?;
+    let bytes = vec![in rt.alloc(); b'a'; 32_760]?;
+    creates(&rt, rt.alloc(), &line, &bytes)
 }
 
 #[test]

@@ -3,6 +3,7 @@ use super::chances::{Kind, Owned, PORTS};
 use super::games::Game;
 use super::play::{Ask, begin};
 use super::settings::{NO_FIRE_AND_FORGET, NO_OVERFLOW, OVERFLOW, Service};
+use crate::expected::{equal, holds};
 use iox_wire::WireRefusal;
 use std::alloc::Global;
 use std::process::Abort;
@@ -60,11 +61,15 @@ impl Game {
     pub(super) fn stays_dead(&mut self, rt: &impl Abort, death: Death) {
         let node = death.node;
         let dead = Some(WireRefusal::NodeIsDead);
-        assert_eq!(rt; self.wire.step(node).err(), dead);
-        assert_eq!(rt; begin(&mut self.wire, node, Ask::Receive(node)).err(), dead);
-        assert_eq!(rt; self.wire.declare_dead(node).err(), dead);
-        assert_eq!(rt; self.wire.died_after(node), Some(death.events));
-        assert!(rt; self.wire.under_way(node).is_some());
+        equal(rt, self.wire.step(node).err(), dead);
+        equal(
+            rt,
+            begin(&mut self.wire, node, Ask::Receive(node)).err(),
+            dead,
+        );
+        equal(rt, self.wire.declare_dead(node).err(), dead);
+        equal(rt, self.wire.died_after(node), Some(death.events));
+        holds(rt, self.wire.under_way(node).is_some());
     }
 
     /// The port keeps what it had as its node died, or what its node at rest has. In a call it
@@ -73,14 +78,14 @@ impl Game {
         let kept = self.wire.kept(port.number);
         if let Some(death) = self.death_of(port.node) {
             let had = death.kept.get(port.number as usize).copied();
-            assert_eq!(rt; Some(kept), had);
+            equal(rt, Some(kept), had);
             return;
         }
         if self.calls.iter().any(|call| call.of.node == port.node) {
-            assert!(rt; kept <= pool(port));
+            holds(rt, kept <= pool(port));
             return;
         }
-        assert_eq!(rt; (port.number, kept), (port.number, self.keeps(port)));
+        equal(rt, (port.number, kept), (port.number, self.keeps(port)));
     }
 
     /// Ends the test where a port keeps another number of messages, or has another number
@@ -93,23 +98,32 @@ impl Game {
     }
 }
 
-/// Two nodes of a wire of that service die, or fewer, and what is left goes on. Says how many died.
-fn plays(rt: &impl Abort, alloc: Global, service: Service, seed: u64) -> Result<usize, Fail> {
-    let mut game = Game::new(alloc, service, seed)?;
-    game.deadly = Some(200);
-    for _ in 0..700 {
+/// So many turns of the game.
+fn turns(rt: &impl Abort, game: &mut Game, count: u32) -> Result<(), Fail> {
+    for _ in 0..count {
         game.turn(rt)?;
     }
+    Ok(())
+}
+
+/// Two nodes die, or fewer, and what is left goes on. Says how many died.
+fn goes_on(rt: &impl Abort, game: &mut Game) -> Result<usize, Fail> {
+    game.deadly = Some(200);
+    turns(rt, game, 700)?;
     game.counts(rt);
     game.deadly = None;
     let ended = game.ended;
-    for _ in 0..300 {
-        game.turn(rt)?;
-    }
+    turns(rt, game, 300)?;
     game.counts(rt);
-    assert!(rt; game.ended > ended);
-    assert_eq!(rt; game.wire.replies().len(), game.ended);
+    holds(rt, game.ended > ended);
+    equal(rt, game.wire.replies().len(), game.ended);
     Ok(game.deaths.len())
+}
+
+/// The same on a new wire of that service.
+fn plays(rt: &impl Abort, alloc: Global, service: Service, seed: u64) -> Result<usize, Fail> {
+    let mut game = Game::new(alloc, service, seed)?;
+    goes_on(rt, &mut game)
 }
 
 /// Ends the test where nodes are answered what they may not be, as others die in their calls.
@@ -118,7 +132,7 @@ fn play_all(rt: &impl Abort, alloc: Global, service: Service) -> Result<(), Fail
     for seed in 1..101 {
         deaths = deaths.saturating_add(plays(rt, alloc, service, seed)?);
     }
-    assert!(rt; deaths > 100);
+    holds(rt, deaths > 100);
     Ok(())
 }
 

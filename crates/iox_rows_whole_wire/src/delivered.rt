@@ -1,5 +1,6 @@
 //! The messages that a wire's events delivered, each with its word: where they wait, whom they came
 //! to, and which were not got back.
+use crate::expected::{equal, holds};
 use iox_wire::{Event, Way, Wire};
 use std::alloc::Global;
 use std::process::Abort;
@@ -51,12 +52,12 @@ impl Delivered {
     /// The oldest message on the way is taken; its word came to that port for the first time.
     fn takes(&mut self, rt: &impl Abort, way: Way, serial: u64) -> Result<Option<u64>, Fail> {
         let taken = self.leaves(way);
-        assert_eq!(rt; taken.map(|entry| entry.serial), Some(serial));
+        equal(rt, taken.map(|entry| entry.serial), Some(serial));
         let Some(entry) = taken else {
             return Ok(None);
         };
         let came = (way.receiver, entry.word);
-        assert!(rt; !self.came.iter().any(|other| *other == came));
+        holds(rt, !self.came.iter().any(|other| *other == came));
         self.came.push(came)?;
         Ok(Some(entry.word))
     }
@@ -71,7 +72,7 @@ impl Delivered {
     ) -> Result<Option<u64>, Fail> {
         match event {
             Event::Deliver { way, serial } => {
-                assert!(rt; self.place(way, serial).is_none());
+                holds(rt, self.place(way, serial).is_none());
                 let waits = true;
                 self.entries.push(Entry {
                     way,
@@ -81,13 +82,13 @@ impl Delivered {
                 })?;
             }
             Event::Take { way, serial } => return self.takes(rt, way, serial),
-            Event::Evict { way } => assert!(rt; self.leaves(way).is_some()),
+            Event::Evict { way } => holds(rt, self.leaves(way).is_some()),
             Event::GetBack { way, serial } => {
                 let place = self.place(way, serial);
                 let waits = place
                     .and_then(|place| self.entries.get(place))
                     .map(|entry| entry.waits);
-                assert_eq!(rt; waits, Some(false));
+                equal(rt, waits, Some(false));
                 self.entries
                     .retain(|entry| entry.way != way || entry.serial != serial);
             }
@@ -112,7 +113,7 @@ impl Delivered {
                         lane,
                     };
                     let count = wire.outstanding(sender, receiver, lane);
-                    assert_eq!(rt; (way, count), (way, self.count(way)));
+                    equal(rt, (way, count), (way, self.count(way)));
                 }
             }
         }

@@ -5,6 +5,7 @@ use super::delivered::Delivered;
 use super::four;
 use super::play::{Ask, Came, Told, begin, steps};
 use super::settings::{NO_FIRE_AND_FORGET, NO_OVERFLOW, OVERFLOW, Service};
+use crate::expected::{equal, holds};
 use iox_wire::Wire;
 use std::alloc::Global;
 use std::process::Abort;
@@ -271,7 +272,7 @@ impl Game {
         let Some(made) = self.wire.events().get(before).copied() else {
             return Ok(call.came);
         };
-        assert_eq!(rt; made.node, call.of.node);
+        equal(rt, made.node, call.of.node);
         let word = Game::word(call);
         let taken = self.delivered.goes_on(rt, made.event, word)?;
         Ok(taken.unwrap_or(call.came))
@@ -280,7 +281,7 @@ impl Game {
     /// The node steps in its call, which is over within its bound, and answered as it may be.
     fn steps(&mut self, rt: &impl Abort, call: Call) -> Result<(), Fail> {
         let made = call.made.saturating_add(1);
-        assert!(rt; made <= bound(call.of.kind, call.ask));
+        holds(rt, made <= bound(call.of.kind, call.ask));
         let before = self.wire.events().len();
         let step = steps(&mut self.wire, call.of.node, 1);
         let came = self.records(rt, call, before)?;
@@ -289,10 +290,10 @@ impl Game {
             Came::UnderWay => self.calls.push(call)?,
             Came::Ended(_, told) => {
                 let may = self.may(call, told);
-                assert_eq!(rt; (told, may), (told, true));
+                equal(rt, (told, may), (told, true));
                 self.ends(call, told)?;
             }
-            came => assert_eq!(rt; came, Came::UnderWay),
+            came => equal(rt, came, Came::UnderWay),
         }
         Ok(())
     }
@@ -316,18 +317,29 @@ impl Game {
     }
 }
 
-/// Ends the test where nodes of a wire of that service are answered what they may not be.
+/// Ends the test where nodes are answered what they may not be.
+fn play(rt: &impl Abort, game: &mut Game) -> Result<(), Fail> {
+    for turn in 0..20_000 {
+        game.turn(rt)?;
+        if turn % 64 == 0 {
+            game.counts(rt);
+        }
+    }
+    equal(rt, game.wire.replies().len(), game.ended);
+    holds(rt, game.ended > 100);
+    Ok(())
+}
+
+/// The same on a new wire of that service.
+fn play_by(rt: &impl Abort, alloc: Global, service: Service, chance: u64) -> Result<(), Fail> {
+    let mut game = Game::new(alloc, service, chance)?;
+    play(rt, &mut game)
+}
+
+/// The same by four chances.
 fn plays(rt: &impl Abort, alloc: Global, service: Service) -> Result<(), Fail> {
     for chance in 1..5 {
-        let mut game = Game::new(alloc, service, chance)?;
-        for turn in 0..20_000 {
-            game.turn(rt)?;
-            if turn % 64 == 0 {
-                game.counts(rt);
-            }
-        }
-        assert_eq!(rt; game.wire.replies().len(), game.ended);
-        assert!(rt; game.ended > 100);
+        play_by(rt, alloc, service, chance)?;
     }
     Ok(())
 }

@@ -1,7 +1,9 @@
 //! Of which kind of call each reply is.
 use super::play::{Ask, begin};
 use super::settings::{NO_OVERFLOW, open};
+use crate::expected::equal;
 use iox_wire::{NodeReply, Progress, Wire};
+use std::process::Abort;
 use std::test::Fail;
 
 /// No call of these tests takes as many steps.
@@ -46,9 +48,17 @@ fn ends_as(wire: &mut Wire, node: u64, ask: Ask) -> Option<Kind> {
     None
 }
 
+/// Ends the test where the reply to one of these calls is of another kind.
+fn end_as(rt: &impl Abort, wire: &mut Wire, table: &[(u64, Ask, Kind)]) {
+    for (place, (node, ask, wanted)) in table.iter().enumerate() {
+        let came = ends_as(wire, *node, *ask);
+        equal(rt, (place, came), (place, Some(*wanted)));
+    }
+}
+
 #[test]
 fn each_reply_is_of_the_kind_of_its_call(rt: HostRuntime) -> Result<(), Fail> {
-    let table = [
+    const TABLE: &[(u64, Ask, Kind)] = &[
         (0, Ask::CopyRequest(0, 7), Kind::CopiesRequest),
         // one request is active, as many as may be
         (0, Ask::CopyRequest(0, 8), Kind::CopiesRequest),
@@ -75,9 +85,6 @@ fn each_reply_is_of_the_kind_of_its_call(rt: HostRuntime) -> Result<(), Fail> {
         (0, Ask::Send(5), Kind::SendsRequest),
     ];
     let mut wire = open(rt.alloc(), NO_OVERFLOW)?;
-    for (place, (node, ask, wanted)) in table.iter().enumerate() {
-        let came = ends_as(&mut wire, *node, *ask);
-        assert_eq!(rt; (place, came), (place, Some(*wanted)));
-    }
+    end_as(&rt, &mut wire, TABLE);
     Ok(())
 }

@@ -18,6 +18,8 @@ mod delivered;
 #[cfg(test)]
 mod events;
 #[cfg(test)]
+mod expected;
+#[cfg(test)]
 mod four;
 #[cfg(test)]
 mod games;

@@ -1,4 +1,5 @@
 //! Tables of what nodes of a wire do, and of what they are answered.
+use crate::expected::equal;
 use iox_model::kind::Role;
 use iox_wire::{
     CopyReply, HandleCall, LendReply, NodeCall, NodePayload, NodeReply, Progress, ReceiveReply,
@@ -11,7 +12,7 @@ use std::process::Abort;
 const MOST_STEPS: u64 = 1000;
 
 /// A call of the port or the handle of that number. What is written or copied is one word.
-#[derive(Clone, Copy, Debug)]
+#[derive(Clone, Copy)]
 pub(super) enum Ask {
     Loan(u64),
     /// A loan of so many elements.
@@ -65,7 +66,7 @@ pub(super) enum Told {
 }
 
 /// What a node does, and what is to come of it.
-#[derive(Clone, Copy, Debug)]
+#[derive(Clone, Copy)]
 pub(super) enum Act {
     /// It makes a call from its begin to its end, in so many steps, and is answered that.
     Whole(u64, Ask, u64, Told),
@@ -320,6 +321,6 @@ fn wanted(act: Act) -> Came {
 pub(super) fn plays(rt: &impl Abort, wire: &mut Wire, table: &[Act]) {
     for (place, act) in table.iter().enumerate() {
         let came = acts(wire, *act);
-        assert_eq!(rt; (place, came), (place, wanted(*act)));
+        equal(rt, (place, came), (place, wanted(*act)));
     }
 }

@@ -1,8 +1,9 @@
 //! The finished calls that a wire keeps: each with its node, its call, its reply, and the numbers of
 //! events before its begin and before its end.
-use super::counts::answers;
-use super::play::{Ask, Came, Told, begin, replied, steps};
+use super::counts::are_answered;
+use super::play::{Act, Ask, Came, Told, begin, plays, replied, steps};
 use super::settings::{NO_OVERFLOW, OVERFLOW, open};
+use crate::expected::{equal, holds};
 use iox_model::kind::Role;
 use iox_wire::{FinishedCall, HandleCall, NodeCall, NodePayload, ToldCall, Wire};
 use std::process::Abort;
@@ -51,31 +52,37 @@ fn row(call: FinishedCall<'_>) -> Row {
 
 /// Ends the test where other calls are finished than these.
 fn are_finished(rt: &impl Abort, wire: &Wire, rows: &[Row]) {
-    assert_eq!(rt; wire.replies().len(), rows.len());
-    assert_eq!(rt; wire.replies().is_empty(), rows.is_empty());
+    equal(rt, wire.replies().len(), rows.len());
+    equal(rt, wire.replies().is_empty(), rows.is_empty());
     for (place, wanted) in rows.iter().enumerate() {
-        assert_eq!(rt; wire.replies().get(place).map(row), Some(*wanted));
+        equal(rt, wire.replies().get(place).map(row), Some(*wanted));
     }
-    assert!(rt; wire.replies().get(rows.len()).is_none());
+    holds(rt, wire.replies().get(rows.len()).is_none());
 }
 
 #[test]
 fn reply_has_its_call_and_its_words(rt: HostRuntime) -> Result<(), Fail> {
     let mut wire = open(rt.alloc(), OVERFLOW)?;
+    const READ: Kind = Kind::Handle(HandleCall::Read);
     are_finished(&rt, &wire, &[]);
-    answers(&mut wire, 0, Ask::CopyRequest(0, 11));
-    answers(&mut wire, 1, Ask::Receive(1));
-    answers(&mut wire, 1, Ask::Read(2));
-    answers(&mut wire, 1, Ask::Loan(2));
-    answers(&mut wire, 1, Ask::WriteResponse(3, 12));
-    let read = Kind::Handle(HandleCall::Read);
+    are_answered(
+        &rt,
+        &mut wire,
+        &[
+            (0, Ask::CopyRequest(0, 11), Told::Handle(2)),
+            (1, Ask::Receive(1), Told::Handle(2)),
+            (1, Ask::Read(2), Told::Word(11)),
+            (1, Ask::Loan(2), Told::Handle(3)),
+            (1, Ask::WriteResponse(3, 12), Told::Done),
+        ],
+    );
     are_finished(
         &rt,
         &wire,
         &[
             (0, Kind::SendCopy, 0, Some(11), Told::Handle(2), 0, 4),
             (1, Kind::Receive, 1, None, Told::Handle(2), 4, 5),
-            (1, read, 2, None, Told::Word(11), 5, 5),
+            (1, READ, 2, None, Told::Word(11), 5, 5),
             (1, Kind::Loan(1), 2, None, Told::Handle(3), 5, 9),
             (1, Kind::Write, 3, Some(12), Told::Done, 9, 9),
         ],
@@ -88,10 +95,15 @@ fn reply_has_its_call_and_its_words(rt: HostRuntime) -> Result<(), Fail> {
 fn replies_stand_in_the_order_of_their_ends(rt: HostRuntime) -> Result<(), Fail> {
     let mut wire = open(rt.alloc(), NO_OVERFLOW)?;
     begin(&mut wire, 1, Ask::HasRequests(1))?;
-    assert_eq!(rt; steps(&mut wire, 1, 1), Came::UnderWay);
-    answers(&mut wire, 0, Ask::CopyRequest(0, 11));
+    equal(&rt, steps(&mut wire, 1, 1), Came::UnderWay);
+    let copied = [(0, Ask::CopyRequest(0, 11), Told::Handle(2))];
+    are_answered(&rt, &mut wire, &copied);
     let events = wire.events().len();
-    assert_eq!(rt; steps(&mut wire, 1, 1), Came::Ended(1, Told::Answer(true)));
+    equal(
+        &rt,
+        steps(&mut wire, 1, 1),
+        Came::Ended(1, Told::Answer(true)),
+    );
     are_finished(
         &rt,
         &wire,
@@ -111,15 +123,38 @@ fn replies_stand_in_the_order_of_their_ends(rt: HostRuntime) -> Result<(), Fail>
     Ok(())
 }
 
+/// The server looks, the client dies in the last step of its copy, and the server looks again.
+fn client_dies_in_its_copy(rt: &impl Abort, wire: &mut Wire) {
+    const LOOK: [(u64, Ask, Told); 1] = [(1, Ask::HasRequests(1), Told::Answer(false))];
+    are_answered(rt, wire, &LOOK);
+    equal(rt, under_way(wire, 0), None);
+    plays(
+        rt,
+        wire,
+        &[
+            Act::Begins(0, Ask::CopyRequest(0, 11)),
+            Act::Goes(0, 18),
+            Act::Dies(0),
+        ],
+    );
+    are_answered(rt, wire, &LOOK);
+}
+
+/// What the call of the node that is under way asks, if one is, and how many events came before it.
+fn under_way(wire: &Wire, node: u64) -> Option<((Kind, u64, Option<u64>), usize)> {
+    let under = wire.under_way(node)?;
+    Some((asked(under.call), under.begun))
+}
+
+/// Behind how many events the nodes died, if they did.
+fn deaths(wire: &Wire) -> (Option<usize>, Option<usize>) {
+    (wire.died_after(0), wire.died_after(1))
+}
+
 #[test]
 fn call_of_a_dead_node_stays_under_way(rt: HostRuntime) -> Result<(), Fail> {
     let mut wire = open(rt.alloc(), NO_OVERFLOW)?;
-    answers(&mut wire, 1, Ask::HasRequests(1));
-    assert!(rt; wire.under_way(0).is_none());
-    begin(&mut wire, 0, Ask::CopyRequest(0, 11))?;
-    assert_eq!(rt; steps(&mut wire, 0, 18), Came::UnderWay);
-    wire.declare_dead(0)?;
-    answers(&mut wire, 1, Ask::HasRequests(1));
+    client_dies_in_its_copy(&rt, &mut wire);
     are_finished(
         &rt,
         &wire,
@@ -128,44 +163,47 @@ fn call_of_a_dead_node_stays_under_way(rt: HostRuntime) -> Result<(), Fail> {
             (1, Kind::HasRequests, 1, None, Told::Answer(false), 5, 6),
         ],
     );
-    let Some(under) = wire.under_way(0) else {
-        return Err(Fail::from("no call"));
-    };
-    assert_eq!(rt;
-        (asked(under.call), under.begun),
-        ((Kind::SendCopy, 0, Some(11)), 1)
-    );
-    assert_eq!(rt; (wire.died_after(0), wire.died_after(1)), (Some(5), None));
-    assert!(rt; wire.under_way(1).is_none());
-    assert!(rt; wire.under_way(2).is_none());
+    let copy = Some(((Kind::SendCopy, 0, Some(11)), 1));
+    equal(&rt, under_way(&wire, 0), copy);
+    equal(&rt, deaths(&wire), (Some(5), None));
+    equal(&rt, under_way(&wire, 1), None);
+    equal(&rt, under_way(&wire, 2), None);
     Ok(())
+}
+
+const WORDS: &[u64] = &[1, 2, 3, 4, 5, 6, 7, 8, 9, 10, 11, 12];
+
+const COPY: NodeCall<'static> = NodeCall::SendCopy {
+    number: 0,
+    payload: NodePayload {
+        role: Role::Client,
+        words: WORDS,
+    },
+};
+
+/// What the first finished call copied by port 0, if it copied something.
+fn first_copied(wire: &Wire) -> Option<&[u64]> {
+    match wire.replies().get(0)?.call {
+        ToldCall::SendCopy { number: 0, words } => Some(words),
+        _ => None,
+    }
 }
 
 /// The longest message of the wire has ten words.
 #[test]
 fn words_past_the_longest_message_are_left_out(rt: HostRuntime) -> Result<(), Fail> {
     let mut wire = open(rt.alloc(), OVERFLOW)?;
-    let words = [1, 2, 3, 4, 5, 6, 7, 8, 9, 10, 11, 12];
-    let payload = NodePayload {
-        role: Role::Client,
-        words: &words,
-    };
-    wire.begin(0, NodeCall::SendCopy { number: 0, payload })?;
-    assert_eq!(rt;
+    wire.begin(0, COPY)?;
+    equal(
+        &rt,
         steps(&mut wire, 0, 1),
-        Came::Ended(1, Told::ExceedsMaxLoanSize)
+        Came::Ended(1, Told::ExceedsMaxLoanSize),
     );
-    answers(&mut wire, 0, Ask::CopyRequest(0, 13));
-    let kept = wire.replies().get(0).map(|call| call.call);
-    let Some(
-        ToldCall::SendCopy {
-            number: 0,
-            words: told,
-        },
-    ) = kept
-    else {
-        return Err(Fail::from("another call"));
-    };
-    assert_eq!(rt; told, &words[..10]);
+    are_answered(
+        &rt,
+        &mut wire,
+        &[(0, Ask::CopyRequest(0, 13), Told::Handle(2))],
+    );
+    equal(&rt, first_copied(&wire), Some(&WORDS[..10]));
     Ok(())
 }

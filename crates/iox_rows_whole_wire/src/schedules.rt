@@ -1,8 +1,9 @@
 //! Schedules on the wire where each limit is 1.
 use super::play::{Act, Ask, Told, plays, replied};
 use super::settings::{NO_OVERFLOW, open, open_with};
+use crate::expected::{equal, holds};
 use iox_model::kind::Role;
-use iox_wire::{HandleCall, NodeCall, NodePayload, WireEntry, WireRefusal};
+use iox_wire::{HandleCall, NodeCall, NodePayload, Wire, WireEntry, WireRefusal};
 use std::alloc::Global;
 use std::process::Abort;
 use std::test::Fail;
@@ -49,37 +50,37 @@ fn runs_on(
 ) -> Result<(), Fail> {
     let mut wire = open(alloc, NO_OVERFLOW)?;
     wire.run(schedule)?;
-    assert_eq!(rt; wire.replies().len(), ended);
+    equal(rt, wire.replies().len(), ended);
     plays(rt, &mut wire, table);
     Ok(())
 }
 
 #[test]
 fn schedule_passes_over_what_is_refused(rt: HostRuntime) -> Result<(), Fail> {
-    let schedule = [
+    const SCHEDULE: &[WireEntry<'static>] = &[
         WireEntry::Step(0),
         WireEntry::Die(1),
         WireEntry::Step(1),
         WireEntry::Die(9),
         WireEntry::Begin(1, RECEIVE),
     ];
-    let table = [
+    const TABLE: &[Act] = &[
         Act::RefusedStep(0, WireRefusal::AtRest),
         Act::RefusedStep(1, WireRefusal::NodeIsDead),
     ];
-    runs_on(&rt, rt.alloc(), &schedule, 0, &table)
+    runs_on(&rt, rt.alloc(), SCHEDULE, 0, TABLE)
 }
 
 #[test]
 fn node_dies_in_its_look(rt: HostRuntime) -> Result<(), Fail> {
-    let schedule = [
+    const SCHEDULE: &[WireEntry<'static>] = &[
         WireEntry::Begin(1, LOOK),
         WireEntry::Step(1),
         WireEntry::Die(1),
         WireEntry::Step(1),
         WireEntry::Begin(1, LOOK),
     ];
-    runs_on(&rt, rt.alloc(), &schedule, 0, &[])
+    runs_on(&rt, rt.alloc(), SCHEDULE, 0, &[])
 }
 
 #[test]
@@ -87,35 +88,44 @@ fn each_step_of_a_schedule_is_made(rt: HostRuntime) -> Result<(), Fail> {
     let mut schedule = Vec::new(rt.alloc());
     add(&mut schedule, 0, copy(&[456]), 18)?;
     add(&mut schedule, 1, RECEIVE, 2)?;
-    let table = [
+    const TABLE: &[Act] = &[
         Act::RefusedStep(1, WireRefusal::AtRest),
         Act::Ends(0, 1, Told::Handle(2)),
         Act::Whole(1, Ask::Receive(1), 11, Told::Handle(2)),
         Act::Whole(1, Ask::Read(2), 1, Told::Word(456)),
     ];
-    runs_on(&rt, rt.alloc(), &schedule, 1, &table)
+    runs_on(&rt, rt.alloc(), &schedule, 1, TABLE)
+}
+
+const LOAN: NodeCall<'static> = NodeCall::Loan {
+    number: 0,
+    elements: 1,
+};
+
+const SEND: NodeCall<'static> = NodeCall::Send { number: 2 };
+
+const READ: NodeCall<'static> = NodeCall::Handle {
+    number: 2,
+    call: HandleCall::Read,
+};
+
+/// The client lends a request, writes 789 to it and sends it. The server receives it and reads it.
+fn add_lending(schedule: &mut Vec<WireEntry<'_>>) -> Result<(), Fail> {
+    add(schedule, 0, LOAN, 9)?;
+    add(schedule, 0, write(&[789]), 1)?;
+    add(schedule, 0, SEND, 9)?;
+    add(schedule, 1, RECEIVE, 11)?;
+    add(schedule, 1, READ, 1)
 }
 
 #[test]
 fn schedule_lends_writes_and_sends(rt: HostRuntime) -> Result<(), Fail> {
-    let mut wire = open(rt.alloc(), NO_OVERFLOW)?;
-    let loan = NodeCall::Loan {
-        number: 0,
-        elements: 1,
-    };
-    let read = NodeCall::Handle {
-        number: 2,
-        call: HandleCall::Read,
-    };
     let mut schedule = Vec::new(rt.alloc());
-    add(&mut schedule, 0, loan, 9)?;
-    add(&mut schedule, 0, write(&[789]), 1)?;
-    add(&mut schedule, 0, NodeCall::Send { number: 2 }, 9)?;
-    add(&mut schedule, 1, RECEIVE, 11)?;
-    add(&mut schedule, 1, read, 1)?;
+    add_lending(&mut schedule)?;
+    let mut wire = open(rt.alloc(), NO_OVERFLOW)?;
     wire.run(&schedule)?;
-    assert_eq!(rt; wire.replies().len(), 5);
-    assert_eq!(rt; wire.words_read(1), Some(&[789u64][..]));
+    equal(&rt, wire.replies().len(), 5);
+    equal(&rt, wire.words_read(1), Some(&[789u64][..]));
     Ok(())
 }
 
@@ -125,53 +135,65 @@ fn call_that_is_under_way_goes_on(rt: HostRuntime) -> Result<(), Fail> {
     add(&mut schedule, 0, copy(&[456]), 19)?;
     add(&mut schedule, 1, RECEIVE, 0)?;
     add(&mut schedule, 1, RECEIVE, 1)?;
-    let table = [Act::Ends(1, 10, Told::Handle(2))];
-    runs_on(&rt, rt.alloc(), &schedule, 1, &table)
+    const TABLE: &[Act] = &[Act::Ends(1, 10, Told::Handle(2))];
+    runs_on(&rt, rt.alloc(), &schedule, 1, TABLE)
+}
+
+/// Room is made for a schedule, which is run, and then for a step more.
+fn runs_in_its_room(wire: &mut Wire, schedule: &[WireEntry<'_>]) -> Result<(), Fail> {
+    wire.reserve(schedule.len())?;
+    wire.run(schedule)?;
+    wire.reserve(1)?;
+    Ok(())
+}
+
+/// The reply of the first finished call.
+fn first_reply(wire: &Wire) -> Option<Told> {
+    let finished = wire.replies().get(0)?;
+    Some(replied(finished.reply))
 }
 
 #[test]
 fn schedule_is_played_in_the_room_that_was_made(rt: HostRuntime) -> Result<(), Fail> {
-    let mut wire = open(rt.alloc(), NO_OVERFLOW)?;
     let mut schedule = Vec::new(rt.alloc());
     add(&mut schedule, 0, copy(&[456]), 19)?;
-    wire.reserve(schedule.len())?;
-    wire.run(&schedule)?;
-    wire.reserve(1)?;
-    assert_eq!(rt; wire.replies().len(), 1);
-    let told = wire
-        .replies()
-        .get(0)
-        .map(|finished| replied(finished.reply));
-    assert_eq!(rt; told, Some(Told::Handle(2)));
+    let mut wire = open(rt.alloc(), NO_OVERFLOW)?;
+    runs_in_its_room(&mut wire, &schedule)?;
+    equal(&rt, wire.replies().len(), 1);
+    equal(&rt, first_reply(&wire), Some(Told::Handle(2)));
     Ok(())
 }
 
 #[test]
 fn room_for_too_many_steps_is_refused(rt: HostRuntime) -> Result<(), Fail> {
     let mut wire = open(rt.alloc(), NO_OVERFLOW)?;
-    assert!(rt; wire.reserve(1 << 62).is_err());
+    holds(&rt, wire.reserve(1 << 62).is_err());
     // the wire goes on as before
-    let table = [
+    const TABLE: &[Act] = &[
         Act::RefusedStep(0, WireRefusal::AtRest),
         Act::Whole(0, Ask::CopyRequest(0, 456), 19, Told::Handle(2)),
         Act::Whole(1, Ask::Receive(1), 11, Told::Handle(2)),
         Act::Whole(1, Ask::Read(2), 1, Told::Word(456)),
     ];
-    plays(&rt, &mut wire, &table);
+    plays(&rt, &mut wire, TABLE);
     Ok(())
 }
 
 #[test]
 fn call_without_room_for_its_handle_is_refused(rt: HostRuntime) -> Result<(), Fail> {
     let mut wire = open_with(rt.alloc(), NO_OVERFLOW, 0)?;
-    let told = wire.run(&[WireEntry::Begin(1, RECEIVE), WireEntry::Die(1)]);
-    assert_eq!(rt; told.err(), Some(WireRefusal::WantOfMemory));
-    let table = [
+    const SCHEDULE: &[WireEntry<'static>] = &[WireEntry::Begin(1, RECEIVE), WireEntry::Die(1)];
+    equal(
+        &rt,
+        wire.run(SCHEDULE).err(),
+        Some(WireRefusal::WantOfMemory),
+    );
+    const TABLE: &[Act] = &[
         Act::RefusedCall(1, Ask::Receive(7), WireRefusal::UnknownNumber),
         Act::RefusedCall(1, Ask::Receive(1), WireRefusal::WantOfMemory),
         Act::RefusedCall(0, Ask::CopyRequest(0, 456), WireRefusal::WantOfMemory),
         Act::Whole(1, Ask::HasRequests(1), 2, Told::Answer(false)),
     ];
-    plays(&rt, &mut wire, &table);
+    plays(&rt, &mut wire, TABLE);
     Ok(())
 }

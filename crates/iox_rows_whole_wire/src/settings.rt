@@ -14,7 +14,7 @@ use std::process::Abort;
 use std::test::Fail;
 
 /// What such a service allows.
-#[derive(Clone, Copy, Debug)]
+#[derive(Clone, Copy)]
 pub(super) struct Service {
     /// Whether a full queue of requests gives up its oldest one.
     pub(super) request_overflow: bool,

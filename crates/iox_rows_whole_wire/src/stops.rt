@@ -2,6 +2,7 @@
 use super::play::{Act, Ask, Came, begin, plays, steps};
 use super::settings::{Service, open};
 use super::{four, wide};
+use crate::expected::equal;
 use iox_wire::{Wire, WireRefusal};
 use std::alloc::Global;
 use std::process::Abort;
@@ -64,12 +65,46 @@ fn opened(alloc: Global, on: On) -> Result<Wire, Fail> {
 fn goes(rt: &impl Abort, wire: &mut Wire, stop: Stop<'_>, made: u64, between: Between<'_>) {
     let mut left = made;
     if between.made <= made {
-        assert_eq!(rt; steps(wire, stop.node, between.made), Came::UnderWay);
+        equal(rt, steps(wire, stop.node, between.made), Came::UnderWay);
         plays(rt, wire, between.acts);
         left = made.saturating_sub(between.made);
     }
     let came = steps(wire, stop.node, left);
-    assert_eq!(rt; (made, came == Came::UnderWay), (made, made < stop.steps));
+    equal(
+        rt,
+        (made, came == Came::UnderWay),
+        (made, made < stop.steps),
+    );
+}
+
+/// The node stops behind so many steps of its call, while others do something behind one of them.
+fn stops_behind(
+    rt: &impl Abort,
+    wire: &mut Wire,
+    stop: Stop<'_>,
+    made: u64,
+    between: Between<'_>,
+) -> Result<(), Fail> {
+    plays(rt, wire, stop.before);
+    begin(wire, stop.node, stop.ask)?;
+    goes(rt, wire, stop, made, between);
+    wire.declare_dead(stop.node)?;
+    let dead = Some(WireRefusal::NodeIsDead);
+    equal(rt, wire.step(stop.node).err(), dead);
+    plays(rt, wire, after(stop, made));
+    Ok(())
+}
+
+/// The same on a new wire.
+fn stops_on_a_wire(
+    rt: &impl Abort,
+    alloc: Global,
+    stop: Stop<'_>,
+    made: u64,
+    between: Between<'_>,
+) -> Result<(), Fail> {
+    let mut wire = opened(alloc, stop.on)?;
+    stops_behind(rt, &mut wire, stop, made, between)
 }
 
 /// Ends the test where something else comes of a stop behind some number of steps, while others do
@@ -81,13 +116,7 @@ pub(super) fn stops_around(
     between: Between<'_>,
 ) -> Result<(), Fail> {
     for made in 0..stop.steps.saturating_add(1) {
-        let mut wire = opened(alloc, stop.on)?;
-        plays(rt, &mut wire, stop.before);
-        begin(&mut wire, stop.node, stop.ask)?;
-        goes(rt, &mut wire, stop, made, between);
-        wire.declare_dead(stop.node)?;
-        assert_eq!(rt; wire.step(stop.node).err(), Some(WireRefusal::NodeIsDead));
-        plays(rt, &mut wire, after(stop, made));
+        stops_on_a_wire(rt, alloc, stop, made, between)?;
     }
     Ok(())
 }

@@ -40,16 +40,19 @@ const NONE_CAME: [Act; 5] = [
     Act::Whole(0, Ask::CopyRequest(0, 6), 19, Told::Handle(3)),
 ];
 
+/// Plays the one table on a wire, and then the other.
+fn plays_behind(rt: &impl Abort, alloc: Global, before: &[Act], table: &[Act]) -> Result<(), Fail> {
+    let mut wire = open(alloc, NO_OVERFLOW)?;
+    plays(rt, &mut wire, before);
+    plays(rt, &mut wire, table);
+    Ok(())
+}
+
 /// Ends the test where a call of the client's is not refused so with its only step, behind which it
 /// keeps so many messages, or where something else comes of a stop.
 fn refuses(rt: &impl Abort, alloc: Global, ask: Ask, told: Told, kept: usize) -> Result<(), Fail> {
-    let mut wire = open(alloc, NO_OVERFLOW)?;
-    plays(rt, &mut wire, &LIMITED);
-    plays(
-        rt,
-        &mut wire,
-        &[Act::Whole(0, ask, 1, told), Act::Keeps(0, kept)],
-    );
+    let refused = [Act::Whole(0, ask, 1, told), Act::Keeps(0, kept)];
+    plays_behind(rt, alloc, &LIMITED, &refused)?;
     let stop = Stop {
         on: On::Ones(NO_OVERFLOW),
         before: &LIMITED,
@@ -69,13 +72,8 @@ fn refuses(rt: &impl Abort, alloc: Global, ask: Ask, told: Told, kept: usize) ->
 
 /// The same of a call of the server's, which keeps its loan.
 fn server_is_refused(rt: &impl Abort, alloc: Global, ask: Ask, told: Told) -> Result<(), Fail> {
-    let mut wire = open(alloc, NO_OVERFLOW)?;
-    plays(rt, &mut wire, &SERVER_IS_LIMITED);
-    plays(
-        rt,
-        &mut wire,
-        &[Act::Whole(1, ask, 1, told), Act::Keeps(1, 1)],
-    );
+    let refused = [Act::Whole(1, ask, 1, told), Act::Keeps(1, 1)];
+    plays_behind(rt, alloc, &SERVER_IS_LIMITED, &refused)?;
     let stop = Stop {
         on: On::Ones(NO_OVERFLOW),
         before: &SERVER_IS_LIMITED,
@@ -87,32 +85,45 @@ fn server_is_refused(rt: &impl Abort, alloc: Global, ask: Ask, told: Told) -> Re
     stops(rt, alloc, stop)
 }
 
+/// The same of each of these.
+fn all_refuse(rt: &impl Abort, alloc: Global, calls: &[(Ask, Told, usize)]) -> Result<(), Fail> {
+    for (ask, told, kept) in calls {
+        refuses(rt, alloc, *ask, *told, *kept)?;
+    }
+    Ok(())
+}
+
 #[test]
 fn client_is_refused_in_one_step(rt: HostRuntime) -> Result<(), Fail> {
-    let active = Told::ExceedsMaxActiveRequests;
-    let calls = [
+    const CALLS: &[(Ask, Told, usize)] = &[
         (Ask::Loan(0), Told::ExceedsMaxLoans, 2),
         (Ask::LoanOf(0, 2), Told::ExceedsMaxLoanSize, 2),
         (Ask::CopyRequest(0, 8), Told::ExceedsMaxLoans, 2),
         (Ask::WriteNoRequest(3), Told::WrongLength, 2),
-        (Ask::Send(3), active, 1),
+        (Ask::Send(3), Told::ExceedsMaxActiveRequests, 1),
     ];
-    for (ask, told, kept) in calls {
-        refuses(&rt, rt.alloc(), ask, told, kept)?;
+    all_refuse(&rt, rt.alloc(), CALLS)
+}
+
+/// And of each of these.
+fn server_is_always_refused(
+    rt: &impl Abort,
+    alloc: Global,
+    calls: &[(Ask, Told)],
+) -> Result<(), Fail> {
+    for (ask, told) in calls {
+        server_is_refused(rt, alloc, *ask, *told)?;
     }
     Ok(())
 }
 
 #[test]
 fn server_is_refused_in_one_step(rt: HostRuntime) -> Result<(), Fail> {
-    let calls = [
+    const CALLS: &[(Ask, Told)] = &[
         (Ask::Loan(2), Told::ExceedsMaxLoans),
         (Ask::LoanOf(2, 2), Told::ExceedsMaxLoanSize),
         (Ask::CopyResponse(2, 8), Told::ExceedsMaxLoans),
         (Ask::WriteNoResponse(3), Told::WrongLength),
     ];
-    for (ask, told) in calls {
-        server_is_refused(&rt, rt.alloc(), ask, told)?;
-    }
-    Ok(())
+    server_is_always_refused(&rt, rt.alloc(), CALLS)
 }

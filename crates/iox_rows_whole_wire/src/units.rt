@@ -6,6 +6,7 @@ ghost use Rattle.iox_rows_whole_wire.specs.Units.{IsPlanOfUnits, unit_client, un
 
 use super::play::{Act, Ask, Told, plays};
 use super::settings::{NO_OVERFLOW, limits, port};
+use crate::expected::equal;
 use iox_model::kind::Role;
 use iox_types::{MessageTypeDetails, RequestHeader, ResponseHeader, TypeVariant};
 use iox_wire::{Wire, WireRefusal};
@@ -118,7 +119,7 @@ fn plays_on(
     let mut wire = open(alloc, many)?;
     plays(rt, &mut wire, table);
     if elements.is_some() {
-        assert_eq!(rt; wire.words().get(6).copied(), elements);
+        equal(rt, wire.words().get(6).copied(), elements);
     }
     Ok(())
 }

@@ -5,6 +5,7 @@ use super::four;
 use super::lists::Lists;
 use super::play::{Came, calls};
 use super::settings::{NO_FIRE_AND_FORGET, NO_OVERFLOW, OVERFLOW, Service};
+use crate::expected::{equal, holds};
 use iox_wire::{Wire, WireRefusal};
 use std::alloc::Global;
 use std::process::Abort;
@@ -26,7 +27,7 @@ fn turn(
     let asked = ask(held.of.kind, held.of.number, chance.below(1 << 20) as u64);
     let came = calls(wire, node as u64, asked);
     if dead.get(node).copied().unwrap_or(false) {
-        assert_eq!(rt; came, Came::Refused(WireRefusal::NodeIsDead));
+        equal(rt, came, Came::Refused(WireRefusal::NodeIsDead));
         return Ok(true);
     }
     let told = lists.answer(held, asked)?;
@@ -34,32 +35,43 @@ fn turn(
         Came::Ended(steps, _) => steps,
         _ => 0,
     };
-    assert_eq!(rt; came, Came::Ended(steps, told));
+    equal(rt, came, Came::Ended(steps, told));
     Ok(true)
 }
 
-/// A game of so many calls. After each it may be that a node dies.
-fn plays(rt: &impl Abort, alloc: Global, service: Service, seed: u64) -> Result<(), Fail> {
-    let mut wire = four::open_with(alloc, service, 64)?;
-    let mut lists = Lists::new(alloc, service)?;
+/// It may be that a node dies now.
+fn may_die(wire: &mut Wire, chance: &mut Chance, dead: &mut [bool; 3]) {
+    if chance.below(300) != 0 {
+        return;
+    }
+    let node = chance.below(3);
+    if wire.declare_dead(node as u64).is_ok() {
+        if let Some(place) = dead.get_mut(node) {
+            *place = true;
+        }
+    }
+}
+
+/// A game of 400 turns. After each it may be that a node dies.
+fn goes(rt: &impl Abort, wire: &mut Wire, lists: &mut Lists, seed: u64) -> Result<(), Fail> {
     let mut chance = Chance::new(seed);
     let mut dead = [false; 3];
     let mut made: usize = 0;
     for _ in 0..400 {
-        if turn(rt, &mut wire, &mut lists, &mut chance, &dead)? {
+        if turn(rt, wire, lists, &mut chance, &dead)? {
             made = made.saturating_add(1);
         }
-        if chance.below(300) == 0 {
-            let node = chance.below(3);
-            if wire.declare_dead(node as u64).is_ok() {
-                if let Some(place) = dead.get_mut(node) {
-                    *place = true;
-                }
-            }
-        }
+        may_die(wire, &mut chance, &mut dead);
     }
-    assert!(rt; made > 100);
+    holds(rt, made > 100);
     Ok(())
+}
+
+/// The same on a new wire of that service.
+fn plays(rt: &impl Abort, alloc: Global, service: Service, seed: u64) -> Result<(), Fail> {
+    let mut wire = four::open_with(alloc, service, 64)?;
+    let mut lists = Lists::new(alloc, service)?;
+    goes(rt, &mut wire, &mut lists, seed)
 }
 
 /// Ends the test where a wire of that service answers another thing than the lists say.

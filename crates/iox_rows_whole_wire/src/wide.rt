@@ -6,6 +6,7 @@ ghost use Rattle.iox_rows_whole_wire.specs.Wide.{AreWideTerms, HasUserHeader, Is
 ghost use Rattle.iox_rows_whole_wire.specs.Wide.{IsWidePort, wide_limits};
 
 use super::play::{Act, Ask, Told, plays};
+use crate::expected::equal;
 use iox_model::kind::Role;
 use iox_types::{MessageTypeDetails, RequestHeader, ResponseHeader, TypeDetail, TypeVariant};
 use iox_wire::{Wire, WireNewError, new_refusal};
@@ -142,7 +143,7 @@ fn plays_on(rt: &impl Abort, alloc: Global, huge: bool, table: &[Act]) -> Result
 #[test]
 fn wire_of_too_many_words_does_not_open(rt: HostRuntime) -> Result<(), Fail> {
     let opened = open(rt.alloc(), true)?;
-    assert_eq!(rt; opened.err(), Some(WireNewError::TooManyWords));
+    equal(&rt, opened.err(), Some(WireNewError::TooManyWords));
     Ok(())
 }
 
@@ -156,28 +157,47 @@ fn refusal(alloc: Global, waiting: usize, first: u64) -> Result<Option<WireNewEr
     Ok(new_refusal(&plan, &terms))
 }
 
+/// Ends the test where there is another reason for one of these.
+fn are_refused(
+    rt: &impl Abort,
+    alloc: Global,
+    plans: &[(usize, u64, Option<WireNewError>)],
+) -> Result<(), Fail> {
+    for (waiting, first, wanted) in plans {
+        equal(rt, refusal(alloc, *waiting, *first)?, *wanted);
+    }
+    Ok(())
+}
+
 #[test]
 fn too_many_words_are_told_before_spent_numbers(rt: HostRuntime) -> Result<(), Fail> {
-    let alloc = rt.alloc();
     // 2^63 words, 4 fewer, and more than a number counts
-    let (most, fewer, more) = ((1 << 61) - 21, (1 << 61) - 22, usize::MAX);
-    let (spent, last) = (1 << 63, (1 << 63) - 1);
-    let words = Some(WireNewError::TooManyWords);
-    let numbers = Some(WireNewError::NumbersSpent);
-    assert_eq!(rt; refusal(alloc, 1, 2)?, None);
-    assert_eq!(rt; refusal(alloc, fewer, last)?, None);
-    assert_eq!(rt; refusal(alloc, most, last)?, words);
-    assert_eq!(rt; refusal(alloc, more, last)?, words);
-    assert_eq!(rt; refusal(alloc, most, spent)?, words);
-    assert_eq!(rt; refusal(alloc, fewer, spent)?, numbers);
-    assert_eq!(rt; refusal(alloc, 1, u64::MAX)?, numbers);
-    Ok(())
+    const MOST: usize = (1 << 61) - 21;
+    const FEWER: usize = (1 << 61) - 22;
+    const MORE: usize = usize::MAX;
+    const SPENT: u64 = 1 << 63;
+    const LAST: u64 = (1 << 63) - 1;
+    const WORDS: Option<WireNewError> = Some(WireNewError::TooManyWords);
+    const NUMBERS: Option<WireNewError> = Some(WireNewError::NumbersSpent);
+    are_refused(
+        &rt,
+        rt.alloc(),
+        &[
+            (1, 2, None),
+            (FEWER, LAST, None),
+            (MOST, LAST, WORDS),
+            (MORE, LAST, WORDS),
+            (MOST, SPENT, WORDS),
+            (FEWER, SPENT, NUMBERS),
+            (1, u64::MAX, NUMBERS),
+        ],
+    )
 }
 
 #[test]
 fn refusal_is_shown_by_its_name(rt: HostRuntime) -> Result<(), Fail> {
     let text = WireNewError::NumbersSpent.to_string(rt.alloc())?;
-    assert_eq!(rt; text.as_str(), "WireNewError::NumbersSpent");
+    equal(&rt, text.as_str(), "WireNewError::NumbersSpent");
     Ok(())
 }
 

@@ -22,8 +22,8 @@ fn joined<'a>(
 
 /// Node 1 dies and is cleaned up, after the one and before the other.
 fn dies(rt: &impl Abort, alloc: Global, before: Script<'_>, after: Script<'_>) -> Result<(), Fail> {
-    let ends = [(Ask::Die(1), Told::Done), (Ask::Cleanup(1), Told::Done)];
-    let script = joined(alloc, before, &ends, after)?;
+    const ENDS: Script<'static> = &[(Ask::Die(1), Told::Done), (Ask::Cleanup(1), Told::Done)];
+    let script = joined(alloc, before, ENDS, after)?;
     plays(rt, alloc, 20, &script)
 }
 
@@ -52,7 +52,7 @@ fn leaves(
 
 #[test]
 fn a_server_that_is_cleaned_up_is_as_one_that_leaves(rt: HostRuntime) -> Result<(), Fail> {
-    let before = [
+    const BEFORE: Script<'static> = &[
         (Ask::Join(2), Told::Node(1)),
         (Ask::Client(0), Told::Client(0)),
         (Ask::Server(1), Told::Server(1)),
@@ -67,7 +67,7 @@ fn a_server_that_is_cleaned_up_is_as_one_that_leaves(rt: HostRuntime) -> Result<
         (Ask::Loan(1, 6), Told::Handle(7)),
         (Ask::Receive(0, 2), Told::Handle(8)),
     ];
-    let after = [
+    const AFTER: Script<'static> = &[
         (Ask::Nodes, Told::Listed(&[0])),
         (Ask::Clients, Told::Listed(&[0])),
         (Ask::Servers, Told::Listed(&[])),
@@ -85,13 +85,13 @@ fn a_server_that_is_cleaned_up_is_as_one_that_leaves(rt: HostRuntime) -> Result<
         (Ask::Read(0, 11), Told::Words(&[6])),
         (Ask::Receive(0, 9), Told::Nothing),
     ];
-    dies(&rt, rt.alloc(), &before, &after)?;
-    leaves(&rt, rt.alloc(), &before, &[1, 5, 6, 7], &after)
+    dies(&rt, rt.alloc(), BEFORE, AFTER)?;
+    leaves(&rt, rt.alloc(), BEFORE, &[1, 5, 6, 7], AFTER)
 }
 
 #[test]
 fn a_client_that_is_cleaned_up_is_as_one_that_leaves(rt: HostRuntime) -> Result<(), Fail> {
-    let before = [
+    const BEFORE: Script<'static> = &[
         (Ask::Join(2), Told::Node(1)),
         (Ask::Server(0), Told::Server(0)),
         (Ask::Client(1), Told::Client(1)),
@@ -105,7 +105,7 @@ fn a_client_that_is_cleaned_up_is_as_one_that_leaves(rt: HostRuntime) -> Result<
         (Ask::Hint(1, 2), Told::Done),
         (Ask::Hinted(0, 4), Told::Answer(true)),
     ];
-    let after = [
+    const AFTER: Script<'static> = &[
         (Ask::Nodes, Told::Listed(&[0])),
         (Ask::Clients, Told::Listed(&[])),
         (Ask::Servers, Told::Listed(&[0])),
@@ -122,6 +122,6 @@ fn a_client_that_is_cleaned_up_is_as_one_that_leaves(rt: HostRuntime) -> Result<
         (Ask::Receive(0, 0), Told::Handle(10)),
         (Ask::Read(0, 10), Told::Words(&[6])),
     ];
-    dies(&rt, rt.alloc(), &before, &after)?;
-    leaves(&rt, rt.alloc(), &before, &[1, 2, 3, 5, 6], &after)
+    dies(&rt, rt.alloc(), BEFORE, AFTER)?;
+    leaves(&rt, rt.alloc(), BEFORE, &[1, 2, 3, 5, 6], AFTER)
 }

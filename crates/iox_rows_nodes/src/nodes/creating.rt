@@ -1,6 +1,6 @@
 //! Services that are made, and those that may not be.
 use super::service::{id, new, settings};
-use super::{Ask, Told, plays};
+use super::{Ask, Row, Told, plays};
 use crate::expected::equal;
 use iox_control::Settings;
 use iox_model::reply::Refusal;
@@ -69,7 +69,7 @@ fn a_creator_is_told_the_first_test_that_fails(rt: HostRuntime) {
 #[test]
 fn a_new_service_has_its_creator_alone(rt: HostRuntime) -> Result<(), Fail> {
     // A limit of no nodes is one of a single node.
-    let script = [
+    const SCRIPT: &[Row<'static>] = &[
         (Ask::Closed, Told::Answer(false)),
         (Ask::Nodes, Told::Listed(&[0])),
         (Ask::Clients, Told::Listed(&[])),
@@ -81,5 +81,5 @@ fn a_new_service_has_its_creator_alone(rt: HostRuntime) -> Result<(), Fail> {
         (Ask::Client(1), Told::Refused(Refusal::UnknownNode)),
         (Ask::Client(0), Told::Client(0)),
     ];
-    plays(&rt, rt.alloc(), 0, &script)
+    plays(&rt, rt.alloc(), 0, SCRIPT)
 }

@@ -1,7 +1,7 @@
 //! Messages for full receivers, of ports that have a handler. Nothing overflows: a client has one
 //! active request, and one response may wait.
 use super::service::settings;
-use super::{Ask, Told, plays_with};
+use super::{Ask, Row, Told, plays_with};
 use iox_control::Settings;
 use iox_model::reply::Refusal;
 use iox_nodes::BackpressureAction;
@@ -11,7 +11,7 @@ use std::process::Abort;
 use std::test::Fail;
 
 /// Ends the test where a service in which nothing overflows answers otherwise.
-fn plays(rt: &impl Abort, alloc: Global, script: &[(Ask, Told<'_>)]) -> Result<(), Fail> {
+fn plays(rt: &impl Abort, alloc: Global, script: &[Row<'_>]) -> Result<(), Fail> {
     let full_at_one = Settings {
         active_requests: 1,
         response_buffer: 1,
@@ -103,12 +103,12 @@ fn a_handler_follows_a_strategy_that_discards(rt: HostRuntime) -> Result<(), Fai
 
 #[test]
 fn a_handler_is_of_its_own_port_alone(rt: HostRuntime) -> Result<(), Fail> {
-    let action = BackpressureAction::DiscardData;
-    let strategy = BackpressureStrategy::RetryUntilDelivered;
-    let script = [
+    const ACTION: BackpressureAction = BackpressureAction::DiscardData;
+    const STRATEGY: BackpressureStrategy = BackpressureStrategy::RetryUntilDelivered;
+    const SCRIPT: &[Row<'static>] = &[
         (Ask::Join(2), Told::Node(1)),
         (Ask::Server(1), Told::Server(0)),
-        (Ask::HandledClient(0, action, strategy), Told::Client(1)),
+        (Ask::HandledClient(0, ACTION, STRATEGY), Told::Client(1)),
         (Ask::Client(1), Told::Client(2)),
         (Ask::Request(0, 1, 5), Told::Handle(3)),
         (Ask::Release(0, 3), Told::Done),
@@ -126,5 +126,5 @@ fn a_handler_is_of_its_own_port_alone(rt: HostRuntime) -> Result<(), Fail> {
         (Ask::Release(2, 7), Told::Done),
         (Ask::Request(2, 6, 9), REFUSED),
     ];
-    plays(&rt, rt.alloc(), &script)
+    plays(&rt, rt.alloc(), SCRIPT)
 }

@@ -1,6 +1,6 @@
 //! Which nodes are registered with a service.
 use super::asking::nodes;
-use super::{Ask, TheService, Told, Way, goes, service};
+use super::{Ask, Row, TheService, Told, Way, goes, service};
 use crate::expected::equal;
 use std::alloc::{AllocError, Global};
 use std::process::Abort;
@@ -25,7 +25,7 @@ pub(super) fn as_many_as_listed(
 
 /// Asks a new service in this way one after another. Then none is registered, and the register is
 /// locked.
-fn locks(rt: &impl Abort, alloc: Global, way: Way, script: &[(Ask, Told<'_>)]) -> Result<(), Fail> {
+fn locks(rt: &impl Abort, alloc: Global, way: Way, script: &[Row<'_>]) -> Result<(), Fail> {
     let mut service = service::first(alloc, 20)?;
     goes(rt, alloc, &mut service, way, script)?;
     equal(rt, registered(&service), (0, true));
@@ -34,7 +34,7 @@ fn locks(rt: &impl Abort, alloc: Global, way: Way, script: &[(Ask, Told<'_>)]) -
 
 #[test]
 fn the_last_that_is_cleaned_up_locks_the_register(rt: HostRuntime) -> Result<(), Fail> {
-    let script = [
+    const SCRIPT: &[Row<'static>] = &[
         (Ask::Join(2), Told::Node(1)),
         (Ask::Die(1), Told::Done),
         (Ask::Die(0), Told::Done),
@@ -44,7 +44,7 @@ fn the_last_that_is_cleaned_up_locks_the_register(rt: HostRuntime) -> Result<(),
         (Ask::Closed, Told::Answer(true)),
     ];
     for way in [Way::Called, Way::Served, Way::Tried] {
-        locks(&rt, rt.alloc(), way, &script)?;
+        locks(&rt, rt.alloc(), way, SCRIPT)?;
     }
     Ok(())
 }

@@ -59,7 +59,7 @@ fn plays(
 
 #[test]
 fn a_request_and_its_response_are_one_run(rt: HostRuntime) -> Result<(), Fail> {
-    let asks = [
+    const ASKS: &[Ask] = &[
         Ask::Join(2),
         Ask::Client(0),
         Ask::Server(1),
@@ -70,7 +70,7 @@ fn a_request_and_its_response_are_one_run(rt: HostRuntime) -> Result<(), Fail> {
         Ask::Receive(0, 2),
         Ask::Read(0, 4),
     ];
-    let wanted = [
+    const WANTED: &[Told<'static>] = &[
         Told::Node(1),
         Told::Client(0),
         Told::Server(1),
@@ -86,12 +86,12 @@ fn a_request_and_its_response_are_one_run(rt: HostRuntime) -> Result<(), Fail> {
         response_overflow: false,
         ..settings(20)
     };
-    plays(&rt, rt.alloc(), queues, &[&asks], &wanted)
+    plays(&rt, rt.alloc(), queues, &[ASKS], WANTED)
 }
 
 #[test]
 fn a_run_goes_on_behind_what_is_refused(rt: HostRuntime) -> Result<(), Fail> {
-    let asks = [
+    const ASKS: &[Ask] = &[
         Ask::Client(1),
         Ask::Join(1),
         Ask::JoinUnfit(2),
@@ -111,7 +111,7 @@ fn a_run_goes_on_behind_what_is_refused(rt: HostRuntime) -> Result<(), Fail> {
         Ask::Receive(1, 1),
         Ask::Read(1, 4),
     ];
-    let wanted = [
+    const WANTED: &[Told<'static>] = &[
         Told::Refused(Refusal::UnknownNode),
         Told::Refused(Refusal::NodeIdInUse),
         Told::Refused(Refusal::IncompatibleRequestTypes),
@@ -131,12 +131,12 @@ fn a_run_goes_on_behind_what_is_refused(rt: HostRuntime) -> Result<(), Fail> {
         Told::Handle(4),
         Told::Words(&[5]),
     ];
-    plays(&rt, rt.alloc(), settings(2), &[&asks], &wanted)
+    plays(&rt, rt.alloc(), settings(2), &[ASKS], WANTED)
 }
 
 #[test]
 fn nodes_come_and_go_until_the_last_is_gone(rt: HostRuntime) -> Result<(), Fail> {
-    let asks = [
+    const ASKS: &[Ask] = &[
         Ask::Join(2),
         Ask::Join(3),
         Ask::Nodes,
@@ -160,7 +160,7 @@ fn nodes_come_and_go_until_the_last_is_gone(rt: HostRuntime) -> Result<(), Fail>
         Ask::Servers,
         Ask::Join(4),
     ];
-    let wanted = [
+    const WANTED: &[Told<'static>] = &[
         Told::Node(1),
         Told::Node(2),
         Told::Listed(&[0, 1, 2]),
@@ -184,16 +184,16 @@ fn nodes_come_and_go_until_the_last_is_gone(rt: HostRuntime) -> Result<(), Fail>
         Told::Listed(&[]),
         Told::Refused(Refusal::MarkedForDestruction),
     ];
-    plays(&rt, rt.alloc(), settings(20), &[&asks], &wanted)
+    plays(&rt, rt.alloc(), settings(20), &[ASKS], WANTED)
 }
 
 #[test]
 fn a_further_run_puts_its_replies_behind(rt: HostRuntime) -> Result<(), Fail> {
-    let runs: [&[Ask]; 3] = [
+    const RUNS: &[&[Ask]] = &[
         &[Ask::Client(0)],
         &[],
         &[Ask::Request(0, 0, 8), Ask::Read(0, 1)],
     ];
-    let wanted = [Told::Client(0), Told::Handle(1), Told::Words(&[8])];
-    plays(&rt, rt.alloc(), settings(20), &runs, &wanted)
+    const WANTED: &[Told<'static>] = &[Told::Client(0), Told::Handle(1), Told::Words(&[8])];
+    plays(&rt, rt.alloc(), settings(20), RUNS, WANTED)
 }

@@ -1,4 +1,4 @@
-use crate::expected::equal;
+use crate::expected::{equal, holds};
 use iox_configs::config::{Config, Defaults};
 use iox_configs::path::{Path, PathError};
 use iox_names::TextError;
@@ -105,5 +105,5 @@ fn first_settings_are_the_documented_ones(rt: HostRuntime) {
         defaults.publish_subscribe.publisher_max_loaned_samples,
         2,
     );
-    assert!(rt; Config::default().defaults == defaults);
+    holds(&rt, Config::default().defaults == defaults);
 }

@@ -68,31 +68,41 @@ fn a_handle_of_the_other_kind_is_foreign(
     );
 }
 
+/// Two readers and a writer come and go.
+fn come_and_go(rt: &impl Abort, config: &mut DynamicConfig) -> Result<(), Fail> {
+    let first = add_reader(config, 1)?;
+    let second = add_reader(config, 2)?;
+    let other = add_writer(config, 1)?;
+    both_are_full(rt, config)?;
+    equal(rt, config.reader_details(second), Some(reader(2)?));
+    equal(rt, config.writer_details(other), Some(writer(1)?));
+    a_handle_of_the_other_kind_is_foreign(rt, config, first, other);
+    each_listing_stops_where_it_is_told_to(rt, config);
+    a_released_handle_is_spent(rt, config, second);
+    equal(rt, config.release_writer_handle(other), Ok(()));
+    Ok(())
+}
+
 #[test]
 fn readers_and_writers_come_and_go(rt: HostRuntime) -> Result<(), Fail> {
     let mut config = DynamicConfig::new(rt.alloc(), 5, 2)?;
-    let first = add_reader(&mut config, 1)?;
-    let second = add_reader(&mut config, 2)?;
-    let other = add_writer(&mut config, 1)?;
-    both_are_full(&rt, &mut config)?;
-    equal(&rt, config.reader_details(second), Some(reader(2)?));
-    equal(&rt, config.writer_details(other), Some(writer(1)?));
-    a_handle_of_the_other_kind_is_foreign(&rt, &mut config, first, other);
-    each_listing_stops_where_it_is_told_to(&rt, &config);
-    a_released_handle_is_spent(&rt, &mut config, second);
-    equal(&rt, config.release_writer_handle(other), Ok(()));
+    come_and_go(&rt, &mut config)
+}
+
+/// The node of a reader and a writer dies.
+fn leaves_none(rt: &impl Abort, config: &mut DynamicConfig) -> Result<(), Fail> {
+    let first = add_reader(config, 1)?;
+    add_writer(config, 1)?;
+    config.remove_dead_node_id(&node(1, 1)?);
+    equal(rt, config.number_of_readers(), 0);
+    equal(rt, config.number_of_writers(), 0);
+    let next = add_reader(config, 1)?;
+    holds(rt, next != first);
     Ok(())
 }
 
 #[test]
 fn a_dead_node_leaves_no_reader_and_no_writer(rt: HostRuntime) -> Result<(), Fail> {
     let mut config = DynamicConfig::new(rt.alloc(), 5, 2)?;
-    let first = add_reader(&mut config, 1)?;
-    add_writer(&mut config, 1)?;
-    config.remove_dead_node_id(&node(1, 1)?);
-    equal(&rt, config.number_of_readers(), 0);
-    equal(&rt, config.number_of_writers(), 0);
-    let next = add_reader(&mut config, 1)?;
-    holds(&rt, next != first);
-    Ok(())
+    leaves_none(&rt, &mut config)
 }

@@ -73,32 +73,42 @@ fn a_handle_of_the_other_kind_is_foreign(
     );
 }
 
+/// Two clients and two servers come and go.
+fn come_and_go(rt: &impl Abort, config: &mut DynamicConfig) -> Result<(), Fail> {
+    let first = add_client(config, 1)?;
+    let second = add_client(config, 2)?;
+    let other = add_server(config, 1)?;
+    add_server(config, 2)?;
+    both_are_full(rt, config)?;
+    equal(rt, config.client_details(second), Some(client(2)?));
+    equal(rt, config.server_details(other), Some(server(1)?));
+    a_handle_of_the_other_kind_is_foreign(rt, config, first, other);
+    each_listing_stops_where_it_is_told_to(rt, config);
+    a_released_handle_is_spent(rt, config, second);
+    equal(rt, config.release_server_handle(other), Ok(()));
+    Ok(())
+}
+
 #[test]
 fn clients_and_servers_come_and_go(rt: HostRuntime) -> Result<(), Fail> {
     let mut config = DynamicConfig::new(rt.alloc(), 5, 2, 2)?;
-    let first = add_client(&mut config, 1)?;
-    let second = add_client(&mut config, 2)?;
-    let other = add_server(&mut config, 1)?;
-    add_server(&mut config, 2)?;
-    both_are_full(&rt, &mut config)?;
-    equal(&rt, config.client_details(second), Some(client(2)?));
-    equal(&rt, config.server_details(other), Some(server(1)?));
-    a_handle_of_the_other_kind_is_foreign(&rt, &mut config, first, other);
-    each_listing_stops_where_it_is_told_to(&rt, &config);
-    a_released_handle_is_spent(&rt, &mut config, second);
-    equal(&rt, config.release_server_handle(other), Ok(()));
+    come_and_go(&rt, &mut config)
+}
+
+/// The node of a client and a server dies.
+fn leaves_none(rt: &impl Abort, config: &mut DynamicConfig) -> Result<(), Fail> {
+    let first = add_client(config, 1)?;
+    add_server(config, 1)?;
+    config.remove_dead_node_id(&node(1, 1)?);
+    equal(rt, config.number_of_clients(), 0);
+    equal(rt, config.number_of_servers(), 0);
+    let next = add_client(config, 1)?;
+    holds(rt, next != first);
     Ok(())
 }
 
 #[test]
 fn a_dead_node_leaves_no_client_and_no_server(rt: HostRuntime) -> Result<(), Fail> {
     let mut config = DynamicConfig::new(rt.alloc(), 5, 2, 1)?;
-    let first = add_client(&mut config, 1)?;
-    add_server(&mut config, 1)?;
-    config.remove_dead_node_id(&node(1, 1)?);
-    equal(&rt, config.number_of_clients(), 0);
-    equal(&rt, config.number_of_servers(), 0);
-    let next = add_client(&mut config, 1)?;
-    holds(&rt, next != first);
-    Ok(())
+    leaves_none(&rt, &mut config)
 }

@@ -81,32 +81,42 @@ fn a_handle_of_the_other_kind_is_foreign(
     );
 }
 
+/// Two publishers and two subscribers come and go.
+fn come_and_go(rt: &impl Abort, config: &mut DynamicConfig) -> Result<(), Fail> {
+    let first = add_publisher(config, 1)?;
+    let second = add_publisher(config, 2)?;
+    let other = add_subscriber(config, 1)?;
+    add_subscriber(config, 2)?;
+    both_are_full(rt, config)?;
+    equal(rt, config.publisher_details(second), Some(publisher(2)?));
+    equal(rt, config.subscriber_details(other), Some(subscriber(1)?));
+    a_handle_of_the_other_kind_is_foreign(rt, config, first, other);
+    each_listing_stops_where_it_is_told_to(rt, config);
+    a_released_handle_is_spent(rt, config, second);
+    equal(rt, config.release_subscriber_handle(other), Ok(()));
+    Ok(())
+}
+
 #[test]
 fn publishers_and_subscribers_come_and_go(rt: HostRuntime) -> Result<(), Fail> {
     let mut config = DynamicConfig::new(rt.alloc(), 5, 2, 2)?;
-    let first = add_publisher(&mut config, 1)?;
-    let second = add_publisher(&mut config, 2)?;
-    let other = add_subscriber(&mut config, 1)?;
-    add_subscriber(&mut config, 2)?;
-    both_are_full(&rt, &mut config)?;
-    equal(&rt, config.publisher_details(second), Some(publisher(2)?));
-    equal(&rt, config.subscriber_details(other), Some(subscriber(1)?));
-    a_handle_of_the_other_kind_is_foreign(&rt, &mut config, first, other);
-    each_listing_stops_where_it_is_told_to(&rt, &config);
-    a_released_handle_is_spent(&rt, &mut config, second);
-    equal(&rt, config.release_subscriber_handle(other), Ok(()));
+    come_and_go(&rt, &mut config)
+}
+
+/// The node of a publisher and a subscriber dies.
+fn leaves_none(rt: &impl Abort, config: &mut DynamicConfig) -> Result<(), Fail> {
+    let first = add_publisher(config, 1)?;
+    add_subscriber(config, 1)?;
+    config.remove_dead_node_id(&node(1, 1)?);
+    equal(rt, config.number_of_publishers(), 0);
+    equal(rt, config.number_of_subscribers(), 0);
+    let next = add_publisher(config, 1)?;
+    holds(rt, next != first);
     Ok(())
 }
 
 #[test]
 fn a_dead_node_leaves_no_publisher_and_no_subscriber(rt: HostRuntime) -> Result<(), Fail> {
     let mut config = DynamicConfig::new(rt.alloc(), 5, 2, 1)?;
-    let first = add_publisher(&mut config, 1)?;
-    add_subscriber(&mut config, 1)?;
-    config.remove_dead_node_id(&node(1, 1)?);
-    equal(&rt, config.number_of_publishers(), 0);
-    equal(&rt, config.number_of_subscribers(), 0);
-    let next = add_publisher(&mut config, 1)?;
-    holds(&rt, next != first);
-    Ok(())
+    leaves_none(&rt, &mut config)
 }
