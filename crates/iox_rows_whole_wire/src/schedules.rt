@@ -1,8 +1,9 @@
 //! Schedules on the wire where each limit is 1.
+use super::counts::answers;
 use super::play::{Act, Ask, Told, plays, replied};
-use super::settings::{NO_OVERFLOW, open, open_with};
+use super::settings::{NO_OVERFLOW, open};
 use iox_model::kind::Role;
-use iox_wire::{HandleCall, NodeCall, NodePayload, WireEntry, WireRefusal};
+use iox_wire::{HandleCall, NodeCall, NodePayload, Wire, WireEntry, WireRefusal};
 use std::alloc::Global;
 use std::process::Abort;
 use std::test::Fail;
@@ -161,17 +162,36 @@ fn room_for_too_many_steps_is_refused(rt: HostRuntime) -> Result<(), Fail> {
     Ok(())
 }
 
+/// Plays calls one after another, each from its begin to its end.
+fn answer_so(rt: &impl Abort, wire: &mut Wire, table: &[(u64, Ask, Told)]) {
+    for (node, ask, told) in table {
+        let answer = answers(wire, *node, *ask);
+        assert_eq!(rt; answer, Some(*told));
+    }
+}
+
 #[test]
-fn call_without_room_for_its_handle_is_refused(rt: HostRuntime) -> Result<(), Fail> {
-    let mut wire = open_with(rt.alloc(), NO_OVERFLOW, 0)?;
-    let told = wire.run(&[WireEntry::Begin(1, RECEIVE), WireEntry::Die(1)]);
-    assert_eq!(rt; told.err(), Some(WireRefusal::WantOfMemory));
+fn nodes_with_all_their_handles_begin_calls(rt: HostRuntime) -> Result<(), Fail> {
+    let mut wire = open(rt.alloc(), NO_OVERFLOW)?;
     let table = [
-        Act::RefusedCall(1, Ask::Receive(7), WireRefusal::UnknownNumber),
-        Act::RefusedCall(1, Ask::Receive(1), WireRefusal::WantOfMemory),
-        Act::RefusedCall(0, Ask::CopyRequest(0, 456), WireRefusal::WantOfMemory),
-        Act::Whole(1, Ask::HasRequests(1), 2, Told::Answer(false)),
+        (0, Ask::CopyRequest(0, 456), Told::Handle(2)),
+        (1, Ask::Receive(1), Told::Handle(2)),
+        (1, Ask::CopyResponse(2, 789), Told::Done),
+        (0, Ask::Receive(2), Told::Handle(3)),
+        (0, Ask::Loan(0), Told::Handle(4)),
+        (1, Ask::CopyResponse(2, 321), Told::Done),
+        (1, Ask::Loan(2), Told::Handle(3)),
+        // the limits allow no other handle, which each call tells at its end
+        (0, Ask::Loan(0), Told::ExceedsMaxLoans),
+        (0, Ask::CopyRequest(0, 1), Told::ExceedsMaxLoans),
+        (0, Ask::Receive(2), Told::ExceedsMaxBorrows),
+        (1, Ask::Loan(2), Told::ExceedsMaxLoans),
+        (1, Ask::CopyResponse(2, 1), Told::ExceedsMaxLoans),
+        // and the wire goes on
+        (0, Ask::Release(3), Told::Done),
+        (0, Ask::Receive(2), Told::Handle(5)),
+        (0, Ask::Read(5), Told::Word(321)),
     ];
-    plays(&rt, &mut wire, &table);
+    answer_so(&rt, &mut wire, &table);
     Ok(())
 }

@@ -40,7 +40,7 @@ fn turn(
 
 /// A game of so many calls. After each it may be that a node dies.
 fn plays(rt: &impl Abort, alloc: Global, service: Service, seed: u64) -> Result<(), Fail> {
-    let mut wire = four::open_with(alloc, service, 64)?;
+    let mut wire = four::open(alloc, service)?;
     let mut lists = Lists::new(alloc, service)?;
     let mut chance = Chance::new(seed);
     let mut dead = [false; 3];

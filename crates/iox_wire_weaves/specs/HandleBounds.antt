@@ -30,7 +30,7 @@ most_of_node plan n = sum_by (most_of_port plan) (filter (λ q. q.node == n) pla
 abbrev pub handle_room : WirePlan → ℕ → ℕ
 handle_room plan n = most_of_node plan n + 1
 
--- A living node has no more handles than that, in whatever run the wire shows.
+-- A living node has no more handles than its ports may have together, wherever it is in its call.
 abbrev pub NodesHaveFewHandles : Type 0
 NodesHaveFewHandles =
     (p : Setting) (wire : WireData) (r : Run) (n : ℕ) (x : WireNode) → Shows p wire r
