@@ -63,7 +63,6 @@ impl Model for Member {
 
 impl Member {
     ghost use Rattle.std.specs.Prelude.{◌≡◌, ◌<◌, ℕ, [], IfOk, List, None, Some, false, nat_le, true};
-    ghost use Rattle.std.specs.Bool.{OnFalse, OnTrue};
     ghost use Rattle.iox_wire_weaves.specs.Begins.{is_busy};
     ghost use Rattle.iox_wire_weaves.specs.Rooms.{KeepsRooms};
     ghost use Rattle.iox_wire_weaves.specs.Tables.{Setting};

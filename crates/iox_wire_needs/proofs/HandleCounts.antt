@@ -1,7 +1,7 @@
 -- A node's handles are few: its own messages fit the pools, and those of a way the borrow limit.
 use Rattle.std.specs.Prelude.{map, filter, length, ◌&&◌}
 use Rattle.std.specs.List.{range_with_len}
-use Rattle.std.proofs.Common.{◌≡◌, ℕ, suc, ◌+◌, ◌<◌, ◌≤◌, Bool, true, false, if◌then◌else◌, List, [], ◌∷◌, None, refl, ap, sym, subst, ◌∙◌, arith}
+use Rattle.std.proofs.Common.{◌≡◌, ℕ, suc, ◌<◌, ◌≤◌, Bool, true, false, if◌then◌else◌, List, [], ◌∷◌, None, refl, ap, sym, subst, ◌∙◌, arith}
 use Rattle.std.proofs.lemmas.List.FromFn.{length-range_with_len}
 use Rattle.iox_model.specs.declared.kind.Kind.TheVariants.{ActiveRequest}
 use Rattle.iox_model.specs.declared.way.Way.{Way}
@@ -10,7 +10,7 @@ use Rattle.iox_model.specs.Joins.{not_living}
 use Rattle.iox_model.specs.Maps.{same_way}
 use Rattle.iox_model.specs.Messages.{request_way, response_way}
 use Rattle.iox_model.specs.Peers.{borrow_limit_on}
-use Rattle.iox_model.specs.States.{Fixed, Handle}
+use Rattle.iox_model.specs.States.{Fixed}
 use Rattle.iox_model.specs.WireCalls.{opened}
 use Rattle.iox_model.specs.Weaves.{Beat, IsWeave, World, at_work}
 use Rattle.iox_laws.specs.WeaveLaws.Ledgers.{has_received}

@@ -1,6 +1,6 @@
 -- A node's handles are no more than its ports may have together.
 use Rattle.std.specs.Prelude.{filter, flat_map, ◌&&◌, ◌||◌}
-use Rattle.std.specs.List.{find, list_any, range_with_len, sum_by}
+use Rattle.std.specs.List.{list_any, range_with_len, sum_by}
 use Rattle.std.specs.Option.{option_map_or}
 use Rattle.std.specs.Prelude.{option_map}
 use Rattle.std.proofs.Common.{◌≡◌, ℕ, suc, ◌+◌, ◌*◌, ◌≤◌, ◌<◌, Bool, true, false, if◌then◌else◌, ◌==◌, List, [], ◌∷◌, length, map, Option, None, Some, refl, ap, sym, subst, ◌∙◌, arith, inl, inr, true≢false, eqb-true, eq-eqb}
@@ -33,7 +33,7 @@ use Rattle.iox_wire_laws.proofs.WireHolding.WireWays.{among_flat}
 use Rattle.iox_wire_nodes.specs.Entry.{Entry}
 use Rattle.iox_wire_nodes.specs.Local.{Local}
 use Rattle.iox_wire_nodes.specs.PlanPort.{PlanPort}
-use Rattle.iox_wire_nodes.specs.Plans.{numbers_of, planned_limit, port_numbers, port_of, role_of}
+use Rattle.iox_wire_nodes.specs.Plans.{numbers_of, planned_limit, port_numbers, port_of}
 use Rattle.iox_wire_nodes.specs.PlansOf.{IsAsPlanned, IsPlanFor}
 use Rattle.iox_wire_nodes.specs.Programs.{WireLayout}
 use Rattle.iox_wire_nodes.specs.Seat.{Seat}

@@ -1,6 +1,5 @@
 //! How a node begins a call of a port or a handle.
 ghost use Rattle.std.specs.Prelude.{◌≡◌, ◌<◌, IfErr, IfSome, None, OnErr, OnOk, false, length};
-ghost use Rattle.std.specs.Prelude.{true};
 ghost use Rattle.iox_model.specs.declared.call.WireCall.TheVariants.{Port};
 ghost use Rattle.iox_wire_begins.specs.ListRooms.{ListsHaveRoom};
 ghost use Rattle.iox_wire_begins.specs.Plans.{number_at, port_of};
