@@ -8,7 +8,7 @@ use std::process::Abort;
 use std::test::Fail;
 
 /// What the call answers, from its begin to its end.
-fn answers(wire: &mut Wire, node: u64, ask: Ask) -> Option<Told> {
+pub(super) fn answers(wire: &mut Wire, node: u64, ask: Ask) -> Option<Told> {
     match calls(wire, node, ask) {
         Came::Ended(_steps, answer) => Some(answer),
         _ => None,

@@ -72,9 +72,9 @@ fn terms(alloc: Global, service: Service) -> Result<WireTerms, Fail>
     })
 }
 
-/// A wire of that service, whose nodes live, each with room for so many handles.
-pub(super) fn open_with(alloc: Global, service: Service, handles: usize) -> Result<Wire, Fail> {
+/// A wire of that service, whose nodes live.
+pub(super) fn open(alloc: Global, service: Service) -> Result<Wire, Fail> {
     let plan = plan(alloc, service)?;
     let terms = terms(alloc, service)?;
-    Ok(Wire::new(alloc, plan, terms, &[0, 1, 2], handles)?)
+    Ok(Wire::new(alloc, plan, terms, &[0, 1, 2])?)
 }

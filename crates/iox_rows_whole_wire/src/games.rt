@@ -35,7 +35,7 @@ impl Game {
     /// A wire of that service on which nothing happened yet, and where no node dies.
     pub(super) fn new(alloc: Global, service: Service, seed: u64) -> Result<Game, Fail> {
         Ok(Game {
-            wire: four::open_with(alloc, service, 64)?,
+            wire: four::open(alloc, service)?,
             service,
             chance: Chance::new(seed),
             owned: vec![in alloc; PORTS[0], PORTS[1], PORTS[2], PORTS[3]]?,

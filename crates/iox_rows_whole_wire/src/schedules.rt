@@ -1,6 +1,7 @@
 //! Schedules on the wire where each limit is 1.
+use super::counts::answers;
 use super::play::{Act, Ask, Told, plays, replied};
-use super::settings::{NO_OVERFLOW, open, open_with};
+use super::settings::{NO_OVERFLOW, open};
 use crate::expected::{equal, holds};
 use iox_model::kind::Role;
 use iox_wire::{HandleCall, NodeCall, NodePayload, Wire, WireEntry, WireRefusal};
@@ -179,21 +180,35 @@ fn room_for_too_many_steps_is_refused(rt: HostRuntime) -> Result<(), Fail> {
     Ok(())
 }
 
+/// Plays calls one after another, each from its begin to its end.
+fn answer_so(rt: &impl Abort, wire: &mut Wire, table: &[(u64, Ask, Told)]) {
+    for (node, ask, told) in table {
+        equal(rt, answers(wire, *node, *ask), Some(*told));
+    }
+}
+
 #[test]
-fn call_without_room_for_its_handle_is_refused(rt: HostRuntime) -> Result<(), Fail> {
-    let mut wire = open_with(rt.alloc(), NO_OVERFLOW, 0)?;
-    const SCHEDULE: &[WireEntry<'static>] = &[WireEntry::Begin(1, RECEIVE), WireEntry::Die(1)];
-    equal(
-        &rt,
-        wire.run(SCHEDULE).err(),
-        Some(WireRefusal::WantOfMemory),
-    );
-    const TABLE: &[Act] = &[
-        Act::RefusedCall(1, Ask::Receive(7), WireRefusal::UnknownNumber),
-        Act::RefusedCall(1, Ask::Receive(1), WireRefusal::WantOfMemory),
-        Act::RefusedCall(0, Ask::CopyRequest(0, 456), WireRefusal::WantOfMemory),
-        Act::Whole(1, Ask::HasRequests(1), 2, Told::Answer(false)),
+fn nodes_with_all_their_handles_begin_calls(rt: HostRuntime) -> Result<(), Fail> {
+    let mut wire = open(rt.alloc(), NO_OVERFLOW)?;
+    let table = [
+        (0, Ask::CopyRequest(0, 456), Told::Handle(2)),
+        (1, Ask::Receive(1), Told::Handle(2)),
+        (1, Ask::CopyResponse(2, 789), Told::Done),
+        (0, Ask::Receive(2), Told::Handle(3)),
+        (0, Ask::Loan(0), Told::Handle(4)),
+        (1, Ask::CopyResponse(2, 321), Told::Done),
+        (1, Ask::Loan(2), Told::Handle(3)),
+        // the limits allow no other handle, which each call tells at its end
+        (0, Ask::Loan(0), Told::ExceedsMaxLoans),
+        (0, Ask::CopyRequest(0, 1), Told::ExceedsMaxLoans),
+        (0, Ask::Receive(2), Told::ExceedsMaxBorrows),
+        (1, Ask::Loan(2), Told::ExceedsMaxLoans),
+        (1, Ask::CopyResponse(2, 1), Told::ExceedsMaxLoans),
+        // and the wire goes on
+        (0, Ask::Release(3), Told::Done),
+        (0, Ask::Receive(2), Told::Handle(5)),
+        (0, Ask::Read(5), Told::Word(321)),
     ];
-    plays(&rt, &mut wire, TABLE);
+    answer_so(&rt, &mut wire, &table);
     Ok(())
 }

@@ -141,16 +141,11 @@ pub(super) fn terms(alloc: Global, service: Service) -> Result<WireTerms, Fail>
     })
 }
 
-/// A wire of that service, whose nodes live, each with room for so many handles.
-pub(super) fn open_with(alloc: Global, service: Service, handles: usize) -> Result<Wire, Fail> {
+/// A wire of that service, whose nodes live.
+pub(super) fn open(alloc: Global, service: Service) -> Result<Wire, Fail> {
     let plan = plan(alloc, service)?;
     let terms = terms(alloc, service)?;
-    Ok(Wire::new(alloc, plan, terms, &[0, 1], handles)?)
-}
-
-/// The same with room for eight handles each.
-pub(super) fn open(alloc: Global, service: Service) -> Result<Wire, Fail> {
-    open_with(alloc, service, 8)
+    Ok(Wire::new(alloc, plan, terms, &[0, 1])?)
 }
 
 /// Plays a table on a wire of that service.

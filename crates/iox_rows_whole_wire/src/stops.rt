@@ -55,7 +55,7 @@ fn after<'a>(stop: Stop<'a>, made: u64) -> &'a [Act] {
 fn opened(alloc: Global, on: On) -> Result<Wire, Fail> {
     match on {
         On::Ones(service) => open(alloc, service),
-        On::Four(service) => four::open_with(alloc, service, 8),
+        On::Four(service) => four::open(alloc, service),
         On::Wide => Ok(wide::open(alloc, false)??),
     }
 }

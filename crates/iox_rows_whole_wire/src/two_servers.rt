@@ -1,5 +1,5 @@
 //! Calls on a wire of two clients and two servers: what they answer, and how many steps they take.
-use super::four::open_with;
+use super::four::open;
 use super::play::{Act, Ask, Told, plays};
 use super::settings::{NO_OVERFLOW, OVERFLOW, Service};
 use std::alloc::Global;
@@ -8,7 +8,7 @@ use std::test::Fail;
 
 /// Plays a table on a wire of that service.
 fn plays_on(rt: &impl Abort, alloc: Global, service: Service, table: &[Act]) -> Result<(), Fail> {
-    let mut wire = open_with(alloc, service, 8)?;
+    let mut wire = open(alloc, service)?;
     plays(rt, &mut wire, table);
     Ok(())
 }

@@ -104,7 +104,7 @@ fn terms(alloc: Global, many: bool) -> Result<WireTerms, Fail>
 fn open(alloc: Global, many: bool) -> Result<Wire, Fail> {
     let plan = plan(alloc, many)?;
     let terms = terms(alloc, many)?;
-    Ok(Wire::new(alloc, plan, terms, &[0, 1], 8)?)
+    Ok(Wire::new(alloc, plan, terms, &[0, 1])?)
 }
 
 /// Plays a table on such a wire. The last word of the first header tells how many elements its

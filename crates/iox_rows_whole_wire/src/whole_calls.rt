@@ -69,7 +69,7 @@ fn goes(rt: &impl Abort, wire: &mut Wire, lists: &mut Lists, seed: u64) -> Resul
 
 /// The same on a new wire of that service.
 fn plays(rt: &impl Abort, alloc: Global, service: Service, seed: u64) -> Result<(), Fail> {
-    let mut wire = four::open_with(alloc, service, 64)?;
+    let mut wire = four::open(alloc, service)?;
     let mut lists = Lists::new(alloc, service)?;
     goes(rt, &mut wire, &mut lists, seed)
 }

@@ -130,7 +130,7 @@ fn terms(alloc: Global) -> Result<WireTerms, Fail>
 pub(super) fn open(alloc: Global, huge: bool) -> Result<Result<Wire, WireNewError>, Fail> {
     let plan = plan(alloc, huge)?;
     let terms = terms(alloc)?;
-    Ok(Wire::new(alloc, plan, terms, &[0, 1], 8))
+    Ok(Wire::new(alloc, plan, terms, &[0, 1]))
 }
 
 /// Plays a table on such a wire.

@@ -18,8 +18,9 @@ use Rattle.iox_wire_weaves.specs.Asking.{BeginsCall, IsBeginRefusal, asked_of}
 use Rattle.iox_wire_weaves.specs.Begins.{is_busy, misnamed_call, refusal_at}
 use Rattle.iox_wire_weaves.specs.CallAt.{CallAt}
 use Rattle.iox_wire_weaves.specs.CallAt.TheVariants as at
-use Rattle.iox_wire_weaves.specs.Calls.{IsKeptAt, call_in, call_in_words, may_add_handle}
+use Rattle.iox_wire_weaves.specs.Calls.{IsKeptAt, call_in, call_in_words}
 use Rattle.iox_wire_weaves.specs.Entry.{Entry}
+use Rattle.iox_wire_weaves.specs.HandleBounds.{most_of_node}
 use Rattle.iox_wire_weaves.specs.HandleCall.TheVariants as handle_calls
 use Rattle.iox_wire_weaves.specs.Laws.{LivesAs}
 use Rattle.iox_wire_weaves.specs.Lendings.{next_handle}
@@ -28,7 +29,7 @@ use Rattle.iox_wire_weaves.specs.MessageBegins.{WordsAreWhole}
 use Rattle.iox_wire_weaves.specs.NodeCall.{NodeCall}
 use Rattle.iox_wire_weaves.specs.NodeCall.TheVariants.{Handle, HasRequests, Loan, Receive, Send, SendCopy, Write}
 use Rattle.iox_wire_weaves.specs.Nodes.{NodeView, seat_at, seat_in}
-use Rattle.iox_wire_weaves.specs.NodesBegins.{AddsHandle, IsUnderWay, MayBegin, begun_at}
+use Rattle.iox_wire_weaves.specs.NodesBegins.{IsUnderWay, MayBegin, begun_at}
 use Rattle.iox_wire_weaves.specs.Replies.{call_within}
 use Rattle.iox_wire_weaves.specs.Runs.{GoesOnBy, Run}
 use Rattle.iox_wire_weaves.specs.Seat.{Seat}
@@ -42,19 +43,19 @@ use Rattle.iox_wire_weaves.specs.declared.refusal.WireRefusal.{WireRefusal}
 use Rattle.iox_wire_weaves.specs.Wires.{Shows, WireData, WireNode, living_refusal, node_at, refusal_in, seat_of}
 use Rattle.iox_wire_weaves.proofs.BeginsShown.{begins_show, refusals_are_shown}
 use Rattle.iox_wire_weaves.proofs.CallsSaid.{calls_are_said}
+use Rattle.iox_wire_weaves.proofs.HandleSums.{nodes_have_few_handles}
 use Rattle.iox_wire_weaves.proofs.HandlesStanding.{handles_stand}
 use Rattle.iox_wire_weaves.proofs.Lookups.{first_none, not_refused, seat_there}
-use Rattle.iox_wire.specs.Begun.{FindsNoRoom, HasBegun, IsRefusedBy, LacksRoom}
-use Rattle.iox_laws.proofs.WeaveLaws.WholeLemmas.{some-is}
+use Rattle.iox_wire.specs.Begun.{HasBegun, IsRefusedBy}
 use Rattle.iox_wire.specs.Kept.{IsAtItsCall, IsShown}
 use Rattle.iox_wire.specs.Replies.{words_call}
 use Rattle.iox_wire.proofs.Accesses.{tells_of_pools}
 use Rattle.iox_wire.proofs.Keeping.{each_still, kept_begun, kept_still}
 use Rattle.iox_wire.proofs.OwnCalls.{own_begun}
-use Rattle.iox_wire.proofs.Roomy.{roomy_still}
+use Rattle.iox_wire.proofs.Roomy.{room_left, roomy_still}
 use Rattle.iox_wire_weaves.specs.Rooms.{KeepsRooms}
 use Rattle.iox_wire.proofs.MayLend.{may_lend}
-use Rattle.iox_wire.proofs.Places.{read_there, replaced, unchanged_there}
+use Rattle.iox_wire.proofs.Places.{number_there, read_there, replaced, unchanged_there}
 
 -- ---- payloads
 
@@ -131,23 +132,23 @@ rests_if : (p : Setting) (x : Seat) (call : WireCall) → refusal_at p x call �
 rests_if p x call allowed =
     not_refused (is_busy x.local) refusals.Busy (first_none (refused_if (is_busy x.local) refusals.Busy) (misnamed_call p x call) allowed)
 
--- a node that began a call, with room where that may add a handle, and keeps it
+-- a node that began a call, and keeps it
 pub has_begun : (plan : WirePlan) (terms : WireTerms) (old : WireNode) (call : NodeCall) (events : ℕ) (mid new : WireNode)
     → (p : Setting) × IsSettingWith plan terms p
     → ((p : Setting) → IsSettingWith plan terms p → IsUnderWay p old.node (Port (call_in p (seat_in old.node) call)) mid.node)
-    → (AddsHandle mid.node.at → may_add_handle call ≡ true) → IsKeptAt (call_in_words call) mid.node.at
-    → ((p : Setting) → mid.node.at ≡ begun_at old.node.seat.seat.table (Port (call_in p (seat_in old.node) call))) → (may_add_handle call ≡ true → 0 < old.node.seat.room)
-    → (is_busy (seat_in old.node).local ≡ false → 0 < old.node.seat.room → (p : Setting) → IsSettingWith plan terms p → (port : ℕ)
+    → IsKeptAt (call_in_words call) mid.node.at
+    → ((p : Setting) → mid.node.at ≡ begun_at old.node.seat.seat.table (Port (call_in p (seat_in old.node) call)))
+    → (is_busy (seat_in old.node).local ≡ false → (p : Setting) → IsSettingWith plan terms p → (port : ℕ)
     → MayLend old.node.seat (next_handle p old.node.seat.seat) port)
     → KeepsRooms old.node mid.node → mid.number ≡ old.number → LivesAs old mid → mid.read ≡ old.read
     → new ≡ record mid { call = Some (record { call = call_within mid.longest (words_call call); begun = events }) } → HasBegun plan terms old call events new
-has_begun plan terms old call events mid new set begun adds there by_role room lends rooms number lives read keeps =
+has_begun plan terms old call events mid new set begun there by_role lends rooms number lives read keeps =
     let way : IsUnderWay set.0 old.node (Port (call_in set.0 (seat_in old.node) call)) mid.node = begun set.0 set.1 in
     let rests : is_busy (seat_in old.node).local ≡ false = rests_if set.0 (seat_in old.node) (Port (call_in set.0 (seat_in old.node) call)) way.allowed in
     let same : mid.node ≡ new.node = sym (ap (λ (x : WireNode). x.node) keeps) in
     record {
       begun = λ p setting. subst (λ (x : NodeView). IsUnderWay p old.node (Port (call_in p (seat_in old.node) call)) x) same (begun p setting);
-      ready = subst (λ (x : NodeView). MayAdd x.at x) same (way.ready.may (λ more. lends rests (room (adds more)) set.0 set.1));
+      ready = subst (λ (x : NodeView). MayAdd x.at x) same (way.ready.may (lends rests set.0 set.1));
       at = subst (λ (x : NodeView). IsKeptAt (call_in_words call) x.at) same there;
       role = λ p. ap (λ (x : NodeView). x.at) (sym same) ∙ by_role p;
       rooms = subst (λ (x : NodeView). KeepsRooms old.node x) same rooms;
@@ -198,15 +199,22 @@ module _ (w : WireData) (n i : ℕ) (d : WireNode) (at : position (λ x. x.numbe
       counted : (first own made accesses : ℕ) → made ≡ own → made ≤ accesses → accesses ≤ most_accesses → first + most_accesses < 2 ^ 64 → first + own < 2 ^ 64
       counted first own made accesses is less few numbers = omega (arith, is, less, few, numbers)
 
-  -- with room it may have a handle more, in each setting of the plan
-  pub may_lend_there : IsShown w → living_refusal w.nodes n ≡ None → is_busy (seat_in d.node).local ≡ false → 0 < d.node.seat.room
+  -- there is room for a handle more
+  has_room : IsShown w → living_refusal w.nodes n ≡ None → 0 < d.node.seat.room
+  has_room shown alive =
+      room_left w.plan d.number d.node (shown.rooms n d there)
+      (subst (λ k. length d.node.seat.seat.table ≤ most_of_node w.plan k) (sym (number_there n w.nodes i d at read))
+      (nodes_have_few_handles shown.shows.0 w shown.shows.1 n d shown.shows.2 alive there))
+
+  -- so it may have one, in each setting of the plan
+  pub may_lend_there : IsShown w → living_refusal w.nodes n ≡ None → is_busy (seat_in d.node).local ≡ false
       → (p : Setting) → IsSettingWith w.plan w.terms p → (port : ℕ) → MayLend d.node.seat (next_handle p d.node.seat.seat) port
-  may_lend_there shown alive rests room p setting port =
+  may_lend_there shown alive rests p setting port =
       let q : Setting = shown.shows.0 in
       let same : next_handle q d.node.seat.seat ≡ next_handle p d.node.seat.seat
       = ap (λ k. k + d.node.seat.seat.handles_made) (shown.shows.2.setting.first_number ∙ sym setting.first_number) in
       subst (λ k. MayLend d.node.seat k port) same
-      (may_lend q w shown.shows.1 n d shown.shows.2 there alive (shown.kept n d there) rests room port)
+      (may_lend q w shown.shows.1 n d shown.shows.2 there alive (shown.kept n d there) rests (has_room shown alive) port)
 
   -- ---- a begin
 
@@ -251,7 +259,8 @@ module _ (w : WireData) (n i : ℕ) (d : WireNode) (at : position (λ x. x.numbe
             (kept_begun p d.node y.node (Port (call_in p (seat_in d.node) call)) (shown.kept n d there) (has.begun p shown.shows.2.setting).begun has.ready);
         own = each_still IsAtItsCall w.nodes n d y (slice_set w.nodes i y) (replaced n w.nodes i d y at read has.number) shown.own
             (own_begun d y call events has.kept has.at);
-        rooms = roomy_still w.plan w.nodes n d y (slice_set w.nodes i y) (replaced n w.nodes i d y at read has.number) shown.rooms has.rooms;
+        rooms = roomy_still w.plan w.nodes n d y (slice_set w.nodes i y) (replaced n w.nodes i d y at read has.number) shown.rooms has.rooms has.number
+            (has.begun p shown.shows.2.setting).ready.room.handles;
       }
 
   -- what was read stays
@@ -276,11 +285,3 @@ module _ (w : WireData) (n i : ℕ) (d : WireNode) (at : position (λ x. x.numbe
 
   pub as_it_was : (y : WireNode) → y ≡ d → Now y ≡ w
   as_it_was y same = ap (λ xs. record w { nodes = xs }) (unchanged_there w.nodes i d y read same)
-
-  -- it has no room for the handle of a call
-  pub lacks_room : (call : NodeCall) (now : WireData) → w ≡ now → FindsNoRoom d call → LacksRoom now n call
-  lacks_room call now same none =
-      subst (λ (v : WireData). LacksRoom v n call) same (
-        none.0,
-        λ x found. subst (λ (o : WireNode). o.node.seat.room ≡ 0) (some-is d x (sym there ∙ found)) none.1,
-      )

@@ -10,7 +10,6 @@ use Rattle.iox_wire_weaves.specs.ReadWords.{TellsNoWords}
 use Rattle.iox_wire_weaves.specs.Counts.{IsTidy}
 use Rattle.iox_wire_weaves.specs.PlanPort.{PlanPort}
 use Rattle.iox_wire_weaves.specs.Seat.{Seat}
-use Rattle.iox_wire_weaves.specs.Rooms.{HasRoomToBegin}
 use Rattle.iox_wire_weaves.specs.Steps.{most_accesses}
 use Rattle.iox_wire_weaves.specs.Uses.{HaveFewWays}
 use Rattle.iox_model.specs.States.{State}
@@ -26,11 +25,12 @@ use Rattle.iox_wire_weaves.specs.Terms.{IsSettingWith}
 use Rattle.iox_wire_weaves.specs.WireTerms.{WireTerms}
 use Rattle.iox_wire_weaves.specs.Wires.{AreWhole, WireOpensOn, ShowsOpened, WireData, WireNode, node_at}
 use Rattle.iox_wire_weaves.proofs.Opened.{wires_open}
-use Rattle.iox_wire.specs.Kept.{AreOpened, IsKept, IsOpenedNode, IsShown}
+use Rattle.iox_wire.specs.Kept.{AreOpened, IsKept, IsOpenedNode, IsRoomy, IsShown}
 use Rattle.iox_wire_openings.specs.OpenedNodes.{planned_desk, planned_ways}
 use Rattle.iox_wire_openings.proofs.FewWays.{ways_are_few}
 use Rattle.iox_wire_openings.proofs.OpenedLemmas.{counts_differ, desks_differ}
 use Rattle.iox_wire.proofs.Members.{opened_has, opened_node}
+use Rattle.iox_wire.proofs.Roomy.{roomy_first}
 use Rattle.iox_wire.proofs.OpenedSeats.{filtered_among, opened_as_planned}
 
 -- ---- what a node keeps to at first
@@ -46,9 +46,9 @@ few_ways plan few (q ∷ qs) all = (
     less : (a b : ℕ) → a ≡ b → b < 2 ^ 63 → a + 3 < 2 ^ 64
     less a b is low = omega (arith, is, low)
 
-kept_first : (plan : WirePlan) → AreDistinct (port_numbers plan) → total_words (sizes_of plan) < 2 ^ 63 → (handles n : ℕ) (x : WireNode) → IsOpenedNode plan handles n x
+kept_first : (plan : WirePlan) → AreDistinct (port_numbers plan) → total_words (sizes_of plan) < 2 ^ 63 → (n : ℕ) (x : WireNode) → IsOpenedNode plan n x
     → IsKept x.node
-kept_first plan apart low handles n x opened = record {
+kept_first plan apart low n x opened = record {
   few = subst (λ (s : Seat). s.accesses ≤ most_accesses) (sym opened.seat) (omega arith);
   tidy = subst IsTidy (sym opened.seat) (record { desks = desks_differ plan apart n; counts = counts_differ plan apart n });
   ways = subst (λ (s : Seat). HaveFewWays s.desks) (sym opened.seat)
@@ -65,20 +65,20 @@ kept_first plan apart low handles n x opened = record {
 -- ---- the wire
 
 module _ (plan : WirePlan) (terms : WireTerms) (ns : List ℕ) (wire : WireData) (is : IsPlan plan) (plan_is : wire.plan ≡ plan) (terms_are : wire.terms ≡ terms)
-    (words : wire.words ≡ replicate (total_words (sizes_of plan)) 0) (handles : ℕ) (nodes : AreOpened plan handles ns wire.nodes) (replies : wire.replies ≡ []) (events : wire.events ≡ []) where
+    (words : wire.words ≡ replicate (total_words (sizes_of plan)) 0) (nodes : AreOpened plan ns wire.nodes) (replies : wire.replies ≡ []) (events : wire.events ≡ []) where
   module _ (p : Setting) (s : State) (opens : WireOpensOn plan terms ns p s) where
     setting : IsSettingOf plan p
     setting = opens.told.setting
 
-    one : (n : ℕ) (x : WireNode) → node_at n wire.nodes ≡ Some x → IsOpenedNode plan handles n x
-    one n x at = opened_node plan handles ns wire.nodes n x nodes at
+    one : (n : ℕ) (x : WireNode) → node_at n wire.nodes ≡ Some x → IsOpenedNode plan n x
+    one n x at = opened_node plan ns wire.nodes n x nodes at
 
     pub fresh : IsNewWire p plan terms ns wire
     fresh = record {
       plan_is = plan_is;
       terms_are = terms_are;
       words = words;
-      nodes_are = λ n. opened_has plan handles ns wire.nodes n nodes;
+      nodes_are = λ n. opened_has plan ns wire.nodes n nodes;
       seats = λ n x at. ((one n x at).seat ∙ opened_as_planned plan p is setting n, (one n x at).lives, (one n x at).seated, (one n x at).rests, (one n x at).longest, (one n x at).undead, (one n x at).unread);
       replies = replies;
       events = events;
@@ -103,8 +103,8 @@ module _ (plan : WirePlan) (terms : WireTerms) (ns : List ℕ) (wire : WireData)
         shows = (o.0, shows.0, shows.4);
         whole = subst (λ q. IsWirePlan q wire.terms) (sym plan_is) (subst (IsWirePlan plan) (sym terms_are) (wire_plan o.0 o.2.told whole low));
         numbers = subst (λ (t : WireTerms). t.first_number + most_accesses < 2 ^ 64) (sym terms_are) (omega (arith, first));
-        kept = λ n x at. kept_first plan is.numbers low handles n x (opened_node plan handles ns wire.nodes n x nodes at);
+        kept = λ n x at. kept_first plan is.numbers low n x (opened_node plan ns wire.nodes n x nodes at);
         own = λ n x at busy.
-            absurd (true≢false (sym busy ∙ ap (λ (s : Seat). is_busy s.local) (opened_node plan handles ns wire.nodes n x nodes at).seat));
-        rooms = λ n x at. subst (λ q. HasRoomToBegin q x.node) (sym plan_is) (opened_node plan handles ns wire.nodes n x nodes at).rooms;
+            absurd (true≢false (sym busy ∙ ap (λ (s : Seat). is_busy s.local) (opened_node plan ns wire.nodes n x nodes at).seat));
+        rooms = λ n x at. subst (λ q. IsRoomy q x.number x.node) (sym plan_is) (roomy_first plan n x (opened_node plan ns wire.nodes n x nodes at));
       }

@@ -10,6 +10,7 @@ pub mod ToldByLaws
 pub mod Keeping
 pub mod OwnCalls
 pub mod Roomy
+pub mod HandleRooms
 pub mod NewRefusals
 pub mod MayLend
 pub mod WireSteps

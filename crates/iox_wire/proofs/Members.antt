@@ -22,37 +22,37 @@ counted_at x at.SendsResponse = refl
 counted_at x at.CopiesRequest = refl
 counted_at x at.CopiesResponse = refl
 
-pub opened_more : (plan : WirePlan) (h : ℕ) (ns : List ℕ) (xs : List WireNode) (n : ℕ) (x : WireNode) → AreOpened plan h ns xs → IsOpenedNode plan h n x
-    → AreOpened plan h (ns ++ n ∷ []) (xs ++ x ∷ [])
-opened_more plan h [] [] n x opened one = (one, tt)
-opened_more plan h [] (y ∷ xs) n x opened one = absurd opened
-opened_more plan h (m ∷ ns) [] n x opened one = absurd opened
-opened_more plan h (m ∷ ns) (y ∷ xs) n x opened one = (opened.0, opened_more plan h ns xs n x opened.1 one)
+pub opened_more : (plan : WirePlan) (ns : List ℕ) (xs : List WireNode) (n : ℕ) (x : WireNode) → AreOpened plan ns xs → IsOpenedNode plan n x
+    → AreOpened plan (ns ++ n ∷ []) (xs ++ x ∷ [])
+opened_more plan [] [] n x opened one = (one, tt)
+opened_more plan [] (y ∷ xs) n x opened one = absurd opened
+opened_more plan (m ∷ ns) [] n x opened one = absurd opened
+opened_more plan (m ∷ ns) (y ∷ xs) n x opened one = (opened.0, opened_more plan ns xs n x opened.1 one)
 
 -- one is there for each of the numbers
-pub opened_has : (plan : WirePlan) (h : ℕ) (ns : List ℕ) (xs : List WireNode) (n : ℕ) → AreOpened plan h ns xs → is_some (node_at n xs) ≡ has_number n ns
-opened_has plan h [] [] n opened = refl
-opened_has plan h [] (y ∷ xs) n opened = absurd opened
-opened_has plan h (m ∷ ns) [] n opened = absurd opened
-opened_has plan h (m ∷ ns) (y ∷ xs) n opened =
+pub opened_has : (plan : WirePlan) (ns : List ℕ) (xs : List WireNode) (n : ℕ) → AreOpened plan ns xs → is_some (node_at n xs) ≡ has_number n ns
+opened_has plan [] [] n opened = refl
+opened_has plan [] (y ∷ xs) n opened = absurd opened
+opened_has plan (m ∷ ns) [] n opened = absurd opened
+opened_has plan (m ∷ ns) (y ∷ xs) n opened =
     let same : (y.number == n) ≡ (m == n) = ap (λ k. k == n) opened.0.number_is in
     elim (cases_Bool (m == n)) [
       | inl here ↦ rw (same ∙ here, here) refl
-      | inr apart ↦ rw (same ∙ apart, apart) (opened_has plan h ns xs n opened.1)
+      | inr apart ↦ rw (same ∙ apart, apart) (opened_has plan ns xs n opened.1)
     ]
 
-pub opened_node : (plan : WirePlan) (h : ℕ) (ns : List ℕ) (xs : List WireNode) (n : ℕ) (x : WireNode) → AreOpened plan h ns xs → node_at n xs ≡ Some x
-    → IsOpenedNode plan h n x
-opened_node plan h [] [] n x opened there = absurd (none-some x there)
-opened_node plan h [] (y ∷ xs) n x opened there = absurd opened
-opened_node plan h (m ∷ ns) [] n x opened there = absurd opened
-opened_node plan h (m ∷ ns) (y ∷ xs) n x opened there = elim (cases_Bool (y.number == n)) [
+pub opened_node : (plan : WirePlan) (ns : List ℕ) (xs : List WireNode) (n : ℕ) (x : WireNode) → AreOpened plan ns xs → node_at n xs ≡ Some x
+    → IsOpenedNode plan n x
+opened_node plan [] [] n x opened there = absurd (none-some x there)
+opened_node plan [] (y ∷ xs) n x opened there = absurd opened
+opened_node plan (m ∷ ns) [] n x opened there = absurd opened
+opened_node plan (m ∷ ns) (y ∷ xs) n x opened there = elim (cases_Bool (y.number == n)) [
   | inl here ↦ (
       let e : Some y ≡ Some x = sym (rw here refl) ∙ there in
       let k : m ≡ n = sym opened.0.number_is ∙ eqb-true y.number n here in
-      subst (λ (z : WireNode). IsOpenedNode plan h n z) (some_same y x e) (subst (λ i. IsOpenedNode plan h i y) k opened.0)
+      subst (λ (z : WireNode). IsOpenedNode plan n z) (some_same y x e) (subst (λ i. IsOpenedNode plan i y) k opened.0)
       )
-  | inr apart ↦ opened_node plan h ns xs n x opened.1 (rw apart at there)
+  | inr apart ↦ opened_node plan ns xs n x opened.1 (rw apart at there)
 ]
   where
     some_same : (a b : WireNode) → Some a ≡ Some b → a ≡ b

@@ -13,7 +13,7 @@ use Rattle.iox_model.specs.Weaves.{Beat, Begins, Dies, IsWeave, begin_refusal}
 use Rattle.iox_model.specs.declared.call.WireCall.TheVariants.{Port}
 use Rattle.iox_sets.specs.Refusals.{IsRefusal}
 use Rattle.iox_steps.specs.declared.access.Progress.{Progress}
-use Rattle.iox_wire_weaves.specs.Asking.{BeginIsWoven, BeginsCall, BeginsItsCall, IsBeginRefusal, MayBegin, asked_of}
+use Rattle.iox_wire_weaves.specs.Asking.{BeginIsWoven, BeginsCall, BeginsItsCall, IsBeginRefusal, asked_of}
 use Rattle.iox_wire_weaves.specs.Begins.{is_busy, refusal_at}
 use Rattle.iox_wire_weaves.specs.Calls.{call_in}
 use Rattle.iox_wire_weaves.specs.NodeCall.{NodeCall}
@@ -24,11 +24,10 @@ use Rattle.iox_wire_weaves.specs.Steps.{DeathIsWoven, MakesItsAccess, MakesOneAc
 use Rattle.iox_wire_weaves.specs.Tables.{Setting}
 use Rattle.iox_wire_weaves.specs.Wires.{Shows, WireData, WireNode, living_refusal, machine_refusal, node_at, refusal_in, seat_of}
 use Rattle.iox_wire_weaves.specs.declared.refusal.WireRefusal.{WireRefusal}
-use Rattle.iox_wire_weaves.specs.declared.refusal.WireRefusal.TheVariants.{AccessesSpent, AtRest, NodeIsDead, UnknownNode, WantOfMemory}
+use Rattle.iox_wire_weaves.specs.declared.refusal.WireRefusal.TheVariants.{AccessesSpent, AtRest, Busy, ForeignNumber, NodeIsDead, UnknownNode, UnknownNumber, WantOfMemory, WrongKind}
 use Rattle.iox_wire_weaves.proofs.BeginsShown.{refusals_are_shown}
 use Rattle.iox_wire_weaves.proofs.CallsSaid.{calls_are_said}
 use Rattle.iox_wire_weaves.proofs.Lookups.{first_none, seat_there}
-use Rattle.iox_wire.specs.Begun.{LacksRoom}
 use Rattle.iox_wire.specs.Kept.{Loses}
 use Rattle.iox_wire.specs.Replies.{words_call}
 use Rattle.iox_wire.specs.Schedules.{AreEntered, IsAsked, IsDeclaredDead, IsEntered, EntriesArePlayed, IsStepped, IsWovenBy, EntryLeadsTo, WantsMemory}
@@ -130,35 +129,23 @@ begin_passed : (a b : WireData) (n : ℕ) (call : NodeCall) (refusal : WireRefus
 begin_passed a b n call refusal refused named left p r shows =
     refused_where _ _ (begin_refusal r.last n (asked_of r n call)) (refusal_in refusal) (refused p r shows ∙ named) left
 
-pub begin_told : (a b : WireData) (n : ℕ) (call : NodeCall) (told want : Result (Unit {0}) WireRefusal) → OnOk told (BeginsItsCall a n call b)
-    → OnOk told (BeginIsWoven a n call b) → IfErr told (IsBeginRefusal a n call) → OnErr told (b ≡ a)
-    → OnOk want (IfErr told (λ refusal. machine_refusal refusal ≡ Some (refusal_in refusal))) → OnOk want (IsAsked a n call b)
-begin_told a b n call (Ok done) (Ok none) begun woven refused left named = begin_asked a b n call begun woven
-begin_told a b n call (Err refusal) (Ok none) begun woven refused left named = begin_passed a b n call refusal refused named left
-begin_told a b n call told (Err want) begun woven refused left named = tt
+-- all refusals but want of memory are the machine's
+named_but : (refusal : WireRefusal) → (refusal ≡ WantOfMemory → ⊥) → IsNamed refusal
+named_but UnknownNode never = refl
+named_but NodeIsDead never = refl
+named_but AtRest never = refl
+named_but AccessesSpent never = refl
+named_but Busy never = refl
+named_but UnknownNumber never = refl
+named_but ForeignNumber never = refl
+named_but WrongKind never = refl
+named_but WantOfMemory never = absurd (never refl)
 
-may_begin : (a : WireData) (n : ℕ) (call : NodeCall) (refusal : WireRefusal) → IsBeginRefusal a n call refusal → machine_refusal refusal ≡ None → MayBegin a n call
-may_begin a n call refusal refused left p r shows = refused p r shows ∙ left
-
-pub begin_allowed : (a : WireData) (n : ℕ) (call : NodeCall) (told want : Result (Unit {0}) WireRefusal) → IfErr told (IsBeginRefusal a n call)
-    → OnErr want (IfOk told (λ done. ⊥)) → OnErr want (IfErr told (λ refusal. machine_refusal refusal ≡ None)) → OnErr want (MayBegin a n call)
-begin_allowed a n call told (Ok none) refused wants left = tt
-begin_allowed a n call (Ok done) (Err want) refused wants left = absurd wants
-begin_allowed a n call (Err refusal) (Err want) refused wants left = may_begin a n call refusal refused left
-
--- where none does, its node has no room for a handle
-pub begin_full : (a : WireData) (n : ℕ) (call : NodeCall) (told want : Result (Unit {0}) WireRefusal)
-    → IfErr told (λ refusal. refusal ≡ WantOfMemory → LacksRoom a n call) → OnErr want (IfOk told (λ done. ⊥))
-    → OnErr want (IfErr told (λ refusal. refusal ≡ WantOfMemory)) → OnErr want (LacksRoom a n call)
-begin_full a n call told (Ok none) full wants memory = tt
-begin_full a n call (Ok done) (Err want) full wants memory = absurd wants
-begin_full a n call (Err refusal) (Err want) full wants memory = full memory
-
--- an entry that is such a begin wants memory
-pub begin_wants : (a b : WireData) (n : ℕ) (call : NodeCall) (e : WireEntry) (want : Result (Unit {0}) WireRefusal) → e ≡ Begin n call
-    → OnErr want (MayBegin a n call) → OnErr want (LacksRoom a n call) → OnErr want (b ≡ a) → OnErr want (WantsMemory a e b)
-begin_wants a b n call e (Ok none) is may lacks same = tt
-begin_wants a b n call e (Err want) is may lacks same = subst (λ k. WantsMemory a k b) (sym is) (may, lacks, same)
+pub begin_told : (a b : WireData) (n : ℕ) (call : NodeCall) (told : Result (Unit {0}) WireRefusal) → OnOk told (BeginsItsCall a n call b)
+    → OnOk told (BeginIsWoven a n call b) → IfErr told (IsBeginRefusal a n call) → OnErr told (b ≡ a) → IfErr told (λ refusal. refusal ≡ WantOfMemory → ⊥)
+    → IsAsked a n call b
+begin_told a b n call (Ok done) begun woven refused left never = begin_asked a b n call begun woven
+begin_told a b n call (Err refusal) begun woven refused left never = begin_passed a b n call refusal refused (named_but refusal never) left
 
 -- ---- and of a death
 
@@ -317,7 +304,7 @@ three_told (Err refusal) a d n played p r shows = tt
 
 -- what wants memory leaves a wire that shows the runs that it showed
 pub wants_shows : (e : WireEntry) (a b : WireData) → WantsMemory a e b → (p : Setting) (r : Run) → Shows p a r → Shows p b r
-wants_shows (Begin n call) a b wants p r shows = subst (λ w. Shows p w r) (sym wants.2) shows
+wants_shows (Begin n call) a b wants p r shows = absurd wants
 wants_shows (Step n) a b wants p r shows = subst (λ w. Shows p w r) (sym wants.2) shows
 wants_shows (Die n) a b wants p r shows = absurd wants
 

@@ -3,9 +3,11 @@ use Rattle.std.specs.List.{find, fold}
 use Rattle.std.specs.Prelude.{max}
 use Rattle.std.specs.Option.{option_map_or}
 use Rattle.std.specs.Prelude.{nat_lt}
-use Rattle.std.proofs.Common.{◌≡◌, ℕ, ◌≤◌, ◌==◌, ◌^◌, Bool, true, false, if◌then◌else◌, List, [], ◌∷◌, Some, None, sym, subst, ◌∙◌, arith, inl, inr}
+use Rattle.std.proofs.Common.{◌≡◌, ℕ, ◌+◌, ◌<◌, ◌≤◌, ◌==◌, ◌^◌, Bool, true, false, if◌then◌else◌, List, [], ◌∷◌, length, Some, None, ap, sym, subst, ◌∙◌, arith, inl, inr}
 use Rattle.std.proofs.lemmas.Bool.{cases_Bool}
 use Rattle.std.proofs.lemmas.Option.{none-some, same_Some}
+use Rattle.iox_wire_weaves.specs.Entry.{Entry}
+use Rattle.iox_wire_weaves.specs.HandleBounds.{handle_room, most_of_node}
 use Rattle.iox_wire_weaves.specs.Laws.{Replaces}
 use Rattle.iox_wire_weaves.specs.Nodes.{NodeView}
 use Rattle.iox_wire_weaves.specs.PlacedHandles.{HasRoomForSlots}
@@ -13,18 +15,43 @@ use Rattle.iox_wire_weaves.specs.PlanPort.{PlanPort}
 use Rattle.iox_wire_weaves.specs.Plans.{most_ways}
 use Rattle.iox_wire_weaves.specs.Replies.{most_words}
 use Rattle.iox_wire_weaves.specs.Rooms.{HasRoomOf, HasRoomToBegin, KeepsRooms}
+use Rattle.iox_wire_weaves.specs.Seat.{Seat}
 use Rattle.iox_wire_weaves.specs.WirePlan.{WirePlan}
 use Rattle.iox_wire_weaves.specs.Wires.{WireNode}
+use Rattle.iox_wire_weaves.proofs.NodesKnown.{table_alike}
 use Rattle.iox_wire_weaves.proofs.RoomsKept.{room_suffices}
-use Rattle.iox_wire.specs.Kept.{AreRoomy}
+use Rattle.iox_wire.specs.Kept.{AreRoomy, IsOpenedNode, IsRoomy}
 use Rattle.iox_wire.proofs.Keeping.{each_still}
 
 -- ---- as a node changes
 
+-- its room is neither made nor lost
 pub roomy_still : (plan : WirePlan) (xs : List WireNode) (n : ℕ) (d y : WireNode) (new : List WireNode) → Replaces xs n d y new → AreRoomy plan xs
-    → KeepsRooms d.node y.node → AreRoomy plan new
-roomy_still plan xs n d y new puts roomy keeps =
-    each_still (λ x. HasRoomToBegin plan x.node) xs n d y new puts roomy (room_suffices plan d.node y.node keeps (roomy n d puts.before))
+    → KeepsRooms d.node y.node → y.number ≡ d.number
+    → y.node.seat.room + length y.node.seat.seat.table ≡ d.node.seat.room + length d.node.seat.seat.table → AreRoomy plan new
+roomy_still plan xs n d y new puts roomy keeps number same =
+    let before = roomy n d puts.before in
+    each_still (λ x. IsRoomy plan x.number x.node) xs n d y new puts roomy (record {
+      calls = room_suffices plan d.node y.node keeps before.calls;
+      handles = same ∙ before.handles ∙ ap (handle_room plan) (sym number);
+    })
+
+-- where it has no more handles than its ports may have, there is room for one more
+pub room_left : (plan : WirePlan) (number : ℕ) (x : NodeView) → IsRoomy plan number x → length x.seat.seat.table ≤ most_of_node plan number → 0 < x.seat.room
+room_left plan number x roomy few = let has = roomy.handles in omega (arith, has, few)
+
+-- a node that opens has no handle
+pub roomy_first : (plan : WirePlan) (n : ℕ) (x : WireNode) → IsOpenedNode plan n x → IsRoomy plan x.number x.node
+roomy_first plan n x opened = record {
+  calls = opened.rooms;
+  handles = ap (λ (es : List Entry). x.node.seat.room + length es) none ∙ nothing x.node.seat.room ∙ opened.room ∙ ap (handle_room plan) (sym opened.number_is);
+}
+  where
+    none : x.node.seat.seat.table ≡ []
+    none = sym (table_alike x.node x.node.at) ∙ ap (λ (s : Seat). s.table) opened.seat
+
+    nothing : (k : ℕ) → k + 0 ≡ k
+    nothing k = omega arith
 
 -- ---- as a wire opens
 

@@ -27,9 +27,9 @@ use Rattle.iox_wire_weaves.specs.Wires.{Shows, WireData, WireNode, living_refusa
 use Rattle.iox_wire_weaves.proofs.DeathsShown.{deaths_show}
 use Rattle.iox_wire_weaves.proofs.Lookups.{living_by, seat_there, steps_on}
 use Rattle.iox_wire_weaves.proofs.StepsShown.{steps_show}
-use Rattle.iox_wire.specs.Kept.{HasGoneOn, IsAtItsCall, IsKept, IsShown, Loses, MayAccess, access_in}
+use Rattle.iox_wire.specs.Kept.{HasGoneOn, IsAtItsCall, IsKept, IsRoomy, IsShown, Loses, MayAccess, access_in}
 use Rattle.iox_wire.proofs.GoingOn.{goes_on}
-use Rattle.iox_wire_weaves.specs.Rooms.{HasRoomToBegin, KeepsRooms}
+use Rattle.iox_wire_weaves.specs.Rooms.{KeepsRooms}
 use Rattle.iox_wire.proofs.Keeping.{each_still, kept_on, kept_still}
 use Rattle.iox_wire.proofs.Roomy.{roomy_still}
 use Rattle.iox_wire.proofs.OwnCalls.{own_stepped}
@@ -144,7 +144,7 @@ module _ (w : WireData) (n i : ℕ) (d : WireNode) (at : position (λ x. x.numbe
             (kept_on p d.node y.node (seen_at (access_in p d.node) w.words) reply kept rests.1 rests.2 made.gone.went made.gone.ready);
         own = each_still IsAtItsCall w.nodes n d y (slice_set w.nodes i y) (replaced n w.nodes i d y at read is.number) shown.own
             (own_stepped d y reply (shown.own n d there) rests.1 made.gone.went.call is.call);
-        rooms = roomy_still w.plan w.nodes n d y (slice_set w.nodes i y) (replaced n w.nodes i d y at read is.number) shown.rooms is.rooms;
+        rooms = roomy_still w.plan w.nodes n d y (slice_set w.nodes i y) (replaced n w.nodes i d y at read is.number) shown.rooms is.rooms is.number made.gone.went.room;
       }
 
   -- ---- a death
@@ -169,8 +169,8 @@ module _ (w : WireData) (n i : ℕ) (d : WireNode) (at : position (λ x. x.numbe
             (subst (λ (z : WireNode). IsKept z.node) (sym dead) (shown.kept n d there));
         own = each_still IsAtItsCall w.nodes n d y (slice_set w.nodes i y) (replaced n w.nodes i d y at read (ap (λ (z : WireNode). z.number) dead)) shown.own
             (subst IsAtItsCall (sym dead) (shown.own n d there));
-        rooms = each_still (λ z. HasRoomToBegin w.plan z.node) w.nodes n d y (slice_set w.nodes i y) (replaced n w.nodes i d y at read (ap (λ (z : WireNode). z.number) dead)) shown.rooms
-            (subst (λ (z : WireNode). HasRoomToBegin w.plan z.node) (sym dead) (shown.rooms n d there));
+        rooms = each_still (λ z. IsRoomy w.plan z.number z.node) w.nodes n d y (slice_set w.nodes i y) (replaced n w.nodes i d y at read (ap (λ (z : WireNode). z.number) dead)) shown.rooms
+            (subst (λ (z : WireNode). IsRoomy w.plan z.number z.node) (sym dead) (shown.rooms n d there));
       }
       )
 

@@ -1,9 +1,9 @@
 -- How a call begins on a wire, and why one does not.
-use Rattle.std.specs.Prelude.{◌≡◌, ℕ, Some, true}
+use Rattle.std.specs.Prelude.{◌≡◌, ℕ, Some}
 use Rattle.iox_model.specs.declared.call.WireCall.TheVariants.{Port}
 use Rattle.iox_wire_weaves.specs.Aims.{MayAdd}
 use Rattle.iox_wire_weaves.specs.Begins.{refusal_at}
-use Rattle.iox_wire_weaves.specs.Calls.{IsKeptAt, call_in, call_in_words, may_add_handle}
+use Rattle.iox_wire_weaves.specs.Calls.{IsKeptAt, call_in, call_in_words}
 use Rattle.iox_wire_weaves.specs.Laws.{LivesAs}
 use Rattle.iox_wire_weaves.specs.NodeCall.{NodeCall}
 use Rattle.iox_wire_weaves.specs.Nodes.{seat_in}
@@ -14,11 +14,9 @@ use Rattle.iox_wire_weaves.specs.Tables.{Setting}
 use Rattle.iox_wire_weaves.specs.Terms.{IsSettingWith}
 use Rattle.iox_wire_weaves.specs.WirePlan.{WirePlan}
 use Rattle.iox_wire_weaves.specs.WireTerms.{WireTerms}
-use Rattle.iox_wire_weaves.specs.Wires.{WireData, WireNode, machine_refusal, node_at}
+use Rattle.iox_wire_weaves.specs.Wires.{WireNode, machine_refusal}
 use Rattle.iox_wire_weaves.specs.declared.refusal.WireRefusal.{WireRefusal}
 use Rattle.iox_wire.specs.Replies.{words_call}
-
--- ---- a node
 
 -- The node began the call, after so many events: it is at its first place, knows the places of the words
 -- that it accesses, has room for what the call adds at its end, and for other calls as before, and keeps
@@ -44,15 +42,3 @@ IsRefusedBy plan terms old call error =
     (p : Setting) → IsSettingWith plan terms p
     → refusal_at p (seat_in old.node) (Port (call_in p (seat_in old.node) call))
     ≡ machine_refusal error
-
--- the call may add a handle, for which the node has no room
-abbrev pub FindsNoRoom : WireNode → NodeCall → Type 0
-FindsNoRoom x call = (may_add_handle call ≡ true) × (x.node.seat.room ≡ 0)
-
--- ---- a wire
-
--- the call may add a handle, for which the node of that number has no room
-abbrev pub LacksRoom : WireData → ℕ → NodeCall → Type 0
-LacksRoom wire n call =
-    (may_add_handle call ≡ true)
-    × ((x : WireNode) → node_at n wire.nodes ≡ Some x → x.node.seat.room ≡ 0)

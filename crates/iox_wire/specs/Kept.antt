@@ -13,7 +13,8 @@ use Rattle.iox_wire_openings.specs.OpenedNodes.{planned_seat}
 use Rattle.iox_wire.specs.Replies.{FinishedCalls}
 use Rattle.iox_wire_weaves.specs.ReadWords.{TellsNoWords}
 use Rattle.iox_wire_weaves.specs.Replies.{most_words}
-use Rattle.iox_wire_weaves.specs.Rooms.{HasRoomToBegin}
+use Rattle.iox_wire_weaves.specs.HandleBounds.{handle_room}
+use Rattle.iox_wire_weaves.specs.Rooms.{HasItsRoom, HasRoomToBegin}
 use Rattle.iox_wire_weaves.specs.Runs.{Run}
 use Rattle.iox_wire_weaves.specs.WirePlan.{WirePlan}
 use Rattle.iox_wire_weaves.specs.WirePlans.{IsWirePlan}
@@ -52,9 +53,16 @@ abbrev pub IsAtItsCall : WireNode → Type 0
 IsAtItsCall x =
     is_busy (seat_in x.node).local ≡ true → IfSome x.call (λ u. IsWireCallAt u.call x.node.at)
 
--- Each node has room for whatever a call keeps on the wire of that plan.
+-- On the wire of that plan the node of that number has room for whatever a call keeps, and for more
+-- handles than its ports may have.
+pub record IsRoomy (plan : WirePlan) (number : ℕ) (x : NodeView) : Type 0 where
+  pub calls : HasRoomToBegin plan x
+  pub handles : HasItsRoom (handle_room plan number) x
+
+-- so has each node
 abbrev pub AreRoomy : WirePlan → List WireNode → Type 0
-AreRoomy plan nodes = (n : ℕ) (x : WireNode) → node_at n nodes ≡ Some x → HasRoomToBegin plan x.node
+AreRoomy plan nodes =
+    (n : ℕ) (x : WireNode) → node_at n nodes ≡ Some x → IsRoomy plan x.number x.node
 
 -- A wire shows a run of the machine, calls may begin with its plan and its terms, its handles have
 -- numbers, and its nodes have room for what calls keep.
@@ -87,14 +95,14 @@ pub record Loses (old : WireData) (n : ℕ) (new : WireData) : Type 0 where
 
 -- ---- an opening
 
--- a living node of that number that has what the plan tells, and room for so many handles and for what
--- calls keep
-pub record IsOpenedNode (plan : WirePlan) (handles number : ℕ) (x : WireNode) : Type 0 where
+-- a living node of that number that has what the plan tells, and room for its handles and for what calls
+-- keep
+pub record IsOpenedNode (plan : WirePlan) (number : ℕ) (x : WireNode) : Type 0 where
   pub number_is : x.number ≡ number
   pub lives : x.alive ≡ true
   pub seat : seat_in x.node ≡ planned_seat plan number
   pub seated : x.node.at ≡ Seats
-  pub room : x.node.seat.room ≡ handles
+  pub room : x.node.seat.room ≡ handle_room plan number
   pub rests : x.call ≡ None
   pub undead : x.died ≡ None
   pub longest : x.longest ≡ most_words plan
@@ -102,16 +110,15 @@ pub record IsOpenedNode (plan : WirePlan) (handles number : ℕ) (x : WireNode) 
   pub rooms : HasRoomToBegin plan x.node
 
 -- such are the nodes of these numbers
-abbrev pub AreOpened : WirePlan → (handles : ℕ) → List ℕ → List WireNode → Type 0
-AreOpened plan handles [] [] = Unit {0}
-AreOpened plan handles (n ∷ ns) (x ∷ xs) =
-    IsOpenedNode plan handles n x × AreOpened plan handles ns xs
-AreOpened plan handles ns xs = ⊥
+abbrev pub AreOpened : WirePlan → List ℕ → List WireNode → Type 0
+AreOpened plan [] [] = Unit {0}
+AreOpened plan (n ∷ ns) (x ∷ xs) = IsOpenedNode plan n x × AreOpened plan ns xs
+AreOpened plan ns xs = ⊥
 
--- so many handles each node has room for
-abbrev pub NodesHaveRoom : ℕ → List WireNode → Type 0
-NodesHaveRoom handles nodes =
-    (n : ℕ) (x : WireNode) → node_at n nodes ≡ Some x → x.node.seat.room ≡ handles
+-- each node has room for more handles than its ports may have
+abbrev pub NodesHaveRoom : WirePlan → List WireNode → Type 0
+NodesHaveRoom plan nodes =
+    (n : ℕ) (x : WireNode) → node_at n nodes ≡ Some x → x.node.seat.room ≡ handle_room plan n
 
 -- ---- an access
 

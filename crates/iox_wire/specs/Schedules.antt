@@ -7,14 +7,13 @@ use Rattle.iox_model.specs.Weaves.{Beat, Begins, IsWeave, World, begin_refusal}
 use Rattle.iox_model.specs.declared.call.WireCall.TheVariants.{Port}
 use Rattle.iox_steps.specs.declared.access.Progress.{Progress}
 use Rattle.iox_model.specs.WireCalls.{said_on_wire}
-use Rattle.iox_wire_weaves.specs.Asking.{BeginsCall, MayBegin, asked_of, call_said}
+use Rattle.iox_wire_weaves.specs.Asking.{BeginsCall, asked_of, call_said}
 use Rattle.iox_wire_weaves.specs.NodeCall.{NodeCall}
 use Rattle.iox_wire_weaves.specs.NodeReply.{NodeReply}
 use Rattle.iox_wire_weaves.specs.Runs.{GoesOnBy, Run}
 use Rattle.iox_wire_weaves.specs.Steps.{DeathIsWoven, MakesItsAccess, StepIsWoven, step_refusal}
 use Rattle.iox_wire_weaves.specs.Tables.{Setting}
 use Rattle.iox_wire_weaves.specs.Wires.{Shows, WireData, living_refusal}
-use Rattle.iox_wire.specs.Begun.{LacksRoom}
 use Rattle.iox_wire.specs.Kept.{Loses}
 use Rattle.iox_wire.specs.Replies.{words_call}
 use Rattle.iox_wire.specs.declared.entry.WireEntry.{WireEntry}
@@ -93,15 +92,13 @@ pub record EntriesArePlayed (old : WireData) (entries : List WireEntry) (new : W
   pub each : AreEntered old entries new
   pub woven : IsWovenBy old entries new
 
--- Nothing refuses the entry, but there is no room for it, and nothing changes: a call that begins may
--- add a handle for which its node has no room, and a step finds no room left. A death takes no room.
+-- Nothing refuses the step, but there is no room left for it, and nothing changes. A begin and a death
+-- take no room.
 abbrev pub WantsMemory : WireData → WireEntry → WireData → Type 0
-WantsMemory old (Begin node call) new =
-    MayBegin old node call × LacksRoom old node call × (new ≡ old)
 WantsMemory old (Step node) new = (step_refusal old node ≡ None) × (old.room ≡ 0) × (new ≡ old)
-WantsMemory old (Die node) new = ⊥
+WantsMemory old entry new = ⊥
 
--- The entries are played up to one that finds no memory. Each of them took room for one step at most.
+-- The entries are played up to a step that finds no memory. Each of them took room for one step at most.
 abbrev pub IsStopped : WireData → List WireEntry → WireData → Type 0
 IsStopped old entries new =
     (count : ℕ) × (last : WireData) × EntriesArePlayed old (take count entries) last

@@ -4,22 +4,20 @@ ghost use Rattle.iox_wire_weaves.specs.Asking.{BeginIsWoven, BeginsItsCall, IsBe
 ghost use Rattle.iox_wire_weaves.specs.NodeCall.TheVariants.{HasRequests};
 ghost use Rattle.iox_wire_weaves.specs.Steps.{KeepsReads};
 ghost use Rattle.iox_wire_weaves.specs.declared.refusal.WireRefusal.TheVariants.{WantOfMemory};
-ghost use Rattle.iox_wire.specs.Begun.{LacksRoom};
 
 use crate::wire::Wire;
 use iox_wire_weaves::{NodeCall, WireRefusal};
 
 impl Wire {
     /// The node begins a call of the port or the handle of its number. That takes no memory: room
-    /// for what calls keep is made with the wire.
+    /// for what calls keep, and for all handles that the node may have, is made with the wire.
     pub fn begin(&mut self, node: u64, call: NodeCall<'_>) -> Result<(), WireRefusal>
         ensures begun { OnOk result (BeginsItsCall self.old node call.entry self.new) }
         ensures weave { OnOk result (BeginIsWoven self.old node call.entry self.new) }
         ensures read { KeepsReads self.old self.new }
         ensures room { self.new.room ≡ self.old.room }
         ensures refused { IfErr result (IsBeginRefusal self.old node call.entry) }
-        ensures full { IfErr result (λ error. error ≡ WantOfMemory
-            → LacksRoom self.old node call.entry) }
+        ensures always { IfErr result (λ error. error ≡ WantOfMemory → ⊥) }
         ensures unchanged { OnErr result (self.new ≡ self.old) }
     {
         let place = self.living(node)?;

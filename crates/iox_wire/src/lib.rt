@@ -8,6 +8,7 @@ mod entry;
 mod events;
 mod finding;
 mod finished;
+mod handle_room;
 mod member;
 mod new_error;
 mod opening;

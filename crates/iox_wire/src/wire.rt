@@ -73,14 +73,14 @@ impl Wire {
     ghost use Rattle.iox_wire.specs.declared.new_error.WireNewError.TheVariants as new_errors;
 
     /// A wire of that plan, with these nodes alive, on which nothing happened yet. Each node has
-    /// room for so many handles. The plan and the terms are to be those of a service on which a
-    /// wire may open. Want of memory is told only where `new_refusal` tells nothing.
+    /// room for all handles that its ports may have. The plan and the terms are to be those of a
+    /// service on which a wire may open. Want of memory is told only where `new_refusal` tells
+    /// nothing.
     pub fn new(
         alloc: Global,
         plan: WirePlan,
         terms: WireTerms,
         nodes: &[u64],
-        handles: usize,
     ) -> Result<Wire, WireNewError>
         requires plan { IsPlan plan }
         requires whole { AreWhole plan terms }
@@ -89,7 +89,7 @@ impl Wire {
             → IfOk result (ShowsOpened p s) }
         ensures fresh { (p : Setting) → (s : State) → WireOpensOn plan terms nodes.now p s
             → IfOk result (IsNewWire p plan terms nodes.now) }
-        ensures room { IfOk result (λ wire. NodesHaveRoom handles wire.nodes) }
+        ensures room { IfOk result (λ wire. NodesHaveRoom plan wire.nodes) }
         ensures allowed { OnOk result (new_refusal plan terms ≡ None) }
         ensures refused { IfErr result
             (IsRefusal new_errors.WantOfMemory (new_refusal plan terms)) }
@@ -104,7 +104,7 @@ impl Wire {
             unreachable!();
         };
         let words = zeros(alloc, places.total())?;
-        let members = open_members(alloc, places.plan(), nodes, handles, ways)?;
+        let members = open_members(alloc, places.plan(), nodes, ways)?;
         let lists = Lists::new(alloc, &places)?;
         let longest = longest_message(places.plan());
         Ok(Wire {

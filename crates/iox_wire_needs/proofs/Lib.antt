@@ -8,6 +8,7 @@ pub mod Tidying
 pub mod Copying
 pub mod ReadWords
 pub mod Handles
+pub mod HandleCounts
 pub mod SettingsStay
 pub mod Forgetting
 pub mod WireSteps

@@ -1,7 +1,7 @@
 -- In reading order: the two laws of a wire, that calls begin by their node's own data, and that steps
 -- keep what stands and the setting; that a place bounds its access; what a node may count, and that it
 -- stays tidy; slots and lanes that its place names; which slots are in use; that a copy goes on; which
--- words a read tells; and what it may do with its handles.
+-- words a read tells; what it may do with its handles, and how many these are.
 pub mod OwnBegins
 pub mod SettingsStay
 pub mod WireSteps
@@ -13,6 +13,7 @@ pub mod Uses
 pub mod Copying
 pub mod ReadWords
 pub mod Handles
+pub mod HandleCounts
 -- what the crates above cite of those below
 pub use Rattle.iox_wire_keeps.specs.Aside
 pub use Rattle.iox_wire_keeps.specs.CallsStand

@@ -4,6 +4,7 @@
 
 ghost use Rattle.iox_wire_needs.specs.Copying.{BegunCopiesGoOn, SteppedCopiesGoOn};
 ghost use Rattle.iox_wire_needs.specs.Counts.{NodesMayCountMore};
+ghost use Rattle.iox_wire_needs.specs.HandleCounts.{HandlesAreFew};
 ghost use Rattle.iox_wire_needs.specs.Handles.{HandlesMayBeGivenUp};
 ghost use Rattle.iox_wire_needs.specs.OwnBegins.{CallsBeginByOwnData};
 ghost use Rattle.iox_wire_needs.specs.PlaceBounds.{CellsStay, NodesAreBound, PlacesBoundAccesses};
@@ -69,6 +70,12 @@ pub fn reads_tell_messages()
 /// A handle that was not received may be given up.
 pub fn handles_may_be_given_up()
     ensures { HandlesMayBeGivenUp }
+{}
+
+/// A node has no more handles of a port's own messages than the pool has slots, and of each way no
+/// more than it may borrow there.
+pub fn handles_are_few()
+    ensures { HandlesAreFew }
 {}
 
 /// No two desks are of one port, and no two counts of one way, as a call begins and over each step.

@@ -26,7 +26,7 @@ module _ (p : Setting) (n : NodeView) where
   ready_to_lend s y number port leaves ordered next = record {
     accesses = leaves.accesses;
     room = leaves.room;
-    may = λ lends. still_lends s y.order.number y.order.port leaves (ordered.0 ∙ next) (lends tt);
+    may = λ lends. still_lends s y.order.number y.order.port leaves (ordered.0 ∙ next) lends;
   }
 
   pub ready_to_copy_request : (s : Placed) (y : CopyCall) (number port : ℕ) → LeavesSeat n.seat s
@@ -35,7 +35,7 @@ module _ (p : Setting) (n : NodeView) where
   ready_to_copy_request s y number port leaves made next = record {
     accesses = leaves.accesses;
     room = leaves.room;
-    may = λ lends. made s (still_lends s number port leaves next (lends tt));
+    may = λ lends. made s (still_lends s number port leaves next lends);
   }
 
   pub ready_to_copy_response : (s : Placed) (y : ResponseCopy) (number port : ℕ) → LeavesSeat n.seat s
@@ -44,7 +44,7 @@ module _ (p : Setting) (n : NodeView) where
   ready_to_copy_response s y number port leaves made next = record {
     accesses = leaves.accesses;
     room = leaves.room;
-    may = λ lends. made s (still_lends s number port leaves next (lends tt));
+    may = λ lends. made s (still_lends s number port leaves next lends);
   }
 
   -- a loan that is a handle adds none

@@ -89,7 +89,7 @@ ready_to_receive p n y number counts = record {
   room = record { handles = refl; rooms = record { ways = refl; words = refl } };
   may = λ lends. (
     subst (λ (k : ℕ). receives.MayReceive n.seat k) (sym number)
-        (record { room = (lends tt 0).room; newer = (lends tt 0).newer; handles = (lends tt 0).handles }),
+        (record { room = (lends 0).room; newer = (lends 0).newer; handles = (lends 0).handles }),
     counts,
   );
 }

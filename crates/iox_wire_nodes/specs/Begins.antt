@@ -32,20 +32,12 @@ use Rattle.iox_wire_nodes.specs.Nodes.{NodeView, seat_in}
 abbrev pub called : HandleCall → ℕ → WireCall
 called call n = Port (of_handle call n)
 
--- the call may add a handle at its end
-abbrev pub AddsHandle : CallAt → Type 0
-AddsHandle at.Seats = ⊥
-AddsHandle at.SendsRequest = ⊥
-AddsHandle at.SendsResponse = ⊥
-AddsHandle call = Unit {0}
-
 -- With a begin the node makes no access, and gets no handle. If it may have one handle more, with
--- its next number, where the call adds one, it may add what the call adds at its end.
+-- its next number, it may add what the call adds at its end.
 pub record BeginKeepsHandles (p : Setting) (old new : NodeView) : Type 0 where
   pub accesses : new.seat.seat.accesses ≡ old.seat.seat.accesses
   pub room : KeepsRoom old.seat new.seat
-  pub may : (AddsHandle new.at → (port : ℕ)
-      → MayLend old.seat (next_handle p old.seat.seat) port) → MayAdd new.at new
+  pub may : ((port : ℕ) → MayLend old.seat (next_handle p old.seat.seat) port) → MayAdd new.at new
 
 -- The call is not refused: the node begins it, and knows the places of the words that it accesses.
 pub record IsBegun (p : Setting) (old : NodeView) (call : WireCall) (new : NodeView) : Type 0 where

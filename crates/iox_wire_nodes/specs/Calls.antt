@@ -113,13 +113,6 @@ asked_in (node_calls.Receive n) = asked.Receive
 asked_in (node_calls.HasRequests n) = asked.HasRequests
 asked_in (node_calls.Handle n call) = asked_by call
 
--- whether a node that makes the call may have a handle more at its end
-abbrev pub may_add_handle : NodeCall → Bool
-may_add_handle (node_calls.Loan n k) = true
-may_add_handle (node_calls.SendCopy n y) = true
-may_add_handle (node_calls.Receive n) = true
-may_add_handle call = false
-
 -- ---- which kinds have a call
 
 -- whether ports of some role have it

@@ -1,6 +1,6 @@
 //! What a node of a wire is asked.
 ghost use Rattle.std.specs.Prelude.{◌≡◌};
-ghost use Rattle.iox_wire_nodes.specs.Calls.{asked_in, may_add_handle, number_in};
+ghost use Rattle.iox_wire_nodes.specs.Calls.{asked_in, number_in};
 
 use crate::handle_call::HandleCall;
 use iox_model::kind::Role;
@@ -60,21 +60,6 @@ impl<'a> NodeCall<'a> {
             NodeCall::Receive { number } => number,
             NodeCall::HasRequests { number } => number,
             NodeCall::Handle { number, .. } => number,
-        }
-    }
-
-    /// Whether a node that makes the call may have a handle more at its end.
-    pub fn may_add_handle(self) -> bool
-        ensures { result ≡ may_add_handle self.entry }
-    {
-        match self {
-            NodeCall::Loan { .. } => true,
-            NodeCall::SendCopy { .. } => true,
-            NodeCall::Receive { .. } => true,
-            NodeCall::Write { .. } => false,
-            NodeCall::Send { .. } => false,
-            NodeCall::HasRequests { .. } => false,
-            NodeCall::Handle { .. } => false,
         }
     }
 

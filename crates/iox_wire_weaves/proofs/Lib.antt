@@ -11,6 +11,7 @@ pub mod NodesKnown
 mod SlotRooms
 mod PortSlots
 pub mod HandlesStanding
+pub mod HandleSums
 pub mod CallsSaid
 pub mod ReadsWithin
 pub mod Opened

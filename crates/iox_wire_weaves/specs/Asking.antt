@@ -1,5 +1,5 @@
 -- Why a call does not begin on a wire, and what the begin of one does.
-use Rattle.std.specs.Prelude.{◌≡◌, ℕ, ◌==◌, false, Option, None, option_map}
+use Rattle.std.specs.Prelude.{◌≡◌, ℕ, ◌==◌, false, Option, option_map}
 use Rattle.iox_model.specs.declared.call.Call.TheVariants as calls
 use Rattle.iox_model.specs.declared.call.WireCall.TheVariants.{Port}
 use Rattle.iox_model.specs.Commands.{Call, Refusal, WireCall}
@@ -43,18 +43,11 @@ call_refusal p wire n call =
     or_else (option_map refusal_in (living_refusal wire.nodes n))
     (refusal_at p (seat_of p wire.nodes n) (Port call))
 
--- The machine refuses the call by that name, in each run that the wire shows; where it refuses
--- nothing, want of memory is told.
+-- The machine refuses the call by that name, in each run that the wire shows.
 abbrev pub IsBeginRefusal : WireData → ℕ → NodeCall → WireRefusal → Type 0
 IsBeginRefusal wire n call refusal =
     (p : Setting) (r : Run) → Shows p wire r
     → begin_refusal r.last n (asked_of r n call) ≡ machine_refusal refusal
-
--- The machine does not refuse the call, in any run that the wire shows.
-abbrev pub MayBegin : WireData → ℕ → NodeCall → Type 0
-MayBegin wire n call =
-    (p : Setting) (r : Run) → Shows p wire r
-    → begin_refusal r.last n (asked_of r n call) ≡ None
 
 -- ---- a begin
 

@@ -4,6 +4,7 @@
 
 ghost use Rattle.iox_wire_weaves.specs.CountLaws.{KeptIsTold, OutstandingIsTold};
 ghost use Rattle.iox_wire_weaves.specs.Events.{SlotsTellEvents};
+ghost use Rattle.iox_wire_weaves.specs.HandleBounds.{NodesHaveFewHandles};
 ghost use Rattle.iox_wire_weaves.specs.Laws.{BeginsShow, CallsAreSaid, DeathsShow, RefusalsAreShown};
 ghost use Rattle.iox_wire_weaves.specs.Laws.{HandlesStand, ReadsAreWithin};
 ghost use Rattle.iox_wire_weaves.specs.Laws.{NodesAreKnown, StepsAreSafe, StepsShow, WiresOpen};
@@ -60,6 +61,11 @@ pub fn nodes_are_known()
 /// Each handle of a node between calls is what it may be on the wire.
 pub fn handles_stand()
     ensures { HandlesStand }
+{}
+
+/// A living node has no more handles than its ports may have together, wherever it is in its call.
+pub fn nodes_have_few_handles()
+    ensures { NodesHaveFewHandles }
 {}
 
 /// A read tells no more words than a message takes in its slot.

@@ -19,7 +19,6 @@ pub enum WireRefusal {
     AtRest,
     /// The node made as many accesses as it may.
     AccessesSpent,
-    /// The node has no room for the handle that the call may add, or there is none for what the step
-    /// is to record, and no memory.
+    /// There is no room for what the step is to record, and no memory.
     WantOfMemory,
 }

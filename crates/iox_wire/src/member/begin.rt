@@ -1,8 +1,6 @@
 //! How a node of a wire begins a call.
-ghost use Rattle.std.specs.Prelude.{ℕ, ◌≡◌, ◌<◌, IfErr, IfSome, None, OnErr, OnOk, false, true};
-ghost use Rattle.std.specs.Bool.{OnFalse, OnTrue};
+ghost use Rattle.std.specs.Prelude.{ℕ, ◌≡◌, IfErr, OnErr, OnOk, false};
 ghost use Rattle.iox_wire_weaves.specs.Begins.{is_busy};
-ghost use Rattle.iox_wire_weaves.specs.Calls.{may_add_handle};
 ghost use Rattle.iox_wire_weaves.specs.Lendings.{next_handle};
 ghost use Rattle.iox_wire_weaves.specs.Lends.{MayLend};
 ghost use Rattle.iox_wire_weaves.specs.Nodes.{seat_in};
@@ -15,7 +13,7 @@ ghost use Rattle.iox_wire_weaves.specs.HandleCalls.{refusal_in};
 ghost use Rattle.iox_wire_weaves.specs.Rooms.{HasRoomToBegin};
 ghost use Rattle.iox_wire_weaves.specs.Wires.{machine_refusal};
 ghost use Rattle.iox_wire_weaves.specs.declared.refusal.WireRefusal.TheVariants.{WantOfMemory};
-ghost use Rattle.iox_wire.specs.Begun.{FindsNoRoom, HasBegun, IsRefusedBy};
+ghost use Rattle.iox_wire.specs.Begun.{HasBegun, IsRefusedBy};
 
 use super::Member;
 use crate::finding::find_port;
@@ -34,28 +32,7 @@ fn refusal_of(error: BeginError) -> WireRefusal
     }
 }
 
-/// The wire's name of why the node's own tables refuse a call, if they do, and else want of memory.
-fn refusal_or_want(refusal: Option<BeginError>) -> WireRefusal
-    ensures named { IfSome refusal (λ error. machine_refusal result ≡ refusal_in error) }
-    ensures memory { IfSome refusal (λ error. result ≡ WantOfMemory → ⊥) }
-    ensures want { refusal ≡ None → result ≡ WantOfMemory }
-{
-    match refusal {
-        Some(error) => refusal_of(error),
-        None => WireRefusal::WantOfMemory,
-    }
-}
-
 impl Member {
-    /// Whether there is no room for a handle that the call may add.
-    fn lacks_room(&self, call: NodeCall<'_>) -> bool
-        ensures room { OnFalse result
-            (may_add_handle call.entry ≡ true → 0 < self.now.node.seat.room) }
-        ensures none { OnTrue result (FindsNoRoom self.now call.entry) }
-    {
-        call.may_add_handle() && !self.has_room()
-    }
-
     /// Begins a call, after so many events. What it lists is of no use later.
     pub(crate) fn begin(
         &mut self,
@@ -70,24 +47,18 @@ impl Member {
         requires may { is_busy (seat_in self.old.node).local ≡ false
             → MayBegin map.now terms.now self.old.node.seat.seat }
         requires lends { is_busy (seat_in self.old.node).local ≡ false
-            → 0 < self.old.node.seat.room → (p : Setting) → IsSettingWith map.now terms.now p
-            → (port : ℕ)
+            → (p : Setting) → IsSettingWith map.now terms.now p → (port : ℕ)
             → MayLend self.old.node.seat (next_handle p self.old.node.seat.seat) port }
         requires lists { ListsHaveRoom map.now lists.old }
         requires rooms { HasRoomToBegin map.now self.old.node }
         ensures begun { OnOk result
             (HasBegun map.now terms.now self.old call.entry begun self.new) }
         ensures refused { IfErr result (IsRefusedBy map.now terms.now self.old call.entry) }
-        ensures full { IfErr result (λ error. error ≡ WantOfMemory
-            → FindsNoRoom self.old call.entry) }
+        ensures always { IfErr result (λ error. error ≡ WantOfMemory → ⊥) }
         ensures unchanged { OnErr result (self.new ≡ self.old) }
         ensures lists { ListsHaveRoom map.now lists.new }
     {
         let port = find_port(map, call.number());
-        if self.lacks_room(call) {
-            let refusal = self.node.refusal(map, terms, call, port);
-            return Err(refusal_or_want(refusal));
-        }
         if let Err(NodeError::Begin(error)) = self.node.begin(map, terms, call, port, lists) {
             return Err(refusal_of(error));
         }

@@ -1,6 +1,5 @@
 //! How a node begins a call of a port or a handle.
 ghost use Rattle.std.specs.Prelude.{◌≡◌, ◌<◌, IfErr, IfSome, None, OnErr, OnOk, false, length};
-ghost use Rattle.std.specs.Prelude.{true};
 ghost use Rattle.iox_model.specs.declared.call.WireCall.TheVariants.{Port};
 ghost use Rattle.iox_wire_begins.specs.ListRooms.{ListsHaveRoom};
 ghost use Rattle.iox_wire_begins.specs.Plans.{number_at, port_of};
@@ -9,9 +8,9 @@ ghost use Rattle.iox_wire_begins.specs.HandleCalls.{refusal_in};
 ghost use Rattle.iox_wire_begins.specs.Terms.{IsSettingWith};
 ghost use Rattle.iox_wire_begins.specs.Begins.{is_busy, refusal_at};
 ghost use Rattle.iox_wire_begins.specs.Tables.{Setting};
-ghost use Rattle.iox_wire_nodes.specs.Begins.{AddsHandle, IsUnderWay};
+ghost use Rattle.iox_wire_nodes.specs.Begins.{IsUnderWay};
 ghost use Rattle.iox_wire_nodes.specs.Begins.{MayBegin, begun_at, node_refusal};
-ghost use Rattle.iox_wire_nodes.specs.Calls.{IsKeptAt, call_in, call_in_words, may_add_handle};
+ghost use Rattle.iox_wire_nodes.specs.Calls.{IsKeptAt, call_in, call_in_words};
 ghost use Rattle.iox_wire_nodes.specs.Calls.{number_in};
 ghost use Rattle.iox_wire_nodes.specs.Nodes.{seat_in};
 ghost use Rattle.iox_wire_nodes.specs.Rooms.{HasRoomToBegin, KeepsRooms};
@@ -49,7 +48,6 @@ impl StoredNode {
         ensures at { OnOk result (IsKeptAt (call_in_words call.entry) self.new.at) }
         ensures role { (p : Setting) → OnOk result (self.new.at ≡ begun_at
             self.old.seat.seat.table (Port (call_in p (seat_in self.old) call.entry))) }
-        ensures adds { OnOk result (AddsHandle self.new.at → may_add_handle call.entry ≡ true) }
         ensures unchanged { OnErr result (self.new ≡ self.old) }
         ensures lists { ListsHaveRoom map.now lists.new }
         ensures rooms { OnOk result (KeepsRooms self.old self.new) }
@@ -87,7 +85,6 @@ impl StoredNode {
         ensures at { OnOk result (IsKeptAt (call_in_words call.entry) self.new.at) }
         ensures role { (p : Setting) → OnOk result (self.new.at ≡ begun_at
             self.old.seat.seat.table (Port (call_in p (seat_in self.old) call.entry))) }
-        ensures adds { OnOk result (AddsHandle self.new.at → may_add_handle call.entry ≡ true) }
         ensures unchanged { OnErr result (self.new ≡ self.old) }
         ensures lists { ListsHaveRoom map.now lists.new }
         ensures rooms { OnOk result (KeepsRooms self.old self.new) }
@@ -153,7 +150,6 @@ impl StoredNode {
         ensures at { OnOk result (IsKeptAt (call_in_words call.entry) self.new.at) }
         ensures role { (p : Setting) → OnOk result (self.new.at ≡ begun_at
             self.old.seat.seat.table (Port (call_in p (seat_in self.old) call.entry))) }
-        ensures adds { OnOk result (AddsHandle self.new.at → may_add_handle call.entry ≡ true) }
         ensures unchanged { OnErr result (self.new ≡ self.old) }
         ensures lists { ListsHaveRoom map.now lists.new }
         ensures rooms { OnOk result (KeepsRooms self.old self.new) }

@@ -12,7 +12,7 @@ ghost use Rattle.iox_wire_begins.specs.Begins.{begins_at_entry, is_busy, refusal
 ghost use Rattle.iox_wire_begins.specs.Tables.{Setting, entry_at};
 ghost use Rattle.iox_wire_nodes.specs.declared.call_at.CallAt.TheVariants.{SendsRequest};
 ghost use Rattle.iox_wire_nodes.specs.declared.call_at.CallAt.TheVariants.{SendsResponse};
-ghost use Rattle.iox_wire_nodes.specs.Begins.{AddsHandle, IsAtOnce, IsUnderWay, sent_at};
+ghost use Rattle.iox_wire_nodes.specs.Begins.{IsAtOnce, IsUnderWay, sent_at};
 ghost use Rattle.iox_wire_nodes.specs.Nodes.{seat_in};
 ghost use Rattle.iox_wire_nodes.specs.Rooms.{KeepsRooms};
 
@@ -47,7 +47,6 @@ impl StoredNode {
             refusal_at p (seat_in self.old) (Port (Send number)) ≡ refusal_in error) }
         ensures at { OnOk result
             (self.new.at ≡ sent_at (entry_at number self.old.seat.seat.table)) }
-        ensures adds { OnOk result (AddsHandle self.new.at → ⊥) }
         ensures sends { OnOk result
             ((self.new.at ≡ SendsRequest) ⊎ (self.new.at ≡ SendsResponse)) }
         ensures unchanged { OnErr result (self.new ≡ self.old) }

@@ -7,10 +7,10 @@ use Rattle.iox_wire.proofs.opening.open_members.Goals as goal
 
 pub loop-number-preserved : goal.loop-number-preserved
 loop-number-preserved c = record {
-  opened = subst (λ ns. AreOpened c.args.plan.now c.args.handles ns c.push.new.self.items)
+  opened = subst (λ ns. AreOpened c.args.plan.now ns c.push.new.self.items)
       (sym (one_more c.args.numbers.now c.loop-number.number-index 0 (omega (arith, c.loop-number-test.true))))
-      (subst (λ (xs : List WireNode). AreOpened c.args.plan.now c.args.handles (take c.loop-number.number-index c.args.numbers.now ++ get_or c.args.numbers.now c.loop-number.number-index 0 ∷ []) xs)
+      (subst (λ (xs : List WireNode). AreOpened c.args.plan.now (take c.loop-number.number-index c.args.numbers.now ++ get_or c.args.numbers.now c.loop-number.number-index 0 ∷ []) xs)
       (sym c.in_ok-push.ensures.items)
-      (opened_more c.args.plan.now c.args.handles (take c.loop-number.number-index c.args.numbers.now) c.loop-number.members.items
+      (opened_more c.args.plan.now (take c.loop-number.number-index c.args.numbers.now) c.loop-number.members.items
       (get_or c.args.numbers.now c.loop-number.number-index 0) c.in_ok-open_member.field-0 c.loop-number.invariant.opened c.in_ok-open_member.ensures));
 }

@@ -5,5 +5,5 @@ use Rattle.iox_wire.proofs.opening.open_members.Given as goal
 -- the nodes so far
 abbrev pub invariant-loop-number : goal.invariant-loop-number
 invariant-loop-number l = record {
-  opened : AreOpened l.plan l.handles (take l.number-index l.numbers) l.members.items;
+  opened : AreOpened l.plan (take l.number-index l.numbers) l.members.items;
 }

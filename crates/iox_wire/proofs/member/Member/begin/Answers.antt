@@ -26,9 +26,9 @@ returns-clause-begun c =
     c.keep.new.self c.requires.setting
     (λ p setting. subst (λ (k : NodeView). IsUnderWay p k (Port (call_in p (seat_in k) c.args.call)) c.begin.new.self)
     (ap (λ (m : WireNode). m.node) c.self.view_is) (c.in_default.ensures.begun p setting))
-    c.in_default.ensures.adds c.in_default.ensures.at
+    c.in_default.ensures.at
     (λ p. c.in_default.ensures.role p ∙ ap (λ (m : WireNode). begun_at m.node.seat.seat.table (Port (call_in p (seat_in m.node) c.args.call))) c.self.view_is)
-    c.if-lacks_room.ensures.room c.requires.lends
+    c.requires.lends
     (subst (λ (k : NodeView). KeepsRooms k c.begin.new.self) (ap (λ (m : WireNode). m.node) c.self.view_is) c.in_default.ensures.rooms)
     (ap (λ (m : WireNode). m.number) c.self.view_is)
     (record { alive = ap (λ (m : WireNode). m.alive) c.self.view_is; died = ap (λ (m : WireNode). m.died) c.self.view_is; longest = ap (λ (m : WireNode). m.longest) c.self.view_is })

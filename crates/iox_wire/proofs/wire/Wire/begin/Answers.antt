@@ -3,7 +3,7 @@ use Rattle.std.proofs.Common.{◌≡◌, ◌==◌, None, ap, length, subst, sym,
 use Rattle.iox_wire_weaves.specs.Asking.{BeginsCall, IsBeginRefusal, asked_of}
 use Rattle.iox_wire_weaves.specs.Wires.{Shows, WireData, living_refusal, read_of}
 use Rattle.iox_wire.specs.Kept.{IsShown}
-use Rattle.iox_wire.proofs.Begun.{as_it_was, begun, lacks_room, may_begin, may_lend_there, reads_stay, refused, set_there, shown_begun}
+use Rattle.iox_wire.proofs.Begun.{as_it_was, begun, may_begin, may_lend_there, reads_stay, refused, set_there, shown_begun}
 use Rattle.iox_wire.proofs.Recorded.{count, events_by}
 use Rattle.iox_wire.proofs.WireSteps.{there}
 use Rattle.iox_wire.proofs.wire.Wire.begin.Goals as goal
@@ -22,17 +22,17 @@ begin-told-requires-clause-may c rests =
     may_begin w c.args.node c.in_ok-place.place c.index_mut-member.result.now first c.index_mut-member.ensures.value c.self.invariant.1 alive rests
 
 pub begin-told-requires-clause-lends : goal.begin-told-requires-clause-lends
-begin-told-requires-clause-lends c rests room p setting =
+begin-told-requires-clause-lends c rests p setting =
     let first = ap (λ (v : WireData). position (λ x. x.number == c.args.node) v.nodes) c.self.view_is ∙ c.in_ok-place.ensures.first in
     let w : WireData = record { plan = c.self.inside.places; terms = c.self.inside.terms; words = c.self.inside.words.items; nodes = c.self.inside.members.items; replies = c.self.inside.replies.finished; events = events_by c.self.inside.events.items; room = c.self.inside.room } in
     let alive : living_refusal w.nodes c.args.node ≡ None = ap (λ (v : WireData). living_refusal v.nodes c.args.node) c.self.view_is ∙ c.in_ok-place.ensures.alive in
-    may_lend_there w c.args.node c.in_ok-place.place c.index_mut-member.result.now first c.index_mut-member.ensures.value c.self.invariant.1 alive rests room p setting
+    may_lend_there w c.args.node c.in_ok-place.place c.index_mut-member.result.now first c.index_mut-member.ensures.value c.self.invariant.1 alive rests p setting
 
 pub begin-told-requires-clause-rooms : goal.begin-told-requires-clause-rooms
 begin-told-requires-clause-rooms c =
     let first = ap (λ (v : WireData). position (λ x. x.number == c.args.node) v.nodes) c.self.view_is ∙ c.in_ok-place.ensures.first in
     let w : WireData = record { plan = c.self.inside.places; terms = c.self.inside.terms; words = c.self.inside.words.items; nodes = c.self.inside.members.items; replies = c.self.inside.replies.finished; events = events_by c.self.inside.events.items; room = c.self.inside.room } in
-    c.self.invariant.1.rooms c.args.node c.index_mut-member.result.now (there w c.args.node c.in_ok-place.place c.index_mut-member.result.now first c.index_mut-member.ensures.value)
+    (c.self.invariant.1.rooms c.args.node c.index_mut-member.result.now (there w c.args.node c.in_ok-place.place c.index_mut-member.result.now first c.index_mut-member.ensures.value)).calls
 
 pub invariant_of-self : goal.invariant_of-self
 invariant_of-self c = (
@@ -50,12 +50,6 @@ returns-in-Err-clause-refused c =
     let alive : living_refusal w.nodes c.args.node ≡ None = ap (λ (v : WireData). living_refusal v.nodes c.args.node) c.self.view_is ∙ c.in_ok-place.ensures.alive in
     subst (λ (v : WireData). IsBeginRefusal v c.args.node c.args.call c.in-Err.refusal) c.self.view_is
     (refused w c.args.node c.in_ok-place.place c.index_mut-member.result.now first c.index_mut-member.ensures.value c.args.call c.in-Err.refusal alive c.in-Err.ensures.refused)
-
-pub returns-in-Err-clause-full : goal.returns-in-Err-clause-full
-returns-in-Err-clause-full c want =
-    let first = ap (λ (v : WireData). position (λ x. x.number == c.args.node) v.nodes) c.self.view_is ∙ c.in_ok-place.ensures.first in
-    let w : WireData = record { plan = c.self.inside.places; terms = c.self.inside.terms; words = c.self.inside.words.items; nodes = c.self.inside.members.items; replies = c.self.inside.replies.finished; events = events_by c.self.inside.events.items; room = c.self.inside.room } in
-    lacks_room w c.args.node c.in_ok-place.place c.index_mut-member.result.now first c.index_mut-member.ensures.value c.args.call c.args.self.now c.self.view_is (c.in-Err.ensures.full want)
 
 pub returns-in-Err-clause-unchanged : goal.returns-in-Err-clause-unchanged
 returns-in-Err-clause-unchanged c =

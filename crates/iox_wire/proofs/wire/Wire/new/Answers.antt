@@ -1,6 +1,7 @@
 use Rattle.std.specs.Prelude.{replicate}
 use Rattle.std.proofs.Common.{arith, ap, length, refl, subst, sym, ◌<◌, ◌^◌, ◌∙◌}
 use Rattle.iox_word_map.specs.WordMaps.{total_words}
+use Rattle.iox_wire_weaves.specs.HandleBounds.{handle_room}
 use Rattle.iox_wire_weaves.specs.WirePlan.{WirePlan}
 use Rattle.iox_wire_weaves.specs.Plans.{most_ways, sizes_of}
 use Rattle.iox_wire_weaves.specs.Replies.{most_words}
@@ -34,8 +35,7 @@ invariant_of-result c = (
       shown_opened c.args.plan c.args.terms c.args.nodes.now w c.requires.plan c.in-Ok.ensures.made refl
       (c.in_ok-words.ensures
       ∙ ap (λ n. replicate n 0) (c.total.ensures ∙ ap (λ (q : WirePlan). total_words (sizes_of q)) c.in-Ok.ensures.made))
-      c.args.handles
-      (subst (λ (q : WirePlan). AreOpened q c.args.handles c.args.nodes.now c.in_ok-members.members.items) (c.plan.ensures.value ∙ c.in-Ok.ensures.made) c.in_ok-members.ensures)
+      (subst (λ (q : WirePlan). AreOpened q c.args.nodes.now c.in_ok-members.members.items) (c.plan.ensures.value ∙ c.in-Ok.ensures.made) c.in_ok-members.ensures)
       (ap (λ (d : FinishedCalls). d.finished) c.new-3.ensures) (ap events_by c.new-4.ensures.items) c.requires.whole few.0 few.1 c.requires.opens,
   record {
     replies = omega arith;
@@ -50,8 +50,7 @@ returns-clause-opened c p s opens =
     shows_opened c.args.plan c.args.terms c.args.nodes.now w c.requires.plan c.in-Ok.ensures.made refl
     (c.in_ok-words.ensures
     ∙ ap (λ n. replicate n 0) (c.total.ensures ∙ ap (λ (q : WirePlan). total_words (sizes_of q)) c.in-Ok.ensures.made))
-    c.args.handles
-    (subst (λ (q : WirePlan). AreOpened q c.args.handles c.args.nodes.now c.in_ok-members.members.items) (c.plan.ensures.value ∙ c.in-Ok.ensures.made) c.in_ok-members.ensures)
+    (subst (λ (q : WirePlan). AreOpened q c.args.nodes.now c.in_ok-members.members.items) (c.plan.ensures.value ∙ c.in-Ok.ensures.made) c.in_ok-members.ensures)
     (ap (λ (d : FinishedCalls). d.finished) c.new-3.ensures) (ap events_by c.new-4.ensures.items) p s opens c.requires.whole.room
 
 pub returns-clause-fresh : goal.returns-clause-fresh
@@ -60,9 +59,10 @@ returns-clause-fresh c p s opens =
     fresh c.args.plan c.args.terms c.args.nodes.now w c.requires.plan c.in-Ok.ensures.made refl
     (c.in_ok-words.ensures
     ∙ ap (λ n. replicate n 0) (c.total.ensures ∙ ap (λ (q : WirePlan). total_words (sizes_of q)) c.in-Ok.ensures.made))
-    c.args.handles
-    (subst (λ (q : WirePlan). AreOpened q c.args.handles c.args.nodes.now c.in_ok-members.members.items) (c.plan.ensures.value ∙ c.in-Ok.ensures.made) c.in_ok-members.ensures)
+    (subst (λ (q : WirePlan). AreOpened q c.args.nodes.now c.in_ok-members.members.items) (c.plan.ensures.value ∙ c.in-Ok.ensures.made) c.in_ok-members.ensures)
     (ap (λ (d : FinishedCalls). d.finished) c.new-3.ensures) (ap events_by c.new-4.ensures.items) p s opens
 
 pub returns-clause-room : goal.returns-clause-room
-returns-clause-room c n x at = (opened_node c.plan.result.now c.args.handles c.args.nodes.now c.in_ok-members.members.items n x c.in_ok-members.ensures at).room
+returns-clause-room c n x at =
+    (opened_node c.plan.result.now c.args.nodes.now c.in_ok-members.members.items n x c.in_ok-members.ensures at).room
+    ∙ ap (λ (q : WirePlan). handle_room q n) (c.plan.ensures.value ∙ c.in-Ok.ensures.made)
