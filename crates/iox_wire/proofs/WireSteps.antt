@@ -21,8 +21,7 @@ use Rattle.iox_wire_weaves.specs.Laws.{LivesAs, Replaces, WentOn, progress_of}
 use Rattle.iox_model.specs.declared.event.Event.{Event}
 use Rattle.iox_wire_weaves.specs.SlotEvents.{slot_event}
 use Rattle.iox_steps.specs.declared.access.Progress.{Progress}
-use Rattle.iox_steps.specs.declared.access.Progress.TheVariants.{Done, Going}
-use Rattle.iox_wire_weaves.specs.Steps.{GoesOnByStep, IsOwnAnswer, MakesItsAccess, MakesOneAccess, StepIsWoven, access_of, answer_of, call_after, finished_by, recorded, rest_refusal, step_refusal}
+use Rattle.iox_wire_weaves.specs.Steps.{GoesOnByStep, MakesItsAccess, MakesOneAccess, StepIsWoven, access_of, answer_of, call_after, finished_by, recorded, rest_refusal, step_refusal}
 use Rattle.iox_wire_weaves.specs.Wires.{Shows, WireData, WireNode, living_refusal, node_at}
 use Rattle.iox_wire_weaves.proofs.DeathsShown.{deaths_show}
 use Rattle.iox_wire_weaves.proofs.Lookups.{living_by, seat_there, steps_on}
@@ -67,10 +66,6 @@ access_with w n room new makes p r shows =
 
 pub woven_with : (w : WireData) (n room : ℕ) (progress : Progress NodeReply) (new : WireData) → StepIsWoven (record w { room = room }) n progress new → StepIsWoven w n progress new
 woven_with w n room progress new woven p r shows = woven p r (shows_with p w r room shows)
-
-pub own_with : (w : WireData) (n room : ℕ) (progress : Progress NodeReply) → IsOwnAnswer (record w { room = room }) n progress → IsOwnAnswer w n progress
-own_with w n room Going own = own
-own_with w n room (Done reply) own = own
 
 -- why a living node makes no step
 pub refused_at : (w : WireData) (n : ℕ) (d : WireNode) (o : Option WireRefusal) → living_refusal w.nodes n ≡ None → node_at n w.nodes ≡ Some d

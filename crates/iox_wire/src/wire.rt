@@ -1,5 +1,6 @@
 //! A wire: the words that nodes share, and the nodes.
-ghost use Rattle.std.specs.Prelude.{◌≡◌, IfOk, replicate};
+ghost use Rattle.std.specs.Prelude.{◌≡◌, IfOk, Ok, replicate};
+ghost use Rattle.iox_steps.specs.declared.access.Progress.TheVariants.{Done, Going};
 
 use crate::events::{WireEvent, note};
 use crate::finished::Replies;
@@ -185,6 +186,7 @@ impl Wire {
     }
 
     /// One access of the node's call. Where there is no room for what it records, it makes some.
+    #[inline(never)]
     pub fn step(&mut self, node: u64) -> Result<Progress<NodeReply>, WireRefusal>
         ensures one_access { OnOk result (MakesItsAccess self.old node self.new) }
         ensures weave { IfOk result (λ progress. StepIsWoven self.old node progress self.new) }
@@ -203,10 +205,14 @@ impl Wire {
         if let Err(_) = self.reserve(1) {
             return Err(WireRefusal::WantOfMemory);
         }
-        Ok(self.make_step(node, place))
+        match self.make_step(node, place) {
+            Progress::Going => return going(),
+            Progress::Done(reply) => return done(reply),
+        }
     }
 
     /// One access of a node that stands there and may make a step, which finds room.
+    #[inline(always)]
     fn make_step(&mut self, node: u64, place: usize) -> Progress<NodeReply>
         requires there { position (λ x. x.number == node) self.old.nodes ≡ Some place }
         requires within { place < length self.old.nodes }
@@ -223,11 +229,11 @@ impl Wire {
         let told = member.event(seen);
         note(&self.places, &self.members, node, told, &mut self.events);
         self.room -= 1;
-        let ended = self.events.len();
         let member = &mut self.members[place];
         let Some(reply) = member.go_on(seen) else {
             return Progress::Going;
         };
+        let ended = self.events.len();
         member.tell(reply, ended, &mut self.replies);
         Progress::Done(reply)
     }
@@ -246,6 +252,22 @@ impl Wire {
         self.members[place].die(before);
         Ok(())
     }
+}
+
+/// What a step answers whose call goes on. Written by itself it is zeros alone, in a few stores.
+#[inline(always)]
+fn going() -> Result<Progress<NodeReply>, WireRefusal>
+    ensures { result ≡ Ok Going }
+{
+    Ok(Progress::Going)
+}
+
+/// What a step answers whose call is over.
+#[inline(always)]
+fn done(reply: NodeReply) -> Result<Progress<NodeReply>, WireRefusal>
+    ensures { result ≡ Ok (Done reply) }
+{
+    Ok(Progress::Done(reply))
 }
 
 /// So many zeros.

@@ -173,32 +173,32 @@ impl StoredNode {
         let seat = &mut self.seat;
         match self.at {
             CallAt::Seats => match seat.go_on(seen) {
-                Some(reply) => Some(NodeReply::OfSeat(reply)),
-                None => None,
+                Some(reply) => return Some(NodeReply::OfSeat(reply)),
+                None => return None,
             },
             CallAt::Receives => match self.receiving.go_on(seat, seen) {
-                Some(reply) => Some(NodeReply::OfReceive(reply)),
-                None => None,
+                Some(reply) => return Some(NodeReply::OfReceive(reply)),
+                None => return None,
             },
             CallAt::Lends => match self.lending.go_on(seat, seen) {
-                Some(reply) => Some(NodeReply::OfLoan(reply)),
-                None => None,
+                Some(reply) => return Some(NodeReply::OfLoan(reply)),
+                None => return None,
             },
             CallAt::SendsRequest => match self.requesting.go_on(seat, seen) {
-                Some(reply) => Some(NodeReply::OfRequest(reply)),
-                None => None,
+                Some(reply) => return Some(NodeReply::OfRequest(reply)),
+                None => return None,
             },
             CallAt::SendsResponse => match self.responding.go_on(seat, seen) {
-                Some(reply) => Some(NodeReply::OfResponse(reply)),
-                None => None,
+                Some(reply) => return Some(NodeReply::OfResponse(reply)),
+                None => return None,
             },
             CallAt::CopiesRequest => match self.copying_client.go_on(seat, seen) {
-                Some(reply) => Some(NodeReply::OfRequestCopy(reply)),
-                None => None,
+                Some(reply) => return Some(NodeReply::OfRequestCopy(reply)),
+                None => return None,
             },
             CallAt::CopiesResponse => match self.copying_server.go_on(seat, seen) {
-                Some(reply) => Some(NodeReply::OfResponseCopy(reply)),
-                None => None,
+                Some(reply) => return Some(NodeReply::OfResponseCopy(reply)),
+                None => return None,
             },
         }
     }
