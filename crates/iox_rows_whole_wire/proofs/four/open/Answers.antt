@@ -1,6 +1,6 @@
 use Rattle.std.proofs.Common.{true}
 use Rattle.iox_rows_whole_wire.proofs.OpensOnFour.{is_plan, may_open, whole_terms}
-use Rattle.iox_rows_whole_wire.proofs.four.open_with.Goals as goal
+use Rattle.iox_rows_whole_wire.proofs.four.open.Goals as goal
 
 pub new-requires-clause-plan : goal.new-requires-clause-plan
 new-requires-clause-plan c = is_plan _ _ true _ c.in_ok-plan.ensures
