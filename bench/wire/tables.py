@@ -1,7 +1,7 @@
 #!/usr/bin/env python3
 """tables.py tables FOLDER: what begins and steps take, from callgrind's files FOLDER/NAME.WIRE.few and .many, NAME being
-ours, clang or g++. A begin is a call of `one_begin`, and a step one of `one_step` or of the wire's own `step`, from a function
-that is named after the call of the wire. FOLDER/WIRE.counts has of how many exchanges they are.
+ours, clang or g++. A begin is a call of a function whose name begins with `one_begin`, and a step one of `one_step` or of the
+wire's own `step`, from a function that is named after the call of the wire. FOLDER/WIRE.counts has of how many exchanges they are.
 tables.py counts ROUNDS: of how many exchanges they are to be, from ROUNDS to four times as many, so that between them no
 list doubles its room. Standard input has the last lines of runs of 64 and of 128: the second and the third word count the
 replies and the events."""
@@ -68,8 +68,8 @@ def exchange(folder, name, wire):
     for call in CALLS:
         sums = [0.0] * 4
         for pair in many:
-            if pair[0] == call and pair[1] in ("one_begin", "one_step", "step"):
-                at = 0 if pair[1] == "one_begin" else 2
+            if pair[0] == call and (pair[1] == "step" or pair[1].startswith("one_")):
+                at = 2 if pair[1] in ("one_step", "step") else 0
                 for k in (0, 1):
                     sums[at + k] += (many[pair][k] - few[pair][k]) / rounds
         found[call] = sums
