@@ -43,16 +43,7 @@ fn looks(rt: &impl Abort, wire: &mut Wire) -> Result<(), Fail> {
 #[test]
 fn server_finds_no_request_in_two_steps(rt: HostRuntime) -> Result<(), Fail> {
     let mut wire = open(rt.alloc(), NO_OVERFLOW)?;
-    wire.begin_has_requests(1, 1)?;
-    equal(
-        &rt,
-        wire.begin_has_requests(1, 1).err(),
-        Some(WireRefusal::Busy),
-    );
-    equal(&rt, steps_to_no(&mut wire, 1)?, Some(2));
-    equal(&rt, wire.replies().len(), 1);
-    equal(&rt, wire.step(1).err(), Some(WireRefusal::AtRest));
-    Ok(())
+    looks(&rt, &mut wire)
 }
 
 /// Ends the test where the begin of a look of one of these nodes at this number is refused for
