@@ -18,6 +18,7 @@ ghost use Rattle.iceoryx2_ports.specs.Idling.{BringsOne};
 ghost use Rattle.iceoryx2_ports.specs.Keeping.{KeepsAsking};
 ghost use Rattle.iceoryx2_ports.specs.Reaching.{CopiesRequest, ReachesServers};
 ghost use Rattle.iceoryx2_ports.specs.Senders.{BringsFrom};
+ghost use Rattle.iceoryx2_ports.specs.Streams.{AddsOnly};
 
 use super::Client;
 use crate::copies::error_of_test;
@@ -57,6 +58,7 @@ impl<E: Words, QH: Words, P: Payload, PH: Words> Client<One<E>, QH, P, PH> {
         ensures shapes { HaveSameShapes hub.old hub.new }
         ensures asks { KeepsAsking hub.old hub.new }
         ensures only { BringsOnly hub.old (flat_map E.words (value ∷ [])) hub.new }
+        ensures adds { AddsOnly hub.old (flat_map E.words (value ∷ [])) hub.new }
         ensures from { BringsFrom hub.old self.now.number hub.new }
         ensures unsent { OnErr result (WaitsAsBefore hub.old hub.new) }
         ensures left { IfErr result (λ error. LeavesUnasked hub.old error hub.new) }

@@ -12,6 +12,7 @@ use Rattle.iceoryx2_ports.specs.Copies.{LeavesUnasked, LeavesUnloaned, unasked_r
 use Rattle.iceoryx2_ports.specs.declared.errors.LoanError.{LoanError}
 use Rattle.iceoryx2_ports.specs.declared.errors.RequestSendError.{RequestSendError}
 use Rattle.iceoryx2_ports.specs.Loans.{loan_refusal}
+use Rattle.iceoryx2_ports.proofs.Coming.{copy_adds_only}
 use Rattle.iceoryx2_ports.proofs.Copying.{copy_asks_as_before, request_never_wants, test_is_told, test_leaves}
 use Rattle.iceoryx2_ports.proofs.Reaching.{copy_brings_one, copy_is_sent, copy_reaches}
 use Rattle.iceoryx2_ports.proofs.Telling.{called_as}
@@ -162,3 +163,28 @@ pub returns-in-UnableToDeliver-clause-unsent : goal.returns-in-UnableToDeliver-c
 returns-in-UnableToDeliver-clause-unsent g c =
     refused_copy_brings_nothing c.args.hub.now c.copy_request.new.hub c.is_in_order.ensures c.args.self.now.node c.args.self.now.number 1
     (flat_map g.E.Words.words (c.args.value ∷ [])) c.requires.has (replies.Refused refusals.UnableToDeliver) c.in-UnableToDeliver.ensures.whole tt
+
+pub returns-in-To-clause-adds : goal.returns-in-To-clause-adds
+returns-in-To-clause-adds g c =
+    copy_adds_only c.args.hub.now c.copy_request.new.hub c.args.self.now.node c.args.self.now.number
+    (payload_of roles.Client 1 (flat_map g.E.Words.words (c.args.value ∷ []))) (reply_of_copy c.copy_request.result) c.copy_request.ensures.whole
+
+pub returns-in-Refused-clause-adds : goal.returns-in-Refused-clause-adds
+returns-in-Refused-clause-adds g c =
+    copy_adds_only c.args.hub.now c.copy_request.new.hub c.args.self.now.node c.args.self.now.number
+    (payload_of roles.Client 1 (flat_map g.E.Words.words (c.args.value ∷ []))) (reply_of_copy c.copy_request.result) c.copy_request.ensures.whole
+
+pub returns-in-OutOfMemory-clause-adds : goal.returns-in-OutOfMemory-clause-adds
+returns-in-OutOfMemory-clause-adds g c =
+    copy_adds_only c.args.hub.now c.copy_request.new.hub c.args.self.now.node c.args.self.now.number
+    (payload_of roles.Client 1 (flat_map g.E.Words.words (c.args.value ∷ []))) (reply_of_copy c.copy_request.result) c.copy_request.ensures.whole
+
+pub returns-in-ExceedsMaxActiveRequests-clause-adds : goal.returns-in-ExceedsMaxActiveRequests-clause-adds
+returns-in-ExceedsMaxActiveRequests-clause-adds g c =
+    copy_adds_only c.args.hub.now c.copy_request.new.hub c.args.self.now.node c.args.self.now.number
+    (payload_of roles.Client 1 (flat_map g.E.Words.words (c.args.value ∷ []))) (reply_of_copy c.copy_request.result) c.copy_request.ensures.whole
+
+pub returns-in-UnableToDeliver-clause-adds : goal.returns-in-UnableToDeliver-clause-adds
+returns-in-UnableToDeliver-clause-adds g c =
+    copy_adds_only c.args.hub.now c.copy_request.new.hub c.args.self.now.node c.args.self.now.number
+    (payload_of roles.Client 1 (flat_map g.E.Words.words (c.args.value ∷ []))) (reply_of_copy c.copy_request.result) c.copy_request.ensures.whole
