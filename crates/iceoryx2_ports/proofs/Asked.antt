@@ -7,6 +7,7 @@ use Rattle.iox_model.specs.declared.kind.Role.{Role}
 use Rattle.iox_model.specs.declared.kind.Role.TheVariants.{Client}
 use Rattle.iox_model.specs.declared.reply.Refusal.TheVariants.{UnknownNumber, WrongLength}
 use Rattle.iox_model.specs.declared.reply.Reply.TheVariants as replies
+use Rattle.iox_model.specs.declared.way.Way.{Way}
 use Rattle.iox_model.specs.Begins.{begins_at, start}
 use Rattle.iox_model.specs.Commands.{Call, Refusal, Reply}
 use Rattle.iox_model.specs.Counts.{added, numbered, sent_handle}
@@ -90,6 +91,32 @@ module _ (z : State) (reached : IsReachableState z) (node n : ℕ) (p : Port) (c
     refusal_is_none : (r : Reply) → IsRefusal r → is_handle r ≡ true → ⊥
     refusal_is_none (replies.Refused x) q e = true≢false (sym e)
     refusal_is_none r q e = absurd q
+
+    -- what waits on each way is as before a copy that is refused
+    module _ (reply : Reply) (told : IsRefusal reply) where
+      abbrev Stays : Type 0
+      Stays = (w : Way) → t.waiting w ≡ z.waiting w
+
+      stays_unless : (r : Option Refusal) (P : Type 0) → (P → Stays) → UnlessRefused r z reply t P → Stays
+      stays_unless (Some r) P f q w = ap (λ (s : State). s.waiting w) q.1
+      stays_unless None P f q w = f q w
+
+      stays_as_left : (lane : ℕ) → Leaves lane t reply → Stays
+      stays_as_left lane (inl r) w = r.1.waiting w
+      stays_as_left lane (inr q) w = absurd (q.0 told)
+
+      stays_once_done : IsDone z node copy reply t → Stays
+      stays_once_done done =
+          let c : Choice = done.0 in
+          stays_as_left c.lane (done_leaves z reached node (loan_on c.lane) known true t copy reply done (begins c) (λ f. absurd (true≢false f)))
+
+      pub refused_copy_stays : IsWholeCall z node copy reply t → Stays
+      refused_copy_stays =
+          stays_unless (misnamed z.fixed node copy)
+          (UnlessRefused (spent z.fixed copy) z reply t
+          (IsDone z node copy reply t))
+          (stays_unless (spent z.fixed copy)
+          (IsDone z node copy reply t) stays_once_done)
 
     module _ (reply : Reply) (told : is_handle reply ≡ true) where
       -- the loan on that lane is a pending response, of the number that the copy answers

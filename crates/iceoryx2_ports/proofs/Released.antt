@@ -1,13 +1,15 @@
 -- What a release comes to, where the node still has what the value stands for, and where it has not.
 use Rattle.std.specs.Prelude.{◌≡◌, ℕ, Bool, true, false, Option, None, Some, refl}
 use Rattle.std.specs.Option.{option_map_or}
-use Rattle.std.proofs.Common.{sym, ap, subst, ◌∙◌, true≢false}
+use Rattle.std.proofs.Common.{sym, ap, subst, subst₂, ◌∙◌, true≢false}
+use Rattle.std.proofs.lemmas.Option.{same_Some}
 use Rattle.iox_model.specs.declared.call.Call.TheVariants.{Release}
 use Rattle.iox_model.specs.declared.kind.Kind.{Kind}
 use Rattle.iox_model.specs.declared.kind.Kind.TheVariants as kinds
 use Rattle.iox_model.specs.declared.kind.Kind.TheVariants.{RequestMutUninit, RequestMut, ResponseMutUninit, ResponseMut, PendingResponse, ActiveRequest, Response}
 use Rattle.iox_model.specs.declared.reply.Reply.TheVariants.{Done}
 use Rattle.iox_model.specs.Doings.{Receiver}
+use Rattle.iox_model.specs.Handles.{same_kind}
 use Rattle.iox_model.specs.Names.{is_port}
 use Rattle.iox_model.specs.Values.{IsReleaseWhere, is_still}
 use Rattle.iox_model.specs.WholeCalls.{IsWholeCall}
@@ -15,7 +17,7 @@ use Rattle.iox_tables.specs.HubLoans.Questions.{kind_in}
 use Rattle.iox_tables.specs.HubStates.States.{Given}
 use Rattle.iox_tables.proofs.HubLoans.Asked.{each_value_is_there}
 use Rattle.iox_hub_laws.specs.Hubs.{HasValue, HubState, IsHub, given_by, state_of_hub}
-use Rattle.iox_hub_laws.specs.Keeping.{KeepsOthers}
+use Rattle.iox_hub_laws.specs.Keeping.{IsOther, KeepsOthers}
 use Rattle.iox_hub_laws.specs.Releases.{StillHas}
 use Rattle.iox_hub_laws.specs.Sending.{HasNothing}
 use Rattle.iox_hub_laws.specs.Waiting.{client_in}
@@ -23,7 +25,7 @@ use Rattle.iceoryx2_ports.specs.Opens.{IsOfRequest, LeavesOpen}
 use Rattle.iceoryx2_ports.specs.Releases.{IsReleased}
 use Rattle.iceoryx2_ports.specs.Responses.{answerer_in, asker_in}
 use Rattle.iceoryx2_ports.proofs.Aside.{others_ask_as_before}
-use Rattle.iceoryx2_ports.proofs.Coming.{release_brings_nothing}
+use Rattle.iceoryx2_ports.proofs.Coming.{release_adds_nothing, release_brings_nothing}
 use Rattle.iceoryx2_ports.proofs.Leaving.{release_keeps_room}
 use Rattle.iceoryx2_ports.proofs.SameShapes.{same_shapes}
 use Rattle.iceoryx2_ports.proofs.Unreleased.{nothing_leaves_open, release_leaves_open}
@@ -125,6 +127,15 @@ port_by_now h node n kind port still =
 
 -- ---- releases
 
+-- what is no pending response is none that is asked for
+is_no_pending : (h : HubState) (node n : ℕ) (kind found : Kind) → HasValue h node n found → is_still kind found ≡ true
+    → same_kind kind PendingResponse ≡ false → (a m : ℕ) → HasValue h a m PendingResponse → IsOther node n a m
+is_no_pending h node n kind found has same unlike a m pending on is =
+    let there : HasValue h node n PendingResponse = subst₂ (λ (b i : ℕ). HasValue h b i PendingResponse) on is pending in
+    let found_is : found ≡ PendingResponse = same_Some found PendingResponse (sym has ∙ there) in
+    let kind_is : PendingResponse ≡ kind = pending_alone kind (ap (is_still kind) (sym found_is) ∙ same) in
+    true≢false (ap (λ (k : Kind). same_kind k PendingResponse) kind_is ∙ unlike)
+
 pub is_released : (old new : HubState) → IsHub new → (node n : ℕ) (kind : Kind) → StillHas old node n kind
     → ((x : Given) → IsWholeCall (state_of_hub x old) node (Release n) Done (state_of_hub x new)) → HasNothing new node n → KeepsOthers old node n new
     → IsReleased old node n kind new
@@ -138,7 +149,10 @@ is_released old new after node n kind still whole gone keeps =
       keeps = keeps;
       shapes = same_shapes old new node (Release n) Done whole;
       asks = others_ask_as_before old new node (Release n) Done refl whole;
+      asking = λ unlike a m has.
+          others_ask_as_before old new node (Release n) Done refl whole a m (is_no_pending old node n kind is.found is.has is.same unlike a m has) has;
       comes = release_brings_nothing old new node n Done whole;
+      adds = release_adds_nothing old new node n Done whole;
       room = release_keeps_room old new after node n Done whole;
       idle = λ x idle. record {
         none = release_brings_nothing old new node n Done whole x idle.none;
@@ -162,7 +176,9 @@ nothing_released h node n kind none = record {
   keeps = λ a m other some. record { kind = refl; handle = refl; message = refl };
   shapes = record { request = refl; response = refl };
   asks = λ a m other has. refl;
+  asking = λ unlike a m has. refl;
   comes = λ x nothing. nothing;
+  adds = λ words x all. all;
   room = λ x room. room;
   idle = λ x idle. idle;
   requests = nothing_leaves_open h node n kind;

@@ -75,6 +75,7 @@ pub mod LoanLimits
 pub mod Payloads
 pub mod Copies
 pub mod Arrivals
+pub mod Streams
 pub mod Reaching
 pub mod Responses
 pub mod Idling

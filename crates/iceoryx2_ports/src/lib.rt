@@ -32,6 +32,7 @@ pub mod uses_headers;
 pub mod uses_keeping;
 pub mod uses_laws;
 pub mod uses_limits;
+pub mod uses_loops;
 pub mod uses_making;
 pub mod uses_reaching;
 pub mod uses_reading;

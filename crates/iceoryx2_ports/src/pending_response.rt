@@ -23,6 +23,7 @@ ghost use Rattle.iceoryx2_ports.specs.Reaching.{KeepsRoom};
 ghost use Rattle.iceoryx2_ports.specs.Releases.{IsReleased};
 ghost use Rattle.iceoryx2_ports.specs.Rooms.{TakesOfRoom};
 ghost use Rattle.iceoryx2_ports.specs.Senders.{TakesFrom};
+ghost use Rattle.iceoryx2_ports.specs.Streams.{AddsNothing};
 ghost use Rattle.iceoryx2_ports.specs.declared.errors.ReceiveError.TheVariants.{ExceedsMaxBorrows};
 
 use crate::errors::ReceiveError;
@@ -106,6 +107,7 @@ impl<Q: Payload, QH: Words, P: Payload, PH: Words> PendingResponse<Q, QH, P, PH>
             TakesOfRoom hub.old (client_in hub.old self.now.node self.now.number) hub.new
             response.node response.number)) }
         ensures comes { NothingComes hub.old hub.new }
+        ensures adds { AddsNothing hub.old hub.new }
         ensures requests { KeepsRequests hub.old hub.new }
     {
         hub.is_in_order();

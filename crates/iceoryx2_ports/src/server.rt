@@ -23,6 +23,7 @@ ghost use Rattle.iceoryx2_ports.specs.Makings.{port_shown};
 ghost use Rattle.iceoryx2_ports.specs.Opens.{KeepsRequests};
 ghost use Rattle.iceoryx2_ports.specs.Releases.{IsReleased};
 ghost use Rattle.iceoryx2_ports.specs.Senders.{TakesFrom};
+ghost use Rattle.iceoryx2_ports.specs.Streams.{AddsNothing};
 ghost use Rattle.iceoryx2_ports.specs.declared.errors.ReceiveError.TheVariants.{ExceedsMaxBorrows};
 
 use crate::active_request::ActiveRequest;
@@ -91,6 +92,7 @@ impl<Q: Payload, QH: Words, P: Payload, PH: Words> Server<Q, QH, P, PH> {
         ensures askers { IfOk result (λ got. IfSome got (λ request.
             KeepsAskersIdle hub.old hub.new)) }
         ensures comes { NothingComes hub.old hub.new }
+        ensures adds { AddsNothing hub.old hub.new }
         ensures requests { KeepsRequests hub.old hub.new }
     {
         hub.is_in_order();

@@ -5,7 +5,7 @@ ghost use Rattle.std.specs.Bool.{OnTrue};
 ghost use Rattle.iceoryx2_ports.specs.Call.TheVariants.{HasHint, Send};
 ghost use Rattle.iceoryx2_ports.specs.Calls.{HasCallsLeft};
 ghost use Rattle.iceoryx2_ports.specs.Kind.TheVariants as kinds;
-ghost use Rattle.iceoryx2_ports.specs.Hubs.{HasValue, IsReached, state_of_hub};
+ghost use Rattle.iceoryx2_ports.specs.Hubs.{HasValue, state_of_hub};
 ghost use Rattle.iceoryx2_ports.specs.Idling.{IsIdle};
 ghost use Rattle.iceoryx2_ports.specs.Reaching.{SomeCanCome};
 ghost use Rattle.iceoryx2_ports.specs.Reads.{message_in};
@@ -54,28 +54,6 @@ pub fn answers_until_told(
         }
     }
     false
-}
-
-/// A client takes responses as long as its request is open, at most five, and keeps the last value.
-pub fn hears_while_connected(
-    pending: &PendingResponse<One<u64>, (), One<u64>, ()>,
-    hub: &mut Hub<One<u64>, (), One<u64>, ()>,
-) -> Option<u64>
-    ensures { IsReached hub.new }
-{
-    let mut last = None;
-    for _ in 0..5 {
-        if hub.calls() >= 1 << 56 || !pending.exists(hub) || !pending.is_connected(hub) {
-            break;
-        }
-        let Ok(Some(response)) = pending.receive(hub) else {
-            break;
-        };
-        last = response.first(hub).copied();
-        response.release(hub);
-    }
-    hub.calls();
-    last
 }
 
 /// Elements that are written one after another are what the request carries.

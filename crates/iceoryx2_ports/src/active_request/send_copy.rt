@@ -15,6 +15,7 @@ ghost use Rattle.iceoryx2_ports.specs.Keeping.{KeepsAsking};
 ghost use Rattle.iceoryx2_ports.specs.Opens.{KeepsRequests};
 ghost use Rattle.iceoryx2_ports.specs.Responses.{ReachesAsker, answerer_in};
 ghost use Rattle.iceoryx2_ports.specs.Senders.{BringsFrom};
+ghost use Rattle.iceoryx2_ports.specs.Streams.{AddsOnly};
 
 use super::ActiveRequest;
 use crate::copies::error_of_test;
@@ -46,6 +47,7 @@ impl<Q: Payload, QH: Words, E: Words, PH: Words> ActiveRequest<Q, QH, One<E>, PH
             (ReachesAsker hub.old self.now.node self.now.number hub.new) }
         ensures requests { KeepsRequests hub.old hub.new }
         ensures only { BringsOnly hub.old (flat_map E.words (value ∷ [])) hub.new }
+        ensures adds { AddsOnly hub.old (flat_map E.words (value ∷ [])) hub.new }
         ensures from { BringsFrom hub.old (answerer_in hub.old self.now.node self.now.number)
             hub.new }
         ensures left { IfErr result (λ error. LeavesUnsent hub.old error hub.new) }

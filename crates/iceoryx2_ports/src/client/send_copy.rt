@@ -1,5 +1,5 @@
 //! Copies of a client: loan, write and send in one.
-ghost use Rattle.std.specs.Prelude.{◌≡◌, ◌∷◌, IfErr, IfOk, OnOk, [], flat_map};
+ghost use Rattle.std.specs.Prelude.{◌≡◌, ◌∷◌, IfErr, IfOk, OnErr, OnOk, [], flat_map};
 ghost use Rattle.std.specs.Mem.{FitsInMemory};
 ghost use Rattle.iox_model.specs.declared.call.Call.TheVariants as calls;
 ghost use Rattle.iox_model.specs.declared.kind.Kind.TheVariants as kinds;
@@ -10,7 +10,7 @@ ghost use Rattle.iox_hub_laws.specs.Copying.{IsAwaited};
 ghost use Rattle.iox_hub_laws.specs.Hubs.{HasValue, state_of_hub};
 ghost use Rattle.iox_hub_laws.specs.Keeping.{HaveSameShapes, KeepsAll};
 ghost use Rattle.iox_hub_laws.specs.Lending.{payload_of};
-ghost use Rattle.iox_hub_laws.specs.Sends.{BringsOnly};
+ghost use Rattle.iox_hub_laws.specs.Sends.{BringsOnly, WaitsAsBefore};
 ghost use Rattle.iox_hub_laws.specs.Waiting.{client_in};
 ghost use Rattle.iceoryx2_ports.specs.Asking.{BringsItsRequest, LendsQuietly, OpensAtServers};
 ghost use Rattle.iceoryx2_ports.specs.Copies.{LeavesUnasked, reply_of_request_copy};
@@ -18,6 +18,7 @@ ghost use Rattle.iceoryx2_ports.specs.Idling.{BringsOne};
 ghost use Rattle.iceoryx2_ports.specs.Keeping.{KeepsAsking};
 ghost use Rattle.iceoryx2_ports.specs.Reaching.{CopiesRequest, ReachesServers};
 ghost use Rattle.iceoryx2_ports.specs.Senders.{BringsFrom};
+ghost use Rattle.iceoryx2_ports.specs.Streams.{AddsOnly};
 
 use super::Client;
 use crate::copies::error_of_test;
@@ -57,7 +58,9 @@ impl<E: Words, QH: Words, P: Payload, PH: Words> Client<One<E>, QH, P, PH> {
         ensures shapes { HaveSameShapes hub.old hub.new }
         ensures asks { KeepsAsking hub.old hub.new }
         ensures only { BringsOnly hub.old (flat_map E.words (value ∷ [])) hub.new }
+        ensures adds { AddsOnly hub.old (flat_map E.words (value ∷ [])) hub.new }
         ensures from { BringsFrom hub.old self.now.number hub.new }
+        ensures unsent { OnErr result (WaitsAsBefore hub.old hub.new) }
         ensures left { IfErr result (λ error. LeavesUnasked hub.old error hub.new) }
     {
         hub.is_in_order();

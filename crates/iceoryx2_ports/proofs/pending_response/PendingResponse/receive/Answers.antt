@@ -9,7 +9,7 @@ use Rattle.iox_hub_laws.specs.Waiting.{client_in}
 use Rattle.iceoryx2_ports.specs.Idling.{TakesTheOne}
 use Rattle.iceoryx2_ports.proofs.OneTaken.{response_is_the_one, response_takes_of_room}
 use Rattle.iceoryx2_ports.proofs.Staying.{asks_as_before}
-use Rattle.iceoryx2_ports.proofs.Coming.{receive_brings_nothing}
+use Rattle.iceoryx2_ports.proofs.Coming.{receive_adds_nothing, receive_brings_nothing}
 use Rattle.iceoryx2_ports.proofs.Responding.{waited_in}
 use Rattle.iceoryx2_ports.specs.Rooms.{TakesOfRoom}
 use Rattle.iceoryx2_ports.proofs.Remaining.{receive_keeps_requests}
@@ -31,6 +31,11 @@ returns-in-Handle-clause-asks g c =
     asks_as_before c.args.hub.now c.receive_response.new.hub c.args.self.now.node (Receive c.args.self.now.number) (reply_of_receive c.receive_response.result) refl
     c.receive_response.ensures.whole
 
+pub returns-in-Handle-clause-adds : goal.returns-in-Handle-clause-adds
+returns-in-Handle-clause-adds g c =
+    receive_adds_nothing c.args.hub.now c.receive_response.new.hub c.args.self.now.node c.args.self.now.number (reply_of_receive c.receive_response.result)
+    c.receive_response.ensures.whole
+
 pub returns-in-Handle-clause-comes : goal.returns-in-Handle-clause-comes
 returns-in-Handle-clause-comes g c =
     receive_brings_nothing c.args.hub.now c.receive_response.new.hub c.args.self.now.node c.args.self.now.number (reply_of_receive c.receive_response.result)
@@ -41,6 +46,11 @@ returns-in-Nothing-clause-asks g c =
     asks_as_before c.args.hub.now c.receive_response.new.hub c.args.self.now.node (Receive c.args.self.now.number) (reply_of_receive c.receive_response.result) refl
     c.receive_response.ensures.whole
 
+pub returns-in-Nothing-clause-adds : goal.returns-in-Nothing-clause-adds
+returns-in-Nothing-clause-adds g c =
+    receive_adds_nothing c.args.hub.now c.receive_response.new.hub c.args.self.now.node c.args.self.now.number (reply_of_receive c.receive_response.result)
+    c.receive_response.ensures.whole
+
 pub returns-in-Nothing-clause-comes : goal.returns-in-Nothing-clause-comes
 returns-in-Nothing-clause-comes g c =
     receive_brings_nothing c.args.hub.now c.receive_response.new.hub c.args.self.now.node c.args.self.now.number (reply_of_receive c.receive_response.result)
@@ -49,6 +59,11 @@ returns-in-Nothing-clause-comes g c =
 pub returns-in-AtLimit-clause-asks : goal.returns-in-AtLimit-clause-asks
 returns-in-AtLimit-clause-asks g c =
     asks_as_before c.args.hub.now c.receive_response.new.hub c.args.self.now.node (Receive c.args.self.now.number) (reply_of_receive c.receive_response.result) refl
+    c.receive_response.ensures.whole
+
+pub returns-in-AtLimit-clause-adds : goal.returns-in-AtLimit-clause-adds
+returns-in-AtLimit-clause-adds g c =
+    receive_adds_nothing c.args.hub.now c.receive_response.new.hub c.args.self.now.node c.args.self.now.number (reply_of_receive c.receive_response.result)
     c.receive_response.ensures.whole
 
 pub returns-in-AtLimit-clause-comes : goal.returns-in-AtLimit-clause-comes

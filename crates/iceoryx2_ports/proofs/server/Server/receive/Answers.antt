@@ -11,7 +11,7 @@ use Rattle.iceoryx2_ports.specs.Idling.{TakesTheOne}
 use Rattle.iceoryx2_ports.proofs.OneTaken.{request_is_the_one}
 use Rattle.iceoryx2_ports.proofs.Telling.{called_as}
 use Rattle.iceoryx2_ports.proofs.Staying.{asks_as_before}
-use Rattle.iceoryx2_ports.proofs.Coming.{receive_brings_nothing}
+use Rattle.iceoryx2_ports.proofs.Coming.{receive_adds_nothing, receive_brings_nothing}
 use Rattle.iceoryx2_ports.proofs.Received.{is_its_request, receive_keeps_askers_idle}
 use Rattle.iceoryx2_ports.proofs.Remaining.{receive_keeps_requests}
 use Rattle.iceoryx2_ports.proofs.Kept.{keeps_values}
@@ -31,6 +31,11 @@ returns-in-Handle-clause-asks g c =
     asks_as_before c.args.hub.now c.receive_request.new.hub c.args.self.now.node (Receive c.args.self.now.number) (reply_of_receive c.receive_request.result) refl
     c.receive_request.ensures.whole
 
+pub returns-in-Handle-clause-adds : goal.returns-in-Handle-clause-adds
+returns-in-Handle-clause-adds g c =
+    receive_adds_nothing c.args.hub.now c.receive_request.new.hub c.args.self.now.node c.args.self.now.number (reply_of_receive c.receive_request.result)
+    c.receive_request.ensures.whole
+
 pub returns-in-Handle-clause-comes : goal.returns-in-Handle-clause-comes
 returns-in-Handle-clause-comes g c =
     receive_brings_nothing c.args.hub.now c.receive_request.new.hub c.args.self.now.node c.args.self.now.number (reply_of_receive c.receive_request.result)
@@ -41,6 +46,11 @@ returns-in-Nothing-clause-asks g c =
     asks_as_before c.args.hub.now c.receive_request.new.hub c.args.self.now.node (Receive c.args.self.now.number) (reply_of_receive c.receive_request.result) refl
     c.receive_request.ensures.whole
 
+pub returns-in-Nothing-clause-adds : goal.returns-in-Nothing-clause-adds
+returns-in-Nothing-clause-adds g c =
+    receive_adds_nothing c.args.hub.now c.receive_request.new.hub c.args.self.now.node c.args.self.now.number (reply_of_receive c.receive_request.result)
+    c.receive_request.ensures.whole
+
 pub returns-in-Nothing-clause-comes : goal.returns-in-Nothing-clause-comes
 returns-in-Nothing-clause-comes g c =
     receive_brings_nothing c.args.hub.now c.receive_request.new.hub c.args.self.now.node c.args.self.now.number (reply_of_receive c.receive_request.result)
@@ -49,6 +59,11 @@ returns-in-Nothing-clause-comes g c =
 pub returns-in-AtLimit-clause-asks : goal.returns-in-AtLimit-clause-asks
 returns-in-AtLimit-clause-asks g c =
     asks_as_before c.args.hub.now c.receive_request.new.hub c.args.self.now.node (Receive c.args.self.now.number) (reply_of_receive c.receive_request.result) refl
+    c.receive_request.ensures.whole
+
+pub returns-in-AtLimit-clause-adds : goal.returns-in-AtLimit-clause-adds
+returns-in-AtLimit-clause-adds g c =
+    receive_adds_nothing c.args.hub.now c.receive_request.new.hub c.args.self.now.node c.args.self.now.number (reply_of_receive c.receive_request.result)
     c.receive_request.ensures.whole
 
 pub returns-in-AtLimit-clause-comes : goal.returns-in-AtLimit-clause-comes

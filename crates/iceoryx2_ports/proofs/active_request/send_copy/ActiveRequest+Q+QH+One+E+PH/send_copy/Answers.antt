@@ -14,6 +14,7 @@ use Rattle.iceoryx2_ports.specs.Copies.{LeavesUnloaned, LeavesUnsent, copy_reply
 use Rattle.iceoryx2_ports.specs.declared.errors.LoanError.{LoanError}
 use Rattle.iceoryx2_ports.specs.declared.errors.SendError.{SendError}
 use Rattle.iceoryx2_ports.specs.Loans.{loan_refusal}
+use Rattle.iceoryx2_ports.proofs.Coming.{copy_adds_only}
 use Rattle.iceoryx2_ports.proofs.Copying.{copy_asks_as_before, response_never_wants, test_is_told, test_leaves}
 use Rattle.iceoryx2_ports.proofs.Responding.{copy_has_as_before, copy_reaches_asker}
 use Rattle.iceoryx2_ports.proofs.Telling.{called_as}
@@ -120,3 +121,23 @@ returns-in-Refused-clause-left g c =
     (test_leaves c.args.hub.now c.copy_response.new.hub c.in-Refused.refusal
     (response_never_wants c.args.hub.now c.is_in_order.ensures c.args.self.now.node c.args.self.now.number c.in-Refused.refusal c.requires.has
     c.is_of_its_types.ensures.responses.many (λ e. c.in-Refused.ensures.memory (ap answered.Refused e))) c.in-Refused.ensures.left))
+
+pub returns-in-Done-clause-adds : goal.returns-in-Done-clause-adds
+returns-in-Done-clause-adds g c =
+    copy_adds_only c.args.hub.now c.copy_response.new.hub c.args.self.now.node c.args.self.now.number
+    (payload_of roles.Server 1 (flat_map g.E.Words.words (c.args.value ∷ []))) (reply_of_copy c.copy_response.result) c.copy_response.ensures.whole
+
+pub returns-in-Refused-clause-adds : goal.returns-in-Refused-clause-adds
+returns-in-Refused-clause-adds g c =
+    copy_adds_only c.args.hub.now c.copy_response.new.hub c.args.self.now.node c.args.self.now.number
+    (payload_of roles.Server 1 (flat_map g.E.Words.words (c.args.value ∷ []))) (reply_of_copy c.copy_response.result) c.copy_response.ensures.whole
+
+pub returns-in-OutOfMemory-clause-adds : goal.returns-in-OutOfMemory-clause-adds
+returns-in-OutOfMemory-clause-adds g c =
+    copy_adds_only c.args.hub.now c.copy_response.new.hub c.args.self.now.node c.args.self.now.number
+    (payload_of roles.Server 1 (flat_map g.E.Words.words (c.args.value ∷ []))) (reply_of_copy c.copy_response.result) c.copy_response.ensures.whole
+
+pub returns-in-Undelivered-clause-adds : goal.returns-in-Undelivered-clause-adds
+returns-in-Undelivered-clause-adds g c =
+    copy_adds_only c.args.hub.now c.copy_response.new.hub c.args.self.now.node c.args.self.now.number
+    (payload_of roles.Server 1 (flat_map g.E.Words.words (c.args.value ∷ []))) (reply_of_copy c.copy_response.result) c.copy_response.ensures.whole

@@ -12,12 +12,14 @@ use Rattle.iceoryx2_ports.specs.Copies.{LeavesUnasked, LeavesUnloaned, unasked_r
 use Rattle.iceoryx2_ports.specs.declared.errors.LoanError.{LoanError}
 use Rattle.iceoryx2_ports.specs.declared.errors.RequestSendError.{RequestSendError}
 use Rattle.iceoryx2_ports.specs.Loans.{loan_refusal}
+use Rattle.iceoryx2_ports.proofs.Coming.{copy_adds_only}
 use Rattle.iceoryx2_ports.proofs.Copying.{copy_asks_as_before, request_never_wants, test_is_told, test_leaves}
 use Rattle.iceoryx2_ports.proofs.Reaching.{copy_brings_one, copy_is_sent, copy_reaches}
 use Rattle.iceoryx2_ports.proofs.Telling.{called_as}
 use Rattle.iceoryx2_ports.proofs.CopyAsked.{copy_asks_quietly, copy_brings_its_request, copy_opens}
 use Rattle.iceoryx2_ports.proofs.SameShapes.{same_shapes}
 use Rattle.iceoryx2_ports.proofs.Senders.{copy_from_client}
+use Rattle.iceoryx2_ports.proofs.Unsent.{refused_copy_brings_nothing}
 use Rattle.iceoryx2_ports.specs.Asking.{BringsItsRequest, LendsQuietly, OpensAtServers}
 use Rattle.iox_hub_laws.specs.Waiting.{client_in}
 use Rattle.iceoryx2_ports.proofs.client.send_copy.Client+One+E+QH+P+PH.send_copy.Goals as goal
@@ -141,3 +143,48 @@ returns-in-Refused-clause-left g c =
     (test_leaves c.args.hub.now c.copy_request.new.hub c.in-Refused.refusal
     (request_never_wants c.args.hub.now c.is_in_order.ensures c.args.self.now.node c.args.self.now.number c.in-Refused.refusal c.requires.has
     c.is_of_its_types.ensures.requests.many (λ e. c.in-Refused.ensures.memory (ap copied.Refused e))) c.in-Refused.ensures.left))
+
+pub returns-in-Refused-clause-unsent : goal.returns-in-Refused-clause-unsent
+returns-in-Refused-clause-unsent g c =
+    refused_copy_brings_nothing c.args.hub.now c.copy_request.new.hub c.is_in_order.ensures c.args.self.now.node c.args.self.now.number 1
+    (flat_map g.E.Words.words (c.args.value ∷ [])) c.requires.has (replies.Refused (refusal_of c.in-Refused.refusal)) c.in-Refused.ensures.whole tt
+
+pub returns-in-OutOfMemory-clause-unsent : goal.returns-in-OutOfMemory-clause-unsent
+returns-in-OutOfMemory-clause-unsent g c =
+    refused_copy_brings_nothing c.args.hub.now c.copy_request.new.hub c.is_in_order.ensures c.args.self.now.node c.args.self.now.number 1
+    (flat_map g.E.Words.words (c.args.value ∷ [])) c.requires.has (replies.Refused refusals.OutOfMemory) c.in-OutOfMemory.ensures.whole tt
+
+pub returns-in-ExceedsMaxActiveRequests-clause-unsent : goal.returns-in-ExceedsMaxActiveRequests-clause-unsent
+returns-in-ExceedsMaxActiveRequests-clause-unsent g c =
+    refused_copy_brings_nothing c.args.hub.now c.copy_request.new.hub c.is_in_order.ensures c.args.self.now.node c.args.self.now.number 1
+    (flat_map g.E.Words.words (c.args.value ∷ [])) c.requires.has (replies.Refused refusals.ExceedsMaxActiveRequests) c.in-ExceedsMaxActiveRequests.ensures.whole tt
+
+pub returns-in-UnableToDeliver-clause-unsent : goal.returns-in-UnableToDeliver-clause-unsent
+returns-in-UnableToDeliver-clause-unsent g c =
+    refused_copy_brings_nothing c.args.hub.now c.copy_request.new.hub c.is_in_order.ensures c.args.self.now.node c.args.self.now.number 1
+    (flat_map g.E.Words.words (c.args.value ∷ [])) c.requires.has (replies.Refused refusals.UnableToDeliver) c.in-UnableToDeliver.ensures.whole tt
+
+pub returns-in-To-clause-adds : goal.returns-in-To-clause-adds
+returns-in-To-clause-adds g c =
+    copy_adds_only c.args.hub.now c.copy_request.new.hub c.args.self.now.node c.args.self.now.number
+    (payload_of roles.Client 1 (flat_map g.E.Words.words (c.args.value ∷ []))) (reply_of_copy c.copy_request.result) c.copy_request.ensures.whole
+
+pub returns-in-Refused-clause-adds : goal.returns-in-Refused-clause-adds
+returns-in-Refused-clause-adds g c =
+    copy_adds_only c.args.hub.now c.copy_request.new.hub c.args.self.now.node c.args.self.now.number
+    (payload_of roles.Client 1 (flat_map g.E.Words.words (c.args.value ∷ []))) (reply_of_copy c.copy_request.result) c.copy_request.ensures.whole
+
+pub returns-in-OutOfMemory-clause-adds : goal.returns-in-OutOfMemory-clause-adds
+returns-in-OutOfMemory-clause-adds g c =
+    copy_adds_only c.args.hub.now c.copy_request.new.hub c.args.self.now.node c.args.self.now.number
+    (payload_of roles.Client 1 (flat_map g.E.Words.words (c.args.value ∷ []))) (reply_of_copy c.copy_request.result) c.copy_request.ensures.whole
+
+pub returns-in-ExceedsMaxActiveRequests-clause-adds : goal.returns-in-ExceedsMaxActiveRequests-clause-adds
+returns-in-ExceedsMaxActiveRequests-clause-adds g c =
+    copy_adds_only c.args.hub.now c.copy_request.new.hub c.args.self.now.node c.args.self.now.number
+    (payload_of roles.Client 1 (flat_map g.E.Words.words (c.args.value ∷ []))) (reply_of_copy c.copy_request.result) c.copy_request.ensures.whole
+
+pub returns-in-UnableToDeliver-clause-adds : goal.returns-in-UnableToDeliver-clause-adds
+returns-in-UnableToDeliver-clause-adds g c =
+    copy_adds_only c.args.hub.now c.copy_request.new.hub c.args.self.now.node c.args.self.now.number
+    (payload_of roles.Client 1 (flat_map g.E.Words.words (c.args.value ∷ []))) (reply_of_copy c.copy_request.result) c.copy_request.ensures.whole

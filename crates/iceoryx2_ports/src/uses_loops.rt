@@ -1,0 +1,156 @@
+//! Loops of sends and of receives, proved from the clauses of typed ports alone.
+ghost use Rattle.std.specs.Prelude.{◌≡◌, ◌≤◌, ◌∷◌, ℕ, IfSome, []};
+ghost use Rattle.iceoryx2_ports.specs.Calls.{HasCallsLeft};
+ghost use Rattle.iceoryx2_ports.specs.Hubs.{HasValue};
+ghost use Rattle.iceoryx2_ports.specs.Kind.TheVariants as kinds;
+ghost use Rattle.iceoryx2_ports.specs.Streams.{AddsNothing};
+ghost use Rattle.iceoryx2_ports.specs.Waiting.{AllCarry, client_in, server_of};
+
+use crate::{ActiveRequest, Client, Hub, One, PendingResponse, Server};
+
+/// A client sends copies of one value, at most so many, and gives each pending response up. It says
+/// how many were sent. For a server for which nothing but that value waited, nothing else waits
+/// then.
+pub fn asks_many(
+    client: &Client<One<u64>, (), One<u64>, ()>,
+    server: &Server<One<u64>, (), One<u64>, ()>,
+    hub: &mut Hub<One<u64>, (), One<u64>, ()>,
+    value: u64,
+    most: usize,
+) -> usize
+    requires all { AllCarry hub.old (server_of server.now.number) (value ∷ []) }
+    ensures all { AllCarry hub.new (server_of server.now.number) (value ∷ []) }
+    ensures most { result ≤ most }
+{
+    let mut sent = 0;
+    for turn in 0..most {
+        if !client.exists(hub) {
+            break;
+        }
+        let Ok(pending) = client.send_copy(hub, value) else {
+            break;
+        };
+        pending.release(hub);
+        sent = turn + 1;
+    }
+    sent
+}
+
+/// A server answers a request with a copy, if that goes well. For a client for which nothing but that
+/// value waited, nothing else waits then.
+pub fn answers_once(
+    request: &ActiveRequest<One<u64>, (), One<u64>, ()>,
+    pending: &PendingResponse<One<u64>, (), One<u64>, ()>,
+    hub: &mut Hub<One<u64>, (), One<u64>, ()>,
+    value: u64,
+) -> bool
+    requires request { HasValue hub.old request.now.node request.now.number kinds.ActiveRequest }
+    requires pending { HasValue hub.old pending.now.node pending.now.number kinds.PendingResponse }
+    requires all { AllCarry hub.old (client_in hub.old pending.now.node pending.now.number)
+        (value ∷ []) }
+    ensures request { HasValue hub.new request.now.node request.now.number kinds.ActiveRequest }
+    ensures pending { HasValue hub.new pending.now.node pending.now.number kinds.PendingResponse }
+    ensures all { AllCarry hub.new (client_in hub.new pending.now.node pending.now.number)
+        (value ∷ []) }
+{
+    request.send_copy(hub, value).is_ok()
+}
+
+/// A server answers a request with copies of one value, at most so many, and says how many were
+/// sent. For a client for which nothing but that value waited, nothing else waits then.
+pub fn answers_many(
+    request: &ActiveRequest<One<u64>, (), One<u64>, ()>,
+    pending: &PendingResponse<One<u64>, (), One<u64>, ()>,
+    hub: &mut Hub<One<u64>, (), One<u64>, ()>,
+    value: u64,
+    most: usize,
+) -> usize
+    requires request { HasValue hub.old request.now.node request.now.number kinds.ActiveRequest }
+    requires pending { HasValue hub.old pending.now.node pending.now.number kinds.PendingResponse }
+    requires all { AllCarry hub.old (client_in hub.old pending.now.node pending.now.number)
+        (value ∷ []) }
+    ensures pending { HasValue hub.new pending.now.node pending.now.number kinds.PendingResponse }
+    ensures all { AllCarry hub.new (client_in hub.new pending.now.node pending.now.number)
+        (value ∷ []) }
+    ensures most { result ≤ most }
+{
+    let mut sent = 0;
+    for turn in 0..most {
+        if !answers_once(request, pending, hub, value) {
+            break;
+        }
+        sent = turn + 1;
+    }
+    sent
+}
+
+/// A client takes the next response, if one is there, and reads it. If all that waits carries one
+/// value, it reads that; and nothing is added to what waits.
+pub fn hears_next(
+    pending: &PendingResponse<One<u64>, (), One<u64>, ()>,
+    hub: &mut Hub<One<u64>, (), One<u64>, ()>,
+) -> Option<u64>
+    requires has { HasValue hub.old pending.now.node pending.now.number kinds.PendingResponse }
+    requires calls { HasCallsLeft hub.old }
+    ensures read { (value : ℕ)
+        → AllCarry hub.old (client_in hub.old pending.now.node pending.now.number) (value ∷ [])
+        → IfSome result (λ read. read ≡ value) }
+    ensures asks { client_in hub.new pending.now.node pending.now.number
+        ≡ client_in hub.old pending.now.node pending.now.number }
+    ensures adds { AddsNothing hub.old hub.new }
+{
+    let Ok(Some(response)) = pending.receive(hub) else {
+        return None;
+    };
+    let read = response.first(hub).copied();
+    response.release(hub);
+    read
+}
+
+/// A client takes responses as long as its request is open and they carry something, at most so
+/// many. It says how many it took, and what it read last. If all that waits carries one value, it
+/// read that.
+pub fn hears_while_connected(
+    pending: &PendingResponse<One<u64>, (), One<u64>, ()>,
+    hub: &mut Hub<One<u64>, (), One<u64>, ()>,
+    most: usize,
+) -> (usize, Option<u64>)
+    ensures most { result.0 ≤ most }
+    ensures read { (value : ℕ)
+        → AllCarry hub.old (client_in hub.old pending.now.node pending.now.number) (value ∷ [])
+        → IfSome result.1 (λ read. read ≡ value) }
+{
+    let mut taken = 0;
+    let mut last = None;
+    for turn in 0..most {
+        if hub.calls() >= 1 << 56 || !pending.exists(hub) || !pending.is_connected(hub) {
+            break;
+        }
+        let Some(read) = hears_next(pending, hub) else {
+            break;
+        };
+        last = Some(read);
+        taken = turn + 1;
+    }
+    (taken, last)
+}
+
+/// A server answers with copies of one value, at most so many, and the client, for which nothing
+/// but that value waited, takes what comes: it reads that value, and no other.
+pub fn streams(
+    request: &ActiveRequest<One<u64>, (), One<u64>, ()>,
+    pending: &PendingResponse<One<u64>, (), One<u64>, ()>,
+    hub: &mut Hub<One<u64>, (), One<u64>, ()>,
+    value: u64,
+    most: usize,
+) -> Option<u64>
+    requires request { HasValue hub.old request.now.node request.now.number kinds.ActiveRequest }
+    requires pending { HasValue hub.old pending.now.node pending.now.number kinds.PendingResponse }
+    requires all { AllCarry hub.old (client_in hub.old pending.now.node pending.now.number)
+        (value ∷ []) }
+    ensures { IfSome result (λ read. read ≡ value) }
+{
+    answers_many(request, pending, hub, value, most);
+    let (_taken, last) = hears_while_connected(pending, hub, most);
+    last
+}
