@@ -143,32 +143,3 @@ fn refused_sends_and_receives_have_texts(rt: HostRuntime) -> Result<(), Fail> {
     )?;
     Ok(())
 }
-
-#[test]
-fn causes_are_held(rt: HostRuntime) {
-    let cause = LoanError::ExceedsMaxLoans;
-    let loan = SendError::from(cause);
-    equal(&rt, loan, SendError::LoanError(LoanError::ExceedsMaxLoans));
-    equal(
-        &rt,
-        RequestSendError::from(cause),
-        RequestSendError::SendError(loan),
-    );
-    equal(
-        &rt,
-        RequestSendError::from(loan),
-        RequestSendError::SendError(loan),
-    );
-    let connection = SendError::from(FAILURE);
-    equal(&rt, connection, SendError::ConnectionError(FAILURE));
-    equal(
-        &rt,
-        RequestSendError::from(FAILURE),
-        RequestSendError::SendError(connection),
-    );
-    equal(
-        &rt,
-        ReceiveError::from(FAILURE),
-        ReceiveError::ConnectionFailure(FAILURE),
-    );
-}

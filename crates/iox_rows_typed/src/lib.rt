@@ -4,6 +4,10 @@
 #[cfg(test)]
 mod always;
 #[cfg(test)]
+mod causes;
+#[cfg(test)]
+mod contents;
+#[cfg(test)]
 mod copies;
 #[cfg(test)]
 mod defaults;
@@ -24,9 +28,13 @@ mod handlers;
 #[cfg(test)]
 mod headers;
 #[cfg(test)]
+mod limits;
+#[cfg(test)]
 mod long_requests;
 #[cfg(test)]
 mod overrides;
+#[cfg(test)]
+mod questions;
 #[cfg(test)]
 mod refusals;
 #[cfg(test)]
