@@ -42,3 +42,4 @@ pub mod Senders
 pub mod MadeAs
 pub mod InTurn
 pub mod FilledLoans
+pub mod OneElement
