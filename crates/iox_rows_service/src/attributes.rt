@@ -1,13 +1,11 @@
 use crate::expected::{equal, holds};
 use iox_attributes::{
-    AttributeDefinitionError, AttributeSet, AttributeSpecifier, AttributeVerifier,
-    DefinitionRefusal,
+    AttributeDefinitionError, AttributeSet, AttributeSpecifier, AttributeVerificationError,
+    AttributeVerifier, DefinitionRefusal,
 };
 use iox_names::ServiceNameError;
 use iox_names::attribute::{Attribute, AttributeKey, AttributeValue};
 use iox_words::CallbackProgression;
-use std::alloc::Global;
-use std::process::Abort;
 use std::test::Fail;
 
 fn define_all(pairs: &[(&str, &str)]) -> Result<AttributeSpecifier, Fail> {
@@ -33,104 +31,80 @@ fn attribute(key: &str, value: &str) -> Result<Attribute, ServiceNameError> {
     Ok(Attribute::new(&AttributeKey::new(key)?, &AttributeValue::new(value)?))
 }
 
-/// What a service with these attributes lacks of these pairs and keys, as it is shown, if it lacks
-/// something.
-fn missing(
-    alloc: Global,
-    defined: &[(&str, &str)],
-    pairs: &[(&str, &str)],
-    keys: &[&str],
-) -> Result<Option<String>, Fail> {
-    let specifier = define_all(defined)?;
-    let verifier = require_all(pairs, keys)?;
-    lacking(alloc, &specifier, &verifier)
-}
-
-fn lacking(
-    alloc: Global,
-    specifier: &AttributeSpecifier,
-    verifier: &AttributeVerifier,
-) -> Result<Option<String>, Fail> {
-    match verifier.verify_requirements(specifier.attributes()) {
-        Ok(()) => Ok(None),
-        Err(error) => Ok(Some(format!(in alloc; "{error} {error:?}")?)),
-    }
-}
-
-/// Ends the test where a service with the pairs (a, 1) and (b, 2) lacks something else.
-fn lacks(
-    rt: &impl Abort,
-    alloc: Global,
-    pairs: &[(&str, &str)],
-    keys: &[&str],
-    wanted: Option<&str>,
-) -> Result<(), Fail> {
-    let told = missing(alloc, &[("a", "1"), ("b", "2")], pairs, keys)?;
-    let told = told.as_ref().map(|told| told.as_str());
-    equal(rt, told, wanted);
+#[test]
+fn the_least_missing_pair_is_told(rt: HostRuntime) -> Result<(), Fail> {
+    let specifier = define_all(&[("a", "1"), ("b", "2")])?;
+    let verifier = require_all(&[("b", "3"), ("a", "2")], &["c"])?;
+    let (a, two) = (AttributeKey::new("a")?, AttributeValue::new("2")?);
+    let error = AttributeVerificationError::IncompatibleAttribute(&a, &two);
+    let verdict = verifier.verify_requirements(specifier.attributes());
+    equal(&rt, verdict, Err(error));
+    let shown = format!(in rt.alloc(); "{error}")?;
+    equal(
+        &rt,
+        shown.as_str(),
+        "AttributeVerificationError::IncompatibleAttribute(a, 2)",
+    );
     Ok(())
 }
 
 #[test]
-fn the_least_missing_pair_is_told(rt: HostRuntime) -> Result<(), Fail> {
-    const TOLD: &str = "AttributeVerificationError::IncompatibleAttribute(a, 2) \
-        IncompatibleAttribute(\"a\", \"2\")";
-    let pairs = &[("b", "3"), ("a", "2")];
-    lacks(&rt, rt.alloc(), pairs, &["c"], Some(TOLD))
-}
-
-#[test]
 fn the_first_missing_key_is_told(rt: HostRuntime) -> Result<(), Fail> {
-    const TOLD: &str = "AttributeVerificationError::NonExistingKey(d) NonExistingKey(\"d\")";
-    let pairs = &[("a", "1"), ("a", "1")];
-    lacks(&rt, rt.alloc(), pairs, &["d", "c"], Some(TOLD))?;
-    let verifier = require_all(pairs, &["d", "c"])?;
+    let specifier = define_all(&[("a", "1"), ("b", "2")])?;
+    let verifier = require_all(&[("a", "1"), ("a", "1")], &["d", "c"])?;
+    let d = AttributeKey::new("d")?;
+    let error = AttributeVerificationError::NonExistingKey(&d);
+    let verdict = verifier.verify_requirements(specifier.attributes());
+    equal(&rt, verdict, Err(error));
+    let shown = format!(in rt.alloc(); "{error}")?;
+    equal(
+        &rt,
+        shown.as_str(),
+        "AttributeVerificationError::NonExistingKey(d)",
+    );
     equal(&rt, verifier.required_keys().len(), 2);
-    let required = verifier.required_attributes();
-    equal(&rt, required.number_of_attributes(), 2);
+    equal(
+        &rt,
+        verifier.required_attributes().number_of_attributes(),
+        2,
+    );
     Ok(())
 }
 
 #[test]
 fn what_is_required_is_met(rt: HostRuntime) -> Result<(), Fail> {
-    lacks(&rt, rt.alloc(), &[("a", "1"), ("a", "1")], &["b"], None)?;
-    lacks(&rt, rt.alloc(), &[], &[], None)?;
     let specifier = define_all(&[("a", "1"), ("b", "2")])?;
+    let verifier = require_all(&[("a", "1"), ("a", "1")], &["b"])?;
+    equal(
+        &rt,
+        verifier.verify_requirements(specifier.attributes()),
+        Ok(()),
+    );
     let verifier = AttributeVerifier::default();
-    equal(&rt, lacking(rt.alloc(), &specifier, &verifier)?, None);
+    equal(
+        &rt,
+        verifier.verify_requirements(specifier.attributes()),
+        Ok(()),
+    );
     Ok(())
 }
 
-/// Ends the test where the attribute at that place of a set is another.
-fn stands_at(
-    rt: &impl Abort,
-    set: &AttributeSet,
-    place: usize,
-    key: &str,
-    value: &str,
-) -> Result<(), Fail> {
-    let wanted = attribute(key, value)?;
-    equal(rt, set.as_slice().get(place), Some(&wanted));
-    Ok(())
-}
-
-/// Ends the test where the key has another value at that place of its own.
-fn has_value(
-    rt: &impl Abort,
-    set: &AttributeSet,
-    key: &AttributeKey,
-    place: usize,
-    wanted: &str,
-) -> Result<(), Fail> {
-    let value = AttributeValue::new(wanted)?;
-    equal(rt, set.key_value(key, place), Some(&value));
-    Ok(())
-}
-
-/// How many values of the key are told to a callback that stops at 2.
-fn told_until_2(set: &AttributeSet, key: &AttributeKey) -> u8 {
+#[test]
+fn a_set_is_sorted_and_keeps_repeats(rt: HostRuntime) -> Result<(), Fail> {
+    let specifier = define_all(&[("b", "1"), ("a", "2"), ("ab", "1"), ("a", "10"), ("a", "2")])?;
+    let set = specifier.attributes();
+    assert_eq!(rt; set.number_of_attributes(), 5);
+    assert_eq!(rt; set.as_slice().len(), 5);
+    assert!(rt; set.as_slice()[0] == attribute("a", "10")?);
+    assert!(rt; set.as_slice()[3] == attribute("ab", "1")?);
+    assert!(rt; set[4] == attribute("b", "1")?);
+    let a = AttributeKey::new("a")?;
+    equal(&rt, set.number_of_key_values(&a), 3);
+    equal(&rt, set.key_value(&a, 0), Some(&AttributeValue::new("10")?));
+    equal(&rt, set.key_value(&a, 2), Some(&AttributeValue::new("2")?));
+    equal(&rt, set.key_value(&a, 3), None);
     let mut visited: u8 = 0;
-    set.iter_key_values(key, |value| {
+    set.iter_key_values(&a, |value| {
         visited = visited.wrapping_add(1);
         if value.as_str() == "2" {
             CallbackProgression::Stop
@@ -138,52 +112,20 @@ fn told_until_2(set: &AttributeSet, key: &AttributeKey) -> u8 {
             CallbackProgression::Continue
         }
     });
-    visited
-}
-
-/// A set of the values 10, 2 and 2 of the key a, and of one of ab and one of b.
-fn is_sorted(rt: &impl Abort, set: &AttributeSet) -> Result<(), Fail> {
-    equal(rt, set.number_of_attributes(), 5);
-    equal(rt, set.as_slice().len(), 5);
-    stands_at(rt, set, 0, "a", "10")?;
-    stands_at(rt, set, 3, "ab", "1")?;
-    holds(rt, set[4] == attribute("b", "1")?);
-    let a = AttributeKey::new("a")?;
-    equal(rt, set.number_of_key_values(&a), 3);
-    has_value(rt, set, &a, 0, "10")?;
-    has_value(rt, set, &a, 2, "2")?;
-    equal(rt, set.key_value(&a, 3), None);
-    equal(rt, told_until_2(set, &a), 2);
-    Ok(())
-}
-
-#[test]
-fn a_set_is_sorted_and_keeps_repeats(rt: HostRuntime) -> Result<(), Fail> {
-    let specifier = define_all(&[("b", "1"), ("a", "2"), ("ab", "1"), ("a", "10"), ("a", "2")])?;
-    is_sorted(&rt, specifier.attributes())
-}
-
-/// Whether these pairs make the same set as those.
-fn are_one_set(pairs: &[(&str, &str)], other: &[(&str, &str)]) -> Result<bool, Fail> {
-    let (specifier, other) = (define_all(pairs)?, define_all(other)?);
-    Ok(specifier.attributes() == other.attributes())
-}
-
-#[test]
-fn sets_are_equal_in_whatever_order_they_were_made(rt: HostRuntime) -> Result<(), Fail> {
-    let set = &[("b", "1"), ("a", "2"), ("ab", "1"), ("a", "10"), ("a", "2")];
-    let other_way = &[("a", "2"), ("a", "10"), ("ab", "1"), ("a", "2"), ("b", "1")];
-    holds(&rt, are_one_set(set, other_way)?);
-    let once = &[("a", "2"), ("a", "10"), ("ab", "1"), ("b", "1")];
-    holds(&rt, !are_one_set(set, once)?);
-    Ok(())
-}
-
-#[test]
-fn a_set_has_room_for_64_and_nothing_at_first(rt: HostRuntime) {
+    equal(&rt, visited, 2);
+    let other_way = define_all(&[("a", "2"), ("a", "10"), ("ab", "1"), ("a", "2"), ("b", "1")])?;
+    equal(&rt, set, other_way.attributes());
+    let once = define_all(&[("a", "2"), ("a", "10"), ("ab", "1"), ("b", "1")])?;
+    holds(&rt, set != once.attributes());
     equal(&rt, AttributeSet::capacity(), 64);
-    let specifier = AttributeSpecifier::default();
-    equal(&rt, specifier.attributes().number_of_attributes(), 0);
+    equal(
+        &rt,
+        AttributeSpecifier::default()
+            .attributes()
+            .number_of_attributes(),
+        0,
+    );
+    Ok(())
 }
 
 #[test]
@@ -208,21 +150,14 @@ fn builders_are_chained(rt: HostRuntime) -> Result<(), Fail> {
     Ok(())
 }
 
-const FULL: AttributeDefinitionError = AttributeDefinitionError::ExceedsMaxSupportedAttributes;
-
-/// The refusal of a pair (b, 2) by a full specifier.
-fn refused_pair() -> Result<DefinitionRefusal<AttributeSpecifier>, Fail> {
-    let specifier = define_all(&[("a", "1"); 64])?;
-    let (key, value) = (AttributeKey::new("b")?, AttributeValue::new("2")?);
-    match specifier.define(&key, &value) {
-        Err(refusal) => Ok(refusal),
-        Ok(_) => Err(Fail::from("not full")),
-    }
-}
-
 #[test]
-fn a_refusal_is_shown_by_its_name(rt: HostRuntime) -> Result<(), Fail> {
-    let refusal = refused_pair()?;
+fn a_refusal_hands_the_builder_back(rt: HostRuntime) -> Result<(), Fail> {
+    let specifier = define_all(&[("a", "1"); 64])?;
+    holds(&rt, specifier.attributes().is_full());
+    let (key, value) = (AttributeKey::new("b")?, AttributeValue::new("2")?);
+    let Err(refusal) = specifier.define(&key, &value) else {
+        return Err(Fail::from("full"));
+    };
     let shown = format!(in rt.alloc(); "{refusal} {refusal:?}")?;
     equal(
         &rt,
@@ -230,46 +165,40 @@ fn a_refusal_is_shown_by_its_name(rt: HostRuntime) -> Result<(), Fail> {
         "AttributeDefinitionError::ExceedsMaxSupportedAttributes \
         DefinitionRefusal { error: ExceedsMaxSupportedAttributes, .. }",
     );
+    let DefinitionRefusal { mut builder, error } = refusal;
+    equal(
+        &rt,
+        error,
+        AttributeDefinitionError::ExceedsMaxSupportedAttributes,
+    );
+    equal(&rt, builder.attributes().number_of_attributes(), 64);
+    equal(&rt, builder.attributes().number_of_key_values(&key), 0);
+    equal(&rt, builder.try_define(&key, &value), Err(error));
+    equal(&rt, builder.attributes().number_of_attributes(), 64);
     Ok(())
-}
-
-/// A specifier of 64 pairs (a, 1) is full, and refuses a pair (b, 2).
-fn is_full(rt: &impl Abort, builder: &mut AttributeSpecifier) -> Result<(), Fail> {
-    let (key, value) = (AttributeKey::new("b")?, AttributeValue::new("2")?);
-    holds(rt, builder.attributes().is_full());
-    equal(rt, builder.attributes().number_of_attributes(), 64);
-    equal(rt, builder.attributes().number_of_key_values(&key), 0);
-    equal(rt, builder.try_define(&key, &value), Err(FULL));
-    equal(rt, builder.attributes().number_of_attributes(), 64);
-    Ok(())
-}
-
-#[test]
-fn a_refusal_hands_the_builder_back(rt: HostRuntime) -> Result<(), Fail> {
-    let DefinitionRefusal { mut builder, error } = refused_pair()?;
-    equal(&rt, error, FULL);
-    is_full(&rt, &mut builder)
-}
-
-/// The refusal of a key by a full verifier, which refused a pair before and handed itself back.
-fn refused_key() -> Result<DefinitionRefusal<AttributeVerifier>, Fail> {
-    let verifier = require_all(&[("a", "1"); 64], &["a"; 64])?;
-    let (key, value) = (AttributeKey::new("b")?, AttributeValue::new("2")?);
-    let Err(refusal) = verifier.require(&key, &value) else {
-        return Err(Fail::from("not full"));
-    };
-    match refusal.builder.require_key(&key) {
-        Err(refusal) => Ok(refusal),
-        Ok(_) => Err(Fail::from("not full")),
-    }
 }
 
 #[test]
 fn a_full_verifier_is_handed_back(rt: HostRuntime) -> Result<(), Fail> {
-    let refusal = refused_key()?;
+    let verifier = require_all(&[("a", "1"); 64], &["a"; 64])?;
+    let (key, value) = (AttributeKey::new("b")?, AttributeValue::new("2")?);
+    let Err(refusal) = verifier.require(&key, &value) else {
+        return Err(Fail::from("full"));
+    };
+    let Err(refusal) = refusal.builder.require_key(&key) else {
+        return Err(Fail::from("full"));
+    };
     equal(&rt, refusal.builder.required_keys().len(), 64);
-    let required = refusal.builder.required_attributes();
-    equal(&rt, required.number_of_attributes(), 64);
-    equal(&rt, AttributeDefinitionError::from(refusal), FULL);
+    equal(
+        &rt,
+        refusal.builder.required_attributes().number_of_attributes(),
+        64,
+    );
+    let error = AttributeDefinitionError::from(refusal);
+    equal(
+        &rt,
+        error,
+        AttributeDefinitionError::ExceedsMaxSupportedAttributes,
+    );
     Ok(())
 }

@@ -83,16 +83,16 @@ fn a_node_has_a_process_number_or_a_counter(rt: HostRuntime) {
         })
         .is_ok(),
     );
-    holds(&rt, UniqueNodeId::of_words(&[2, 3 << 32]).is_none());
+    assert!(rt; UniqueNodeId::of_words(&[2, 3 << 32]).is_none());
 }
 
 /// The words of a value at the numbers below those of its type.
 fn has_words<T: Words>(rt: &impl Abort, value: T, words: &[u64]) {
-    equal(rt, T::WORDS, words.len());
+    assert_eq!(rt; T::WORDS, words.len());
     for (index, word) in words.iter().enumerate() {
         equal(rt, value.word(index), *word);
     }
-    holds(rt, T::of_words(words).is_some());
+    assert!(rt; T::of_words(words).is_some());
 }
 
 #[test]
@@ -129,11 +129,8 @@ fn headers_have_the_words_of_their_fields(rt: HostRuntime) -> Result<(), Fail> {
     equal(&rt, response.server_id().value(), u128::MAX);
     equal(&rt, response.node_id(), node_id);
     equal(&rt, response.number_of_elements(), 1);
-    holds(
-        &rt,
-        RequestHeader::of_words(&[1, 1, 1, 1, 1, 1 << 62, 1]).is_none(),
-    );
-    holds(&rt, ResponseHeader::of_words(&[1, 1, 1, 1, 1]).is_none());
+    assert!(rt; RequestHeader::of_words(&[1, 1, 1, 1, 1, 1 << 62, 1]).is_none());
+    assert!(rt; ResponseHeader::of_words(&[1, 1, 1, 1, 1]).is_none());
     Ok(())
 }
 
