@@ -14,8 +14,7 @@ mod running;
 mod starts;
 
 use crate::expected::equal;
-use iceoryx2_wire::{AttributeVerificationError, Many, Refusal, Reply, Service, Settings};
-use openers::Who;
+use iceoryx2_wire::{AttributeVerificationError, Many, Opener, Refusal, Reply, Service, Settings};
 use std::alloc::{AllocError, Global};
 use std::process::Abort;
 use std::test::Fail;
@@ -23,17 +22,15 @@ use std::test::Fail;
 /// Requests and responses of numbers.
 type TheService = Service<Many<u64>, (), Many<u64>, ()>;
 
-type TheCause<'a> = AttributeVerificationError<'a>;
+type TheRefusal<'a> = Refusal<AttributeVerificationError<'a>>;
 
-type TheRefusal<'a> = Refusal<TheCause<'a>>;
-
-type TheReply<'a> = Reply<Vec<u64>, TheCause<'a>>;
+type TheReply<'a> = Reply<Vec<u64>, AttributeVerificationError<'a>>;
 
 /// What is asked. Of a port's or a handle's node and number, the node comes first.
 #[derive(Clone, Copy)]
-enum Ask {
+enum Ask<'a> {
     /// A node with the id N 0 0 0 opens the service.
-    Open(u32, Who),
+    Open(u32, &'a Opener),
     Leave(u64),
     Die(u64),
     Cleanup(u64),
@@ -60,8 +57,41 @@ enum Ask {
     HasResponse(u64, u64),
 }
 
-/// What is asked, and the reply as it is shown.
-type Row = (Ask, &'static str);
+/// What is told.
+#[derive(Clone, Copy, Debug, PartialEq, Eq)]
+enum Told<'a> {
+    Node(u64),
+    Client(u64),
+    Server(u64),
+    Handle(u64),
+    Sent(u64),
+    Done,
+    Nothing,
+    Words(&'a [u64]),
+    Answer(bool),
+    Listed(&'a [u64]),
+    Refused(TheRefusal<'a>),
+}
+
+/// The reply, with its list lent.
+fn lent<'a>(reply: &'a TheReply<'a>) -> Told<'a> {
+    match reply {
+        Reply::Node(n) => Told::Node(*n),
+        Reply::Client(n) => Told::Client(*n),
+        Reply::Server(n) => Told::Server(*n),
+        Reply::Handle(n) => Told::Handle(*n),
+        Reply::Sent(n) => Told::Sent(*n),
+        Reply::Done => Told::Done,
+        Reply::Nothing => Told::Nothing,
+        Reply::Words(words) => Told::Words(words.as_slice()),
+        Reply::Answer(answer) => Told::Answer(*answer),
+        Reply::Listed(numbers) => Told::Listed(numbers.as_slice()),
+        Reply::Refused(refusal) => Told::Refused(*refusal),
+    }
+}
+
+/// What is asked, and what is told.
+type Row<'a> = (Ask<'a>, Told<'a>);
 
 /// How a service is asked: by its calls, or by `run`.
 #[derive(Clone, Copy)]
@@ -70,30 +100,10 @@ enum Way {
     Ran,
 }
 
-/// Ends the test where a reply is not shown so.
-fn tells(
-    rt: &impl Abort,
-    alloc: Global,
-    reply: &TheReply<'_>,
-    wanted: &str,
-) -> Result<(), AllocError> {
-    let shown = format!(in alloc; "{reply:?}")?;
-    equal(rt, shown.as_str(), wanted);
-    Ok(())
-}
-
-/// Asks by a call, and ends the test where the answer is not the wanted one.
-fn call(
-    rt: &impl Abort,
-    alloc: Global,
-    service: &mut TheService,
-    ask: Ask,
-    wanted: &str,
-) -> Result<(), Fail> {
-    let opener = asking::opener_of(ask)?;
-    let reply = asking::called(service, alloc, ask, &opener)?;
-    tells(rt, alloc, &reply, wanted)?;
-    Ok(())
+/// Ends the test where a reply is not the wanted one.
+fn tells(rt: &impl Abort, reply: &TheReply<'_>, wanted: &Told<'_>) {
+    let told = lent(reply);
+    assert_eq!(rt; told, *wanted);
 }
 
 /// Asks by the calls, and ends the test where an answer is not the wanted one.
@@ -101,41 +111,30 @@ fn calls(
     rt: &impl Abort,
     alloc: Global,
     service: &mut TheService,
-    script: &[Row],
-) -> Result<(), Fail> {
+    script: &[Row<'_>],
+) -> Result<(), AllocError> {
     for (ask, wanted) in script {
-        call(rt, alloc, service, *ask, wanted)?;
+        let reply = asking::called(service, alloc, *ask)?;
+        tells(rt, &reply, wanted);
         registered::as_many_as_listed(rt, alloc, service)?;
     }
     Ok(())
 }
 
 /// Ends the test where replies are not the wanted ones.
-fn are(
-    rt: &impl Abort,
-    alloc: Global,
-    replies: &[TheReply<'_>],
-    wanted: &[&str],
-) -> Result<(), AllocError> {
+fn are(rt: &impl Abort, replies: &[TheReply<'_>], wanted: &[Told<'_>]) {
     equal(rt, replies.len(), wanted.len());
-    for (reply, shown) in replies.iter().zip(wanted.iter()) {
-        tells(rt, alloc, reply, shown)?;
+    for (reply, told) in replies.iter().zip(wanted.iter()) {
+        tells(rt, reply, told);
     }
-    Ok(())
 }
 
 /// Ends the test where replies are not those of a script.
-fn are_of(
-    rt: &impl Abort,
-    alloc: Global,
-    replies: &[TheReply<'_>],
-    script: &[Row],
-) -> Result<(), AllocError> {
+fn are_of(rt: &impl Abort, replies: &[TheReply<'_>], script: &[Row<'_>]) {
     equal(rt, replies.len(), script.len());
     for (reply, (_, wanted)) in replies.iter().zip(script.iter()) {
-        tells(rt, alloc, reply, wanted)?;
+        tells(rt, reply, wanted);
     }
-    Ok(())
 }
 
 /// The same by one `run`.
@@ -143,13 +142,11 @@ fn runs(
     rt: &impl Abort,
     alloc: Global,
     service: &mut TheService,
-    script: &[Row],
-) -> Result<(), Fail> {
-    let openers = asking::openers_of(alloc, script)?;
-    let commands = asking::commands(alloc, script, &openers)?;
-    are_of(rt, alloc, &asking::ran(service, alloc, commands)?, script)?;
-    registered::as_many_as_listed(rt, alloc, service)?;
-    Ok(())
+    script: &[Row<'_>],
+) -> Result<(), AllocError> {
+    let replies = asking::ran(service, alloc, asking::commands(alloc, script)?)?;
+    are_of(rt, &replies, script);
+    registered::as_many_as_listed(rt, alloc, service)
 }
 
 /// The same in this way.
@@ -158,8 +155,8 @@ fn goes(
     alloc: Global,
     service: &mut TheService,
     way: Way,
-    script: &[Row],
-) -> Result<(), Fail> {
+    script: &[Row<'_>],
+) -> Result<(), AllocError> {
     match way {
         Way::Called => calls(rt, alloc, service, script),
         Way::Ran => runs(rt, alloc, service, script),
@@ -172,7 +169,7 @@ fn goes_until(
     alloc: Global,
     service: &mut TheService,
     way: Way,
-    script: &[Row],
+    script: &[Row<'_>],
     is_closed: bool,
 ) -> Result<(), Fail> {
     goes(rt, alloc, service, way, script)?;
@@ -187,7 +184,7 @@ fn ends(
     alloc: Global,
     settings: Settings,
     way: Way,
-    script: &[Row],
+    script: &[Row<'_>],
 ) -> Result<bool, Fail> {
     let mut service = starts::first(alloc, settings)?;
     goes(rt, alloc, &mut service, way, script)?;
@@ -195,7 +192,12 @@ fn ends(
 }
 
 /// The same in each way. They end alike.
-fn plays(rt: &impl Abort, alloc: Global, settings: Settings, script: &[Row]) -> Result<(), Fail> {
+fn plays(
+    rt: &impl Abort,
+    alloc: Global,
+    settings: Settings,
+    script: &[Row<'_>],
+) -> Result<(), Fail> {
     let closed = ends(rt, alloc, settings, Way::Called, script)?;
     equal(rt, ends(rt, alloc, settings, Way::Ran, script)?, closed);
     Ok(())

@@ -1,12 +1,10 @@
 //! How a service is asked: by its calls, or by a command of `run`.
-use super::openers::{Who, opener};
 use super::starts::id;
 use super::{Ask, Row, TheRefusal, TheReply, TheService};
 use iceoryx2_wire::{
     Command, Elements, Opener, PortCommand, PortOptions, Reply, UniqueNodeId, UniqueSystemId,
 };
 use std::alloc::{AllocError, Global};
-use std::test::Fail;
 
 /// A command; ports have no handlers.
 pub(super) type TheCommand<'a> = Command<Elements<u64, u64>, (), &'a Opener>;
@@ -33,7 +31,7 @@ fn made(node: u64, client: bool) -> Option<AtPort> {
 }
 
 /// A number is written to a loan, or sent as a copy.
-fn carried(alloc: Global, ask: Ask) -> Result<Option<AtPort>, AllocError> {
+fn carried(alloc: Global, ask: Ask<'_>) -> Result<Option<AtPort>, AllocError> {
     Ok(match ask {
         Ask::Write(node, number, value) => Some(PortCommand::Write {
             node,
@@ -55,7 +53,7 @@ fn carried(alloc: Global, ask: Ask) -> Result<Option<AtPort>, AllocError> {
 }
 
 /// A port is made, or what carries no number is asked of a port or a handle.
-fn at_port(ask: Ask) -> Option<AtPort> {
+fn at_port(ask: Ask<'_>) -> Option<AtPort> {
     Some(match ask {
         Ask::Client(node) => return made(node, true),
         Ask::Server(node) => return made(node, false),
@@ -77,25 +75,8 @@ fn at_port(ask: Ask) -> Option<AtPort> {
     })
 }
 
-/// The opener of whom this asks. One that fits stands for it where no node opens the service.
-pub(super) fn opener_of(ask: Ask) -> Result<Opener, Fail> {
-    match ask {
-        Ask::Open(_, who) => opener(who),
-        _ => opener(Who::Fits),
-    }
-}
-
-/// The openers of whom these ask, in their order.
-pub(super) fn openers_of(alloc: Global, script: &[Row]) -> Result<Vec<Opener>, Fail> {
-    let mut openers = Vec::new(alloc);
-    for (ask, _) in script {
-        openers.push(opener_of(*ask)?)?;
-    }
-    Ok(openers)
-}
-
-/// The command that asks this, of that opener.
-fn command<'a>(alloc: Global, ask: Ask, opener: &'a Opener) -> Result<TheCommand<'a>, AllocError> {
+/// The command that asks this.
+fn command(alloc: Global, ask: Ask<'_>) -> Result<TheCommand<'_>, AllocError> {
     if let Some(command) = at_port(ask) {
         return Ok(Command::Port(command));
     }
@@ -103,7 +84,7 @@ fn command<'a>(alloc: Global, ask: Ask, opener: &'a Opener) -> Result<TheCommand
         return Ok(Command::Port(command));
     }
     Ok(match ask {
-        Ask::Open(n, _) => Command::Join {
+        Ask::Open(n, opener) => Command::Join {
             id: id(n),
             asked: opener,
         },
@@ -164,14 +145,13 @@ fn servers(service: &TheService, alloc: Global) -> Result<Vec<u64>, AllocError> 
     service.list_servers(alloc)
 }
 
-/// Asks by the calls. That node opens the service, if one does.
+/// Asks by the calls.
 pub(super) fn called<'a>(
     service: &mut TheService,
     alloc: Global,
-    ask: Ask,
-    opener: &'a Opener,
+    ask: Ask<'a>,
 ) -> Result<TheReply<'a>, AllocError> {
-    Ok(match command(alloc, ask, opener)? {
+    Ok(match command(alloc, ask)? {
         Command::Join { id, asked } => opens(service, id, asked),
         Command::Port(command) => calls_port(service, alloc, command),
         Command::Leave { node } => leaves(service, node),
@@ -183,15 +163,14 @@ pub(super) fn called<'a>(
     })
 }
 
-/// The commands that ask this, of these openers.
+/// The commands that ask this.
 pub(super) fn commands<'a>(
     alloc: Global,
-    script: &[Row],
-    openers: &'a [Opener],
+    script: &[Row<'a>],
 ) -> Result<Vec<TheCommand<'a>>, AllocError> {
     let mut commands = Vec::new(alloc);
-    for ((ask, _), opener) in script.iter().zip(openers.iter()) {
-        commands.push(command(alloc, *ask, opener)?)?;
+    for (ask, _) in script {
+        commands.push(command(alloc, *ask)?)?;
     }
     Ok(commands)
 }

@@ -1,10 +1,10 @@
 //! Messages for full receivers, of ports that have a handler. Nothing overflows: a client has one
 //! active request, and one response may wait.
 use super::starts::{DEFAULTS, SETTINGS, description, id, identity};
-use super::{TheReply, are};
+use super::{TheReply, Told, are};
 use iceoryx2_wire::{
     Always, BackpressureAction, BackpressureStrategy, Command, Elements, Many, Opener, PortCommand,
-    PortOptions, Service, Settings, UniqueNodeId,
+    PortOptions, Refusal, Service, Settings, UniqueNodeId,
 };
 use std::alloc::{AllocError, Global};
 use std::process::Abort;
@@ -140,32 +140,42 @@ fn called(alloc: Global, asked: Vec<AtPort>) -> Result<Vec<TheReply<'static>>, F
 }
 
 /// A second request is told this.
-fn second_request(rt: &impl Abort, alloc: Global, full: Full, told: &str) -> Result<(), Fail> {
+fn second_request(
+    rt: &impl Abort,
+    alloc: Global,
+    full: Full,
+    told: Told<'static>,
+) -> Result<(), Fail> {
     let wanted = [
-        "Server(0)",
-        "Client(1)",
-        "Handle(2)",
-        "Done",
-        "Handle(3)",
+        Told::Server(0),
+        Told::Client(1),
+        Told::Handle(2),
+        Told::Done,
+        Told::Handle(3),
         told,
     ];
-    are(rt, alloc, &ran(alloc, requests(alloc, full)?)?, &wanted)?;
-    are(rt, alloc, &called(alloc, requests(alloc, full)?)?, &wanted)?;
+    are(rt, &ran(alloc, requests(alloc, full)?)?, &wanted);
+    are(rt, &called(alloc, requests(alloc, full)?)?, &wanted);
     Ok(())
 }
 
 /// A second response is told this.
-fn second_response(rt: &impl Abort, alloc: Global, full: Full, told: &str) -> Result<(), Fail> {
+fn second_response(
+    rt: &impl Abort,
+    alloc: Global,
+    full: Full,
+    told: Told<'static>,
+) -> Result<(), Fail> {
     let wanted = [
-        "Server(0)",
-        "Client(1)",
-        "Handle(2)",
-        "Handle(3)",
-        "Done",
+        Told::Server(0),
+        Told::Client(1),
+        Told::Handle(2),
+        Told::Handle(3),
+        Told::Done,
         told,
     ];
-    are(rt, alloc, &ran(alloc, responses(alloc, full)?)?, &wanted)?;
-    are(rt, alloc, &called(alloc, responses(alloc, full)?)?, &wanted)?;
+    are(rt, &ran(alloc, responses(alloc, full)?)?, &wanted);
+    are(rt, &called(alloc, responses(alloc, full)?)?, &wanted);
     Ok(())
 }
 
@@ -174,8 +184,8 @@ fn full_receivers(
     rt: &impl Abort,
     alloc: Global,
     full: Full,
-    request: &str,
-    response: &str,
+    request: Told<'static>,
+    response: Told<'static>,
 ) -> Result<(), Fail> {
     second_request(rt, alloc, full, request)?;
     second_response(rt, alloc, full, response)
@@ -187,7 +197,7 @@ fn a_handler_refuses_what_the_strategy_discards(rt: HostRuntime) -> Result<(), F
         BackpressureAction::DiscardDataAndFail,
         BackpressureStrategy::DiscardData,
     );
-    let refused = "Refused(UnableToDeliver)";
+    let refused = Told::Refused(Refusal::UnableToDeliver);
     full_receivers(&rt, rt.alloc(), full, refused, refused)
 }
 
@@ -197,15 +207,15 @@ fn a_handler_discards_what_the_strategy_refuses(rt: HostRuntime) -> Result<(), F
         BackpressureAction::DiscardData,
         BackpressureStrategy::RetryUntilDelivered,
     );
-    full_receivers(&rt, rt.alloc(), full, "Sent(0)", "Done")
+    full_receivers(&rt, rt.alloc(), full, Told::Sent(0), Told::Done)
 }
 
 #[test]
 fn a_handler_follows_the_strategy(rt: HostRuntime) -> Result<(), Fail> {
     let action = BackpressureAction::FollowBackpressureStrategy;
     let discards = (action, BackpressureStrategy::DiscardData);
-    full_receivers(&rt, rt.alloc(), discards, "Sent(0)", "Done")?;
+    full_receivers(&rt, rt.alloc(), discards, Told::Sent(0), Told::Done)?;
     let fails = (action, BackpressureStrategy::RetryUntilDelivered);
-    let refused = "Refused(UnableToDeliver)";
+    let refused = Told::Refused(Refusal::UnableToDeliver);
     full_receivers(&rt, rt.alloc(), fails, refused, refused)
 }

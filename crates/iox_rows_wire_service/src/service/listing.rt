@@ -1,7 +1,7 @@
 //! Ids of nodes and ports, told to a callback.
-use super::openers::Who;
+use super::openers::fit;
 use super::starts::{SETTINGS, first};
-use super::{Ask, Row, TheService, Way, goes_until};
+use super::{Ask, Row, TheService, Told, Way, goes_until};
 use crate::expected::equal;
 use iceoryx2_wire::{CallbackProgression, Settings, UniqueSystemId};
 use std::alloc::Global;
@@ -62,7 +62,7 @@ fn lists_in(
     alloc: Global,
     settings: Settings,
     way: Way,
-    script: &[Row],
+    script: &[Row<'_>],
     wanted: AllSeen,
 ) -> Result<(), Fail> {
     let mut service = first(alloc, settings)?;
@@ -78,7 +78,7 @@ fn lists(
     rt: &impl Abort,
     alloc: Global,
     settings: Settings,
-    script: &[Row],
+    script: &[Row<'_>],
     wanted: AllSeen,
 ) -> Result<(), Fail> {
     lists_in(rt, alloc, settings, Way::Called, script, wanted)?;
@@ -87,63 +87,65 @@ fn lists(
 
 #[test]
 fn ids_of_the_dead_are_told_too(rt: HostRuntime) -> Result<(), Fail> {
-    const SCRIPT: &[Row] = &[
-        (Ask::Open(20, Who::Fits), "Node(1)"),
-        (Ask::Client(1), "Client(0)"),
-        (Ask::Server(0), "Server(1)"),
-        (Ask::Client(0), "Client(2)"),
-        (Ask::Open(30, Who::Fits), "Node(2)"),
-        (Ask::Die(1), "Done"),
+    let fits = fit()?;
+    let script = [
+        (Ask::Open(20, &fits), Told::Node(1)),
+        (Ask::Client(1), Told::Client(0)),
+        (Ask::Server(0), Told::Server(1)),
+        (Ask::Client(0), Told::Client(2)),
+        (Ask::Open(30, &fits), Told::Node(2)),
+        (Ask::Die(1), Told::Done),
     ];
     // A port has the process number of its node.
-    const WANTED: AllSeen = (
+    let wanted = (
         [Some((1, 0)), Some((20, 0)), Some((30, 0))],
         [None, Some((20, 0)), Some((1, 2))],
         [None, None, Some((1, 1))],
     );
-    lists(&rt, rt.alloc(), SETTINGS, SCRIPT, WANTED)
+    lists(&rt, rt.alloc(), SETTINGS, &script, wanted)
 }
 
 #[test]
 fn ids_are_told_until_the_callback_stops(rt: HostRuntime) -> Result<(), Fail> {
-    const SCRIPT: &[Row] = &[
-        (Ask::Open(20, Who::Fits), "Node(1)"),
-        (Ask::Client(1), "Client(0)"),
-        (Ask::Client(0), "Client(1)"),
-        (Ask::Open(30, Who::Fits), "Node(2)"),
-        (Ask::Die(1), "Done"),
-        (Ask::Open(40, Who::Fits), "Node(3)"),
-        (Ask::Cleanup(1), "Done"),
-        (Ask::Open(20, Who::Fits), "Node(4)"),
-        (Ask::Client(0), "Client(2)"),
-        (Ask::Client(0), "Client(3)"),
-        (Ask::Client(0), "Client(4)"),
+    let fits = fit()?;
+    let script = [
+        (Ask::Open(20, &fits), Told::Node(1)),
+        (Ask::Client(1), Told::Client(0)),
+        (Ask::Client(0), Told::Client(1)),
+        (Ask::Open(30, &fits), Told::Node(2)),
+        (Ask::Die(1), Told::Done),
+        (Ask::Open(40, &fits), Told::Node(3)),
+        (Ask::Cleanup(1), Told::Done),
+        (Ask::Open(20, &fits), Told::Node(4)),
+        (Ask::Client(0), Told::Client(2)),
+        (Ask::Client(0), Told::Client(3)),
+        (Ask::Client(0), Told::Client(4)),
     ];
     // There are four nodes and four clients, and the third was the last that was told.
-    const WANTED: AllSeen = (
+    let wanted = (
         [Some((1, 0)), Some((30, 0)), Some((40, 0))],
         [Some((1, 1)), Some((1, 2)), Some((1, 3))],
         [None; 3],
     );
-    lists(&rt, rt.alloc(), SETTINGS, SCRIPT, WANTED)
+    lists(&rt, rt.alloc(), SETTINGS, &script, wanted)
 }
 
 #[test]
 fn servers_are_told_until_the_callback_stops(rt: HostRuntime) -> Result<(), Fail> {
-    const SCRIPT: &[Row] = &[
-        (Ask::Server(0), "Server(0)"),
-        (Ask::Server(0), "Server(1)"),
-        (Ask::Server(0), "Server(2)"),
-        (Ask::Server(0), "Server(3)"),
+    let script = [
+        (Ask::Server(0), Told::Server(0)),
+        (Ask::Server(0), Told::Server(1)),
+        (Ask::Server(0), Told::Server(2)),
+        (Ask::Server(0), Told::Server(3)),
     ];
     let many = Settings {
         servers: 4,
         ..SETTINGS
     };
-    const WANTED: AllSeen = (
+    let wanted = (
         [None, None, Some((1, 0))],
         [None; 3],
         [Some((1, 0)), Some((1, 1)), Some((1, 2))],
     );
-    lists(&rt, rt.alloc(), many, SCRIPT, WANTED)
+    lists(&rt, rt.alloc(), many, &script, wanted)
 }

@@ -6,30 +6,6 @@ use iceoryx2_wire::{
 };
 use std::test::Fail;
 
-/// Who opens a service. The types are the service's own, where nothing else is said.
-#[derive(Clone, Copy)]
-pub(super) enum Who {
-    /// It fits: it requires nothing.
-    Fits,
-    /// It requires these pairs and these keys.
-    Requires(&'static [(&'static str, &'static str)], &'static [&'static str]),
-    /// Its requests or its responses, or both, are of bytes, and it requires a pair that no service
-    /// here has.
-    OfBytes { requests: bool, responses: bool },
-}
-
-/// That opener.
-pub(super) fn opener(who: Who) -> Result<Opener, Fail> {
-    match who {
-        Who::Fits => fit(),
-        Who::Requires(pairs, keys) => requiring(pairs, keys),
-        Who::OfBytes {
-            requests,
-            responses,
-        } => of_bytes(requests, responses),
-    }
-}
-
 /// Requires a pair.
 fn require(verifier: &mut AttributeVerifier, key: &str, value: &str) -> Result<(), Fail> {
     let (key, value) = (AttributeKey::new(key)?, AttributeValue::new(value)?);
@@ -44,7 +20,7 @@ fn require_key(verifier: &mut AttributeVerifier, key: &str) -> Result<(), Fail> 
 }
 
 /// An opener with the service's own types that requires these pairs and these keys.
-fn requiring(pairs: &[(&str, &str)], keys: &[&str]) -> Result<Opener, Fail> {
+pub(super) fn requiring(pairs: &[(&str, &str)], keys: &[&str]) -> Result<Opener, Fail> {
     let types = TheService::own_types()?;
     let mut verifier = AttributeVerifier::new();
     for (key, value) in pairs {
@@ -81,7 +57,7 @@ pub(super) fn types(requests: bool, responses: bool) -> Result<MessageTypes, Fai
 
 /// An opener whose requests or responses, or both, are of bytes, and that requires a pair that no
 /// service here has.
-fn of_bytes(requests: bool, responses: bool) -> Result<Opener, Fail> {
+pub(super) fn of_bytes(requests: bool, responses: bool) -> Result<Opener, Fail> {
     let Opener { types: _, verifier } = requiring(&[("a", "9")], &[])?;
     Ok(Opener {
         types: types(requests, responses)?,

@@ -1,100 +1,108 @@
 //! Nodes that open a service, and those that may not.
-use super::openers::Who;
+use super::openers::{fit, of_bytes, requiring};
 use super::starts::{SETTINGS, with_nodes};
-use super::{Ask, Row, plays};
+use super::{Ask, Told, plays};
+use iceoryx2_wire::{AttributeKey, AttributeValue, AttributeVerificationError, Refusal};
 use std::test::Fail;
 
-/// Who requires a pair that no service here has.
-pub(super) const UNFIT: Who = Who::Requires(&[("a", "9")], &[]);
+/// A key and a value.
+pub(super) fn pair(key: &str, value: &str) -> Result<(AttributeKey, AttributeValue), Fail> {
+    Ok((AttributeKey::new(key)?, AttributeValue::new(value)?))
+}
 
-/// How that is refused, where nothing else is.
-pub(super) const LACKS_A_9: &str =
-    r#"Refused(IncompatibleAttributes(IncompatibleAttribute("a", "9")))"#;
+/// The refusal that names this pair.
+pub(super) fn pair_missing<'a>(key: &'a AttributeKey, value: &'a AttributeValue) -> Told<'a> {
+    let cause = AttributeVerificationError::IncompatibleAttribute(key, value);
+    Told::Refused(Refusal::IncompatibleAttributes(cause))
+}
 
-/// Who requires it as well, with requests of bytes, with responses of bytes, and with both.
-pub(super) const REQUESTS_OF_BYTES: Who = Who::OfBytes {
-    requests: true,
-    responses: false,
-};
-
-pub(super) const RESPONSES_OF_BYTES: Who = Who::OfBytes {
-    requests: false,
-    responses: true,
-};
-
-pub(super) const BOTH_OF_BYTES: Who = Who::OfBytes {
-    requests: true,
-    responses: true,
-};
+/// The refusal that names this key.
+fn key_missing(key: &AttributeKey) -> Told<'_> {
+    let cause = AttributeVerificationError::NonExistingKey(key);
+    Told::Refused(Refusal::IncompatibleAttributes(cause))
+}
 
 #[test]
 fn the_least_missing_pair_is_told(rt: HostRuntime) -> Result<(), Fail> {
-    const OPENER: Who = Who::Requires(&[("b", "3"), ("a", "2")], &["c"]);
-    const SCRIPT: &[Row] = &[
-        (
-            Ask::Open(2, OPENER),
-            r#"Refused(IncompatibleAttributes(IncompatibleAttribute("a", "2")))"#,
-        ),
-        (Ask::Nodes, "Listed([0])"),
+    let opener = requiring(&[("b", "3"), ("a", "2")], &["c"])?;
+    let (a, two) = pair("a", "2")?;
+    let script = [
+        (Ask::Open(2, &opener), pair_missing(&a, &two)),
+        (Ask::Nodes, Told::Listed(&[0])),
     ];
-    plays(&rt, rt.alloc(), SETTINGS, SCRIPT)
+    plays(&rt, rt.alloc(), SETTINGS, &script)
 }
 
 #[test]
 fn a_missing_key_is_told_where_no_pair_is(rt: HostRuntime) -> Result<(), Fail> {
-    const OPENER: Who = Who::Requires(&[("b", "2")], &["a", "d", "c"]);
-    const FITS: Who = Who::Requires(&[("b", "2"), ("a", "1")], &["b"]);
-    const SCRIPT: &[Row] = &[
-        (
-            Ask::Open(2, OPENER),
-            r#"Refused(IncompatibleAttributes(NonExistingKey("d")))"#,
-        ),
-        (Ask::Nodes, "Listed([0])"),
-        (Ask::Open(2, FITS), "Node(1)"),
-        (Ask::Nodes, "Listed([0, 1])"),
+    let opener = requiring(&[("b", "2")], &["a", "d", "c"])?;
+    let fits = requiring(&[("b", "2"), ("a", "1")], &["b"])?;
+    let d = AttributeKey::new("d")?;
+    let script = [
+        (Ask::Open(2, &opener), key_missing(&d)),
+        (Ask::Nodes, Told::Listed(&[0])),
+        (Ask::Open(2, &fits), Told::Node(1)),
+        (Ask::Nodes, Told::Listed(&[0, 1])),
     ];
-    plays(&rt, rt.alloc(), SETTINGS, SCRIPT)
+    plays(&rt, rt.alloc(), SETTINGS, &script)
 }
 
 #[test]
 fn the_first_test_that_fails_is_told(rt: HostRuntime) -> Result<(), Fail> {
-    const SCRIPT: &[Row] = &[
+    let (fits, unfit) = (fit()?, of_bytes(false, false)?);
+    let (both, responses) = (of_bytes(true, true)?, of_bytes(false, true)?);
+    let (a, nine) = pair("a", "9")?;
+    let script = [
         // At the limit of one node, each of these fails a later test as well.
-        (Ask::Open(0, BOTH_OF_BYTES), "Refused(InvalidNodeId)"),
-        (Ask::Open(1, BOTH_OF_BYTES), "Refused(NodeIdInUse)"),
+        (Ask::Open(0, &both), Told::Refused(Refusal::InvalidNodeId)),
+        (Ask::Open(1, &both), Told::Refused(Refusal::NodeIdInUse)),
         (
-            Ask::Open(2, BOTH_OF_BYTES),
-            "Refused(IncompatibleRequestTypes)",
+            Ask::Open(2, &both),
+            Told::Refused(Refusal::IncompatibleRequestTypes),
         ),
         (
-            Ask::Open(2, RESPONSES_OF_BYTES),
-            "Refused(IncompatibleResponseTypes)",
+            Ask::Open(2, &responses),
+            Told::Refused(Refusal::IncompatibleResponseTypes),
         ),
-        (Ask::Open(2, UNFIT), LACKS_A_9),
-        (Ask::Open(2, Who::Fits), "Refused(ExceedsMaxNumberOfNodes)"),
-        (Ask::Leave(0), "Done"),
-        (Ask::Open(0, BOTH_OF_BYTES), "Refused(MarkedForDestruction)"),
-        (Ask::Open(2, Who::Fits), "Refused(MarkedForDestruction)"),
+        (Ask::Open(2, &unfit), pair_missing(&a, &nine)),
+        (
+            Ask::Open(2, &fits),
+            Told::Refused(Refusal::ExceedsMaxNumberOfNodes),
+        ),
+        (Ask::Leave(0), Told::Done),
+        (
+            Ask::Open(0, &both),
+            Told::Refused(Refusal::MarkedForDestruction),
+        ),
+        (
+            Ask::Open(2, &fits),
+            Told::Refused(Refusal::MarkedForDestruction),
+        ),
     ];
-    plays(&rt, rt.alloc(), with_nodes(1), SCRIPT)
+    plays(&rt, rt.alloc(), with_nodes(1), &script)
 }
 
 #[test]
 fn a_refused_open_leaves_nothing_behind(rt: HostRuntime) -> Result<(), Fail> {
-    const SCRIPT: &[Row] = &[
-        (Ask::Open(2, UNFIT), LACKS_A_9),
+    let (fits, unfit, requests) = (fit()?, of_bytes(false, false)?, of_bytes(true, false)?);
+    let (a, nine) = pair("a", "9")?;
+    let script = [
+        (Ask::Open(2, &unfit), pair_missing(&a, &nine)),
         (
-            Ask::Open(2, REQUESTS_OF_BYTES),
-            "Refused(IncompatibleRequestTypes)",
+            Ask::Open(2, &requests),
+            Told::Refused(Refusal::IncompatibleRequestTypes),
         ),
-        (Ask::Nodes, "Listed([0])"),
-        (Ask::Client(1), "Refused(UnknownNode)"),
+        (Ask::Nodes, Told::Listed(&[0])),
+        (Ask::Client(1), Told::Refused(Refusal::UnknownNode)),
         // The number, the id and the place are still there.
-        (Ask::Open(2, Who::Fits), "Node(1)"),
-        (Ask::Open(3, Who::Fits), "Refused(ExceedsMaxNumberOfNodes)"),
-        (Ask::Leave(1), "Done"),
-        (Ask::Open(3, Who::Fits), "Node(2)"),
-        (Ask::Nodes, "Listed([0, 2])"),
+        (Ask::Open(2, &fits), Told::Node(1)),
+        (
+            Ask::Open(3, &fits),
+            Told::Refused(Refusal::ExceedsMaxNumberOfNodes),
+        ),
+        (Ask::Leave(1), Told::Done),
+        (Ask::Open(3, &fits), Told::Node(2)),
+        (Ask::Nodes, Told::Listed(&[0, 2])),
     ];
-    plays(&rt, rt.alloc(), with_nodes(2), SCRIPT)
+    plays(&rt, rt.alloc(), with_nodes(2), &script)
 }

@@ -1,10 +1,10 @@
 //! Requests to full servers, of a client whose handler is a type of the caller and answers by the
 //! server.
 use super::starts::{DEFAULTS, SETTINGS, description, id, identity};
-use super::{TheReply, tells};
+use super::{TheReply, Told, tells};
 use iceoryx2_wire::{
     Backpressure, BackpressureAction, BackpressureInfo, BackpressureStrategy, Elements, Many,
-    PortCommand, PortOptions, Service, Settings, UniqueNodeId, Words,
+    PortCommand, PortOptions, Refusal, Service, Settings, UniqueNodeId, Words,
 };
 use std::alloc::{AllocError, Global};
 use std::process::Abort;
@@ -154,9 +154,9 @@ fn last_reply(alloc: Global, asked: Vec<AtPort>) -> Result<TheReply<'static>, Fa
 }
 
 /// Ends the test where another reply comes of a handler that fails at the server of that number.
-fn is_told(rt: &impl Abort, alloc: Global, server: u64, wanted: &str) -> Result<(), Fail> {
+fn is_told(rt: &impl Abort, alloc: Global, server: u64, wanted: Told<'_>) -> Result<(), Fail> {
     let reply = last_reply(alloc, asked(alloc, server)?)?;
-    tells(rt, alloc, &reply, wanted)?;
+    tells(rt, &reply, &wanted);
     Ok(())
 }
 
@@ -164,10 +164,10 @@ fn is_told(rt: &impl Abort, alloc: Global, server: u64, wanted: &str) -> Result<
 fn a_handler_that_fails_at_the_second_of_two_full_servers_refuses(
     rt: HostRuntime,
 ) -> Result<(), Fail> {
-    is_told(&rt, rt.alloc(), 1, "Refused(UnableToDeliver)")
+    is_told(&rt, rt.alloc(), 1, Told::Refused(Refusal::UnableToDeliver))
 }
 
 #[test]
 fn a_handler_that_fails_at_another_server_passes_over_both(rt: HostRuntime) -> Result<(), Fail> {
-    is_told(&rt, rt.alloc(), 2, "Sent(0)")
+    is_told(&rt, rt.alloc(), 2, Told::Sent(0))
 }

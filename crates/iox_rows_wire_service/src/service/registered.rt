@@ -1,11 +1,11 @@
 //! Which nodes are registered with a service.
 use super::asking::nodes;
-use super::openers::Who;
-use super::opening::{BOTH_OF_BYTES, LACKS_A_9, RESPONSES_OF_BYTES, UNFIT};
+use super::openers::{fit, of_bytes};
+use super::opening::{pair, pair_missing};
 use super::starts::{first, with_nodes};
-use super::{Ask, Row, TheService, Way, goes};
+use super::{Ask, Row, TheService, Told, Way, goes};
 use crate::expected::equal;
-use iceoryx2_wire::CallbackProgression;
+use iceoryx2_wire::{CallbackProgression, Refusal};
 use std::alloc::{AllocError, Global};
 use std::process::Abort;
 use std::slice::from_ref;
@@ -50,7 +50,7 @@ fn are_registered(rt: &impl Abort, service: &TheService, wanted: &[u32]) {
 }
 
 /// What is asked and told, and who is registered then.
-type Registers = (Row, &'static [u32]);
+type Registers<'a> = (Row<'a>, &'a [u32]);
 
 /// Asks a service in this way one after another. Each answer is the wanted one, and then these are
 /// registered.
@@ -59,8 +59,8 @@ fn goes_on(
     alloc: Global,
     service: &mut TheService,
     way: Way,
-    script: &[Registers],
-) -> Result<(), Fail> {
+    script: &[Registers<'_>],
+) -> Result<(), AllocError> {
     are_registered(rt, service, &[1]);
     for (row, wanted) in script {
         goes(rt, alloc, service, way, from_ref(row))?;
@@ -75,83 +75,86 @@ fn plays_in(
     alloc: Global,
     nodes: u64,
     way: Way,
-    script: &[Registers],
+    script: &[Registers<'_>],
 ) -> Result<(), Fail> {
     let mut service = first(alloc, with_nodes(nodes))?;
-    goes_on(rt, alloc, &mut service, way, script)
+    goes_on(rt, alloc, &mut service, way, script)?;
+    Ok(())
 }
 
 /// The same in each way.
-fn plays(rt: &impl Abort, alloc: Global, nodes: u64, script: &[Registers]) -> Result<(), Fail> {
+fn plays(rt: &impl Abort, alloc: Global, nodes: u64, script: &[Registers<'_>]) -> Result<(), Fail> {
     plays_in(rt, alloc, nodes, Way::Called, script)?;
     plays_in(rt, alloc, nodes, Way::Ran, script)
 }
 
-/// How refusals are shown.
-const OF_REQUESTS: &str = "Refused(IncompatibleRequestTypes)";
-
-const OF_RESPONSES: &str = "Refused(IncompatibleResponseTypes)";
-
-const FULL: &str = "Refused(ExceedsMaxNumberOfNodes)";
-
-const CLOSED: &str = "Refused(MarkedForDestruction)";
-
-const INVALID: &str = "Refused(InvalidNodeId)";
-
-const USED: &str = "Refused(NodeIdInUse)";
-
 #[test]
 fn a_refused_open_registers_nobody(rt: HostRuntime) -> Result<(), Fail> {
-    const SCRIPT: &[Registers] = &[
-        ((Ask::Open(0, Who::Fits), INVALID), &[1]),
-        ((Ask::Open(1, Who::Fits), USED), &[1]),
-        ((Ask::Open(2, BOTH_OF_BYTES), OF_REQUESTS), &[1]),
-        ((Ask::Open(2, RESPONSES_OF_BYTES), OF_RESPONSES), &[1]),
-        ((Ask::Open(2, UNFIT), LACKS_A_9), &[1]),
-        ((Ask::Open(2, Who::Fits), "Node(1)"), &[1, 2]),
-        ((Ask::Open(3, Who::Fits), FULL), &[1, 2]),
-        ((Ask::Leave(0), "Done"), &[2]),
-        ((Ask::Leave(1), "Done"), &[]),
-        ((Ask::Open(3, Who::Fits), CLOSED), &[]),
+    let (fits, unfit) = (fit()?, of_bytes(false, false)?);
+    let (both, responses) = (of_bytes(true, true)?, of_bytes(false, true)?);
+    let (a, nine) = pair("a", "9")?;
+    let missing = pair_missing(&a, &nine);
+    let requests = Told::Refused(Refusal::IncompatibleRequestTypes);
+    let other = Told::Refused(Refusal::IncompatibleResponseTypes);
+    let full = Told::Refused(Refusal::ExceedsMaxNumberOfNodes);
+    let closed = Told::Refused(Refusal::MarkedForDestruction);
+    let invalid = Told::Refused(Refusal::InvalidNodeId);
+    let used = Told::Refused(Refusal::NodeIdInUse);
+    let script: [Registers<'_>; 10] = [
+        ((Ask::Open(0, &fits), invalid), &[1]),
+        ((Ask::Open(1, &fits), used), &[1]),
+        ((Ask::Open(2, &both), requests), &[1]),
+        ((Ask::Open(2, &responses), other), &[1]),
+        ((Ask::Open(2, &unfit), missing), &[1]),
+        ((Ask::Open(2, &fits), Told::Node(1)), &[1, 2]),
+        ((Ask::Open(3, &fits), full), &[1, 2]),
+        ((Ask::Leave(0), Told::Done), &[2]),
+        ((Ask::Leave(1), Told::Done), &[]),
+        ((Ask::Open(3, &fits), closed), &[]),
     ];
-    plays(&rt, rt.alloc(), 2, SCRIPT)
+    plays(&rt, rt.alloc(), 2, &script)
 }
 
 #[test]
 fn who_leaves_or_is_cleaned_up_is_deregistered(rt: HostRuntime) -> Result<(), Fail> {
-    const SCRIPT: &[Registers] = &[
-        ((Ask::Open(2, Who::Fits), "Node(1)"), &[1, 2]),
-        ((Ask::Open(3, Who::Fits), "Node(2)"), &[1, 2, 3]),
-        ((Ask::Open(4, Who::Fits), "Node(3)"), &[1, 2, 3, 4]),
-        ((Ask::Leave(1), "Done"), &[1, 3, 4]),
+    let fits = fit()?;
+    let script: [Registers<'_>; 8] = [
+        ((Ask::Open(2, &fits), Told::Node(1)), &[1, 2]),
+        ((Ask::Open(3, &fits), Told::Node(2)), &[1, 2, 3]),
+        ((Ask::Open(4, &fits), Told::Node(3)), &[1, 2, 3, 4]),
+        ((Ask::Leave(1), Told::Done), &[1, 3, 4]),
         // The dead are registered until their cleanup.
-        ((Ask::Die(3), "Done"), &[1, 3, 4]),
-        ((Ask::Cleanup(3), "Done"), &[1, 3]),
+        ((Ask::Die(3), Told::Done), &[1, 3, 4]),
+        ((Ask::Cleanup(3), Told::Done), &[1, 3]),
         // An id that is free again is registered again.
-        ((Ask::Open(4, Who::Fits), "Node(4)"), &[1, 3, 4]),
-        ((Ask::Leave(4), "Done"), &[1, 3]),
+        ((Ask::Open(4, &fits), Told::Node(4)), &[1, 3, 4]),
+        ((Ask::Leave(4), Told::Done), &[1, 3]),
     ];
-    plays(&rt, rt.alloc(), 20, SCRIPT)
+    plays(&rt, rt.alloc(), 20, &script)
 }
 
 #[test]
 fn ids_that_differ_in_one_half_are_deregistered_alone(rt: HostRuntime) -> Result<(), Fail> {
-    const SCRIPT: &[Registers] = &[
-        ((Ask::Open(2, Who::Fits), "Node(1)"), &[1, 2]),
-        ((Ask::Die(1), "Done"), &[1, 2]),
-        ((Ask::Cleanup(1), "Done"), &[1]),
+    let fits = fit()?;
+    let script: [Registers<'_>; 3] = [
+        ((Ask::Open(2, &fits), Told::Node(1)), &[1, 2]),
+        ((Ask::Die(1), Told::Done), &[1, 2]),
+        ((Ask::Cleanup(1), Told::Done), &[1]),
     ];
-    plays(&rt, rt.alloc(), 20, SCRIPT)
+    plays(&rt, rt.alloc(), 20, &script)
 }
 
 #[test]
 fn the_last_that_goes_locks_the_register(rt: HostRuntime) -> Result<(), Fail> {
     // A limit of no nodes is one of a single node.
-    const SCRIPT: &[Registers] = &[
-        ((Ask::Open(2, Who::Fits), FULL), &[1]),
-        ((Ask::Die(0), "Done"), &[1]),
-        ((Ask::Cleanup(0), "Done"), &[]),
-        ((Ask::Open(2, Who::Fits), CLOSED), &[]),
+    let fits = fit()?;
+    let full = Told::Refused(Refusal::ExceedsMaxNumberOfNodes);
+    let closed = Told::Refused(Refusal::MarkedForDestruction);
+    let script: [Registers<'_>; 4] = [
+        ((Ask::Open(2, &fits), full), &[1]),
+        ((Ask::Die(0), Told::Done), &[1]),
+        ((Ask::Cleanup(0), Told::Done), &[]),
+        ((Ask::Open(2, &fits), closed), &[]),
     ];
-    plays(&rt, rt.alloc(), 0, SCRIPT)
+    plays(&rt, rt.alloc(), 0, &script)
 }

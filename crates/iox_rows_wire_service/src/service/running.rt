@@ -2,7 +2,7 @@
 use super::asking::TheCommand;
 use super::openers::fit;
 use super::starts::{SETTINGS, first, id};
-use super::{TheReply, TheService, are, tells};
+use super::{TheReply, TheService, Told, are, tells};
 use iceoryx2_wire::{Command, Opener, Reply};
 use std::alloc::{AllocError, Global};
 use std::process::Abort;
@@ -63,13 +63,13 @@ fn replies_stand_behind_those_of_earlier_runs(rt: HostRuntime) -> Result<(), Fai
     let mut service = first(rt.alloc(), SETTINGS)?;
     let replies = three(rt.alloc(), &mut service, &fits)?;
     let told = [
-        "Nothing",
-        "Node(1)",
-        "Listed([0, 1])",
-        "Done",
-        "Listed([1])",
+        Told::Nothing,
+        Told::Node(1),
+        Told::Listed(&[0, 1]),
+        Told::Done,
+        Told::Listed(&[1]),
     ];
-    are(&rt, rt.alloc(), &replies, &told)?;
+    are(&rt, &replies, &told);
     Ok(())
 }
 
@@ -79,10 +79,11 @@ fn tries(
     alloc: Global,
     service: &mut TheService,
     command: TheCommand<'_>,
-    wanted: &str,
+    wanted: Told<'_>,
 ) -> Result<(), AllocError> {
     let reply = service.try_serve(alloc, command)?;
-    tells(rt, alloc, &reply, wanted)
+    tells(rt, &reply, &wanted);
+    Ok(())
 }
 
 #[test]
@@ -93,8 +94,8 @@ fn a_command_is_answered_where_memory_is_there(rt: HostRuntime) -> Result<(), Fa
         id: id(2),
         asked: &fits,
     };
-    tries(&rt, alloc, &mut service, opens, "Node(1)")?;
+    tries(&rt, alloc, &mut service, opens, Told::Node(1))?;
     let lists = Command::ListNodes;
-    tries(&rt, alloc, &mut service, lists, "Listed([0, 1])")?;
+    tries(&rt, alloc, &mut service, lists, Told::Listed(&[0, 1]))?;
     Ok(())
 }
