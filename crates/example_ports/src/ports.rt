@@ -15,8 +15,10 @@ use std::alloc::{AllocError, Global};
 /// Requests of one number, responses of any number of bytes, and no user headers.
 pub type Bytes = Hub<One<u64>, (), Many<u8>, ()>;
 
+/// A client of this service.
 pub type Asker = Client<One<u64>, (), Many<u8>, ()>;
 
+/// A server of this service.
 pub type Answerer = Server<One<u64>, (), Many<u8>, ()>;
 
 type Pending = PendingResponse<One<u64>, (), Many<u8>, ()>;

@@ -83,8 +83,8 @@ fn exchange(alloc: Global, commands: &mut Vec<TheCommand<'_>>) -> Result<(), All
     Ok(())
 }
 
-/// Node 1 lives, so it is not cleaned up, and has a client, so it does not leave. Once it is dead it
-/// asks nothing more, and once it is cleaned up it is not known.
+/// Node 1 lives, so it is not cleaned up, and has a client, so it does not leave. Once it is dead
+/// it asks nothing more, and once it is cleaned up it is not known.
 fn death(commands: &mut Vec<TheCommand<'_>>) -> Result<(), AllocError> {
     commands.push(Command::Cleanup { node: 1 })?;
     commands.push(Command::Leave { node: 1 })?;

@@ -122,8 +122,8 @@ impl<Q: Payload, QH: Words, P: Payload, PH: Words, H: Backpressure> PortFactoryC
         PortFactoryClient { options, ..self }
     }
 
-    /// Lets that handler say what comes of a request for a full server, in place of the strategy. It
-    /// is asked about each full server by itself.
+    /// Lets that handler say what comes of a request for a full server, in place of the strategy.
+    /// It is asked about each full server by itself.
     pub fn set_backpressure_handler(self, handler: H) -> Self
         ensures { result ≡ record self { handler = Some handler } }
     {

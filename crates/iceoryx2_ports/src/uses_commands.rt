@@ -15,8 +15,8 @@ use std::convert::Infallible;
 /// What a hub of numbers is asked by number, whatever its handlers are.
 type Command<H> = PortCommand<Elements<u64, u64>, H>;
 
-/// Whatever the number names, a command is one whole call of the machine. It is not refused for want
-/// of memory.
+/// Whatever the number names, a command is one whole call of the machine. It is not refused for
+/// want of memory.
 pub fn sends_by_number<H: Backpressure>(
     hub: &mut Hub<One<u64>, (), One<u64>, (), H>,
     alloc: Global,

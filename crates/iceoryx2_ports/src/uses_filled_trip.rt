@@ -112,8 +112,8 @@ pub fn serves_1234(
     (value, request)
 }
 
-/// The server of an open request loans a response, fills it with 1234, and writes 456 over that. The
-/// response is for the request, which is open still, and the client, which was idle, still is.
+/// The server of an open request loans a response, fills it with 1234, and writes 456 over that.
+/// The response is for the request, which is open still, and the client, which was idle, still is.
 pub fn fills_456_over_1234(
     request: &ActiveRequest<One<u64>, (), One<u64>, ()>,
     pending: &PendingResponse<One<u64>, (), One<u64>, ()>,
@@ -145,8 +145,8 @@ pub fn fills_456_over_1234(
     Some(loan.write_payload(hub, 456))
 }
 
-/// The server of an open request fills a response with 1234, writes 456 over that, and sends it. The
-/// client, which was idle, can receive just 456.
+/// The server of an open request fills a response with 1234, writes 456 over that, and sends it.
+/// The client, which was idle, can receive just 456.
 pub fn answers_456_over_1234(
     request: &ActiveRequest<One<u64>, (), One<u64>, ()>,
     server: &Server<One<u64>, (), One<u64>, ()>,

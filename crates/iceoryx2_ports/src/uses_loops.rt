@@ -36,8 +36,8 @@ pub fn asks_many(
     sent
 }
 
-/// A server answers a request with a copy, if that goes well. For a client for which nothing but that
-/// value waited, nothing else waits then.
+/// A server answers a request with a copy, if that goes well. For a client for which nothing but
+/// that value waited, nothing else waits then.
 pub fn answers_once(
     request: &ActiveRequest<One<u64>, (), One<u64>, ()>,
     pending: &PendingResponse<One<u64>, (), One<u64>, ()>,

@@ -131,8 +131,8 @@ pub fn answers_with_numbers(
     Err(SendError::from(LoanError::CallsSpent))
 }
 
-/// A client loans three elements, each with the default, puts 1, 3 and 5 in place of these, and asks
-/// with them. For a server for which nothing waited, nothing else waits then.
+/// A client loans three elements, each with the default, puts 1, 3 and 5 in place of these, and
+/// asks with them. For a server for which nothing waited, nothing else waits then.
 pub fn puts_1_3_5_and_asks(
     client: &Client<Many<u64>, (), One<u64>, ()>,
     server: &Server<Many<u64>, (), One<u64>, ()>,

@@ -33,8 +33,8 @@ pub fn answers_thrice(
     request.send_copy(hub, 6)
 }
 
-/// A server answers as long as its client wants more, at most five times. It says whether the client
-/// wants no more: only where the machine tells a hint.
+/// A server answers as long as its client wants more, at most five times. It says whether the
+/// client wants no more: only where the machine tells a hint.
 pub fn answers_until_told(
     request: &ActiveRequest<One<u64>, (), One<u64>, ()>,
     hub: &mut Hub<One<u64>, (), One<u64>, ()>,
@@ -137,8 +137,8 @@ pub fn puts_456_and_answers(
     false
 }
 
-/// A client asks with what it loaned, and says to how many servers that went: as many as the machine
-/// tells.
+/// A client asks with what it loaned, and says to how many servers that went: as many as the
+/// machine tells.
 pub fn counts_its_servers(
     request: RequestMut<One<u64>, (), One<u64>, ()>,
     hub: &mut Hub<One<u64>, (), One<u64>, ()>,

@@ -1,5 +1,5 @@
-//! The laws of the machine as laws about any service: each takes `service.nodes()`. And what the words
-//! by which a service shows a handler say.
+//! The laws of the machine as laws about any service: each takes `service.nodes()`. And what the
+//! words by which a service shows a handler say.
 pub use iox_service_laws::{
     cleanups_are_releases, closes_with_the_last_node, keeps_nothing_for_the_gone, limits_hold,
     listings_are_exact, loans_succeed, messages_are_as_delivered, messages_come_at_most_once,

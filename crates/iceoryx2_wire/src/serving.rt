@@ -51,8 +51,8 @@ impl<Q: Payload, QH: Words, P: Payload, PH: Words, H: Backpressure> Service<Q, Q
     /// memory. It fails only where there is none for a join, for a port, for what is read, for a
     /// message that must grow or for a listing, and changes nothing then.
     ///
-    /// For a port that is too large, a service never has memory. Nor has it for a join once 2^64 - 1
-    /// nodes joined.
+    /// For a port that is too large, a service never has memory. Nor has it for a join once 2^64 -
+    /// 1 nodes joined.
     pub fn try_serve<'a>(
         &mut self,
         alloc: Global,

@@ -25,6 +25,7 @@ there FollowBackpressureStrategy = (omega arith, refl)
 there DiscardData = (omega arith, refl)
 there DiscardDataAndFail = (omega arith, refl)
 
+-- the number of a handler's answer is below 3, and the handler is read back from it
 always_there : (h : Always) → ⊤ → (number_of h.action < 3) × (always_by (number_of h.action) ≡ h)
 always_there h e = ((there h.action).0, λ i. record { action = (there h.action).1 i })
 

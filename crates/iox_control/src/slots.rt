@@ -60,8 +60,8 @@ impl Control {
 
     // ---- handles
 
-    /// Whether that port has a handle. Where the handles of a port go one after another, and this is
-    /// asked after each, it looks at each place of the table a few times in all.
+    /// Whether that port has a handle. Where the handles of a port go one after another, and this
+    /// is asked after each, it looks at each place of the table a few times in all.
     #[inline]
     pub fn has_handles(&mut self, port: u64) -> bool
         ensures told { result ≡ list_any (λ h. h.port == port) self.old.tables.handles }
@@ -70,9 +70,9 @@ impl Control {
         self.handles.has_any(port)
     }
 
-    /// The node's handle of the least number, by that number and where it is looked for first. Where
-    /// a node's handles go one after another, and this is asked after each, it looks at each place
-    /// of the table a few times in all. It takes no memory.
+    /// The node's handle of the least number, by that number and where it is looked for first.
+    /// Where a node's handles go one after another, and this is asked after each, it looks at each
+    /// place of the table a few times in all. It takes no memory.
     #[inline]
     pub fn first_handle(&mut self, node: u64) -> Option<Numbered>
         ensures first { option_map (λ v. v.number) result ≡ least

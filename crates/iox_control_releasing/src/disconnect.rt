@@ -63,8 +63,8 @@ pub fn drop_pool(control: &mut Control, place: usize)
     }
 }
 
-/// Each pool goes whose port is gone and of which nobody has a message. It is rare that ports go, so
-/// it is a call of its own.
+/// Each pool goes whose port is gone and of which nobody has a message. It is rare that ports go,
+/// so it is a call of its own.
 #[cold]
 #[inline(never)]
 fn drop_left_pools(control: &mut Control)

@@ -9,8 +9,8 @@ use crate::numbered::{Numbered, first_there, list_in};
 use std::alloc::{AllocError, Global};
 use std::marker::Model;
 
-/// The handles that a node had when they were listed, by ascending numbers. Only `new` and `reserve`
-/// take memory.
+/// The handles that a node had when they were listed, by ascending numbers. Only `new` and
+/// `reserve` take memory.
 #[derive(Drop)]
 pub struct NodeList {
     list: Vec<Numbered>,

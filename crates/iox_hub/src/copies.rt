@@ -11,8 +11,8 @@ use iox_control_request_copies::Place;
 use iox_store::{Spare, Store};
 use iox_words::Words;
 
-/// Lends the message in that slot for these elements, and fills it with copies of them. Where it has
-/// no room for them, it takes the room that is given.
+/// Lends the message in that slot for these elements, and fills it with copies of them. Where it
+/// has no room for them, it takes the room that is given.
 fn copy_in<E: Words, H: Words>(
     store: &mut Store<E, H>,
     slot: usize,
@@ -31,8 +31,8 @@ fn copy_in<E: Words, H: Words>(
     store.write_from_slice(slot, values);
 }
 
-/// Copies these elements into the request in that place. Where it has no room for them, it takes the
-/// room that is given.
+/// Copies these elements into the request in that place. Where it has no room for them, it takes
+/// the room that is given.
 pub(crate) fn copy_request_in<QE: Words, QH: Words, PE: Words, PH: Words>(
     words: &mut Vec<Option<PoolWords<QE, QH, PE, PH>>>,
     place: Place,

@@ -1,5 +1,5 @@
-//! Copies: loan, write and send in one. Where a receiver is full, the port's handler says what comes
-//! of a copy, and where it has none, its strategy.
+//! Copies: loan, write and send in one. Where a receiver is full, the port's handler says what
+//! comes of a copy, and where it has none, its strategy.
 ghost use Rattle.std.specs.Prelude.{◌≡◌, ◌≢◌, Some, flat_map, length};
 ghost use Rattle.iox_model.specs.declared.call.Call.TheVariants.{SendCopy};
 ghost use Rattle.iox_model.specs.declared.kind.Kind.TheVariants.{ActiveRequest, Client};

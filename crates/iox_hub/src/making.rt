@@ -101,8 +101,8 @@ impl<Q: Payload, QH: Words, P: Payload, PH: Words, H: Backpressure> Hub<Q, QH, P
         asked_of(self.control.settings(), self.form(role), role, options)
     }
 
-    /// The most messages that a port of that role needs, if a `usize` counts them: how many its pool
-    /// has where nothing is chosen.
+    /// The most messages that a port of that role needs, if a `usize` counts them: how many its
+    /// pool has where nothing is chosen.
     pub fn worst_pool(&self, role: Role, options: Options) -> Option<usize>
         ensures { (x : Given) → result
             ≡ as_usize (worst_pool (limits_of (given_by x self.now) self.now.control.tables) role

@@ -29,8 +29,8 @@ pub fn borrows_hold<Q: Payload, QH: Words, P: Payload, PH: Words, H: Backpressur
     hub.is_in_order();
 }
 
-/// A loan within its limits is made, or finds no memory, where no pool of its node was reduced. Then
-/// no call of the node runs out of messages.
+/// A loan within its limits is made, or finds no memory, where no pool of its node was reduced.
+/// Then no call of the node runs out of messages.
 pub fn loans_succeed<Q: Payload, QH: Words, P: Payload, PH: Words, H: Backpressure>(
     hub: &Hub<Q, QH, P, PH, H>,
 )
@@ -59,8 +59,8 @@ pub fn few_are_kept_of_the_gone<Q: Payload, QH: Words, P: Payload, PH: Words, H:
     hub.is_in_order();
 }
 
-/// Where the service keeps nothing of ports that are gone, each lane is between connected ports, and
-/// each handle is of a connected port.
+/// Where the service keeps nothing of ports that are gone, each lane is between connected ports,
+/// and each handle is of a connected port.
 pub fn nothing_is_kept_of_the_gone<Q: Payload, QH: Words, P: Payload, PH: Words, H: Backpressure>(
     hub: &Hub<Q, QH, P, PH, H>,
 )

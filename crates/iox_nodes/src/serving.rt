@@ -81,8 +81,8 @@ impl<Q: Payload, QH: Words, P: Payload, PH: Words, H: Backpressure> Service<Q, Q
     }
 
     /// Answers a command. It fails only for want of memory for a listing, and changes nothing then.
-    /// Want of memory for a join, for a port, for a read and for a message that must grow is a reply,
-    /// as the machine has it; no other command is told so.
+    /// Want of memory for a join, for a port, for a read and for a message that must grow is a
+    /// reply, as the machine has it; no other command is told so.
     pub fn serve<C: Copy>(
         &mut self,
         alloc: Global,

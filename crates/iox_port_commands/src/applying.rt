@@ -85,9 +85,9 @@ fn dispatch<Q: Payload, QH: Words, P: Payload, PH: Words, H: Backpressure, C>(
 /// by the first test that fails, as the machine has it. A node is whoever the command says: which
 /// nodes there are is the service's matter.
 ///
-/// It fails only where there is no memory for a port, for what is read, or for a message that has to
-/// grow, and changes nothing then. Its replies are those of the machine with memory. For a port that
-/// is too large, a hub never has memory.
+/// It fails only where there is no memory for a port, for what is read, or for a message that has
+/// to grow, and changes nothing then. Its replies are those of the machine with memory. For a port
+/// that is too large, a hub never has memory.
 pub fn try_apply<Q: Payload, QH: Words, P: Payload, PH: Words, H: Backpressure, C>(
     hub: &mut Hub<Q, QH, P, PH, H>,
     alloc: Global,
@@ -132,8 +132,8 @@ fn lacking<C>(making: bool) -> PortReply<Vec<u64>, C>
 }
 
 /// The same as [`try_apply`], where want of memory is a reply as well: `UnableToCreateDataSegment`
-/// for a port, `WantOfMemory` for a read, and for a loan or a copy whose message must grow. No other
-/// command is refused so.
+/// for a port, `WantOfMemory` for a read, and for a loan or a copy whose message must grow. No
+/// other command is refused so.
 pub fn apply<Q: Payload, QH: Words, P: Payload, PH: Words, H: Backpressure, C>(
     hub: &mut Hub<Q, QH, P, PH, H>,
     alloc: Global,

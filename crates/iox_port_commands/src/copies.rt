@@ -55,8 +55,8 @@ pub fn copy_request<Q: Payload, QH: Words, P: Payload, PH: Words, H: Backpressur
     }
 }
 
-/// Sends a response to the client of an active request. It fails only where the message has to grow,
-/// and there is no memory for it.
+/// Sends a response to the client of an active request. It fails only where the message has to
+/// grow, and there is no memory for it.
 pub fn copy_response<Q: Payload, QH: Words, P: Payload, PH: Words, H: Backpressure, C>(
     hub: &mut Hub<Q, QH, P, PH, H>,
     node: u64,

@@ -22,8 +22,8 @@ use std::alloc::{AllocError, Global};
 use std::process::Abort;
 use std::test::Fail;
 
-/// Requests and responses of numbers. A handler has one answer, and a cause of attributes would be a
-/// number.
+/// Requests and responses of numbers. A handler has one answer, and a cause of attributes would be
+/// a number.
 type TheService = Service<Many<u64>, (), One<u64>, (), Always>;
 
 type TheReply = Reply<Vec<u64>, u64>;

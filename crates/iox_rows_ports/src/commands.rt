@@ -89,8 +89,8 @@ const OPTIONS: PortOptions<AnswersAt> = PortOptions {
     handler: None,
 };
 
-/// A hub of these settings, whose elements have the default 7, and whose requests have a user header
-/// of 3.
+/// A hub of these settings, whose elements have the default 7, and whose requests have a user
+/// header of 3.
 fn hub(alloc: Global, settings: Settings) -> Result<TheHub, AllocError>
     ensures { IfOk result (λ h. HaveDefaults h) }
 {

@@ -1,5 +1,5 @@
-//! Tests and callers of the descriptions of services, of what an opener is refused and of the script
-//! language, by what their crates make public. So the gate proves each of those crates once.
+//! Tests and callers of the descriptions of services, of what an opener is refused and of the
+//! script language, by what their crates make public. So the gate proves each of those crates once.
 #![tactic(auto)]
 
 #[cfg(test)]

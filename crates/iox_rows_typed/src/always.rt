@@ -1,6 +1,6 @@
 //! Sends to a full receiver, of typed ports whose handler always answers the same. A client has one
-//! active request, and one response may wait for it. Nothing overflows, and there is one server: so a
-//! second request meets a full queue, and so does a second response.
+//! active request, and one response may wait for it. Nothing overflows, and there is one server: so
+//! a second request meets a full queue, and so does a second response.
 
 use crate::exchange::{NODE, settings};
 use crate::expected::equal;
@@ -255,8 +255,8 @@ fn exchange(hub: &mut Numbers, client: &Asker, server: &Answerer) -> Option<Hear
     Some(heard)
 }
 
-/// The same of a new hub. The test ends if the second and third response are not told so, or if not the
-/// first alone is received.
+/// The same of a new hub. The test ends if the second and third response are not told so, or if not
+/// the first alone is received.
 fn responses(
     rt: &impl Abort,
     alloc: Global,

@@ -46,7 +46,8 @@ fn puts(hub: &mut Exchange, request: &Asking, values: &[u64]) -> Option<bool> {
 /// put anew.
 type Carried = [Option<(u64, u64)>; 4];
 
-/// What a loan has that is unfilled; what it carries then; and whether one and two elements are put.
+/// What a loan has that is unfilled; what it carries then; and whether one and two elements are
+/// put.
 fn of_a_request(
     hub: &mut Exchange,
     client: &Asker,

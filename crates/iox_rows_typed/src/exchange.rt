@@ -11,14 +11,19 @@ use std::alloc::{AllocError, Global};
 /// Requests of one number, responses of any number of bytes.
 pub type Exchange = Hub<One<u64>, (), Many<u8>, u32>;
 
+/// A client of an exchange.
 pub type Asker = Client<One<u64>, (), Many<u8>, u32>;
 
+/// A server of an exchange.
 pub type Answerer = Server<One<u64>, (), Many<u8>, u32>;
 
+/// What a client has of a request until it is over.
 pub type Pending = PendingResponse<One<u64>, (), Many<u8>, u32>;
 
+/// A request that a server received.
 pub type Active = ActiveRequest<One<u64>, (), Many<u8>, u32>;
 
+/// Who the one node is.
 pub const NODE: UniqueSystemId = UniqueSystemId {
     process: 1,
     seconds: 2,
@@ -26,6 +31,7 @@ pub const NODE: UniqueSystemId = UniqueSystemId {
     counter: 0,
 };
 
+/// How large an element of a request is.
 pub const PART: Part = Part {
     size: 8,
     alignment: 8,

@@ -1,5 +1,5 @@
-//! Wires of four ports where each limit of a port is 1: client 0 on node 0, server 1 on node 1, and server 2 and
-//! client 3 on node 2.
+//! Wires of four ports where each limit of a port is 1: client 0 on node 0, server 1 on node 1, and
+//! server 2 and client 3 on node 2.
 ghost use Rattle.std.specs.Prelude.{◌≡◌, IfOk};
 ghost use Rattle.iox_rows_whole_wire.specs.Fours.{AreTermsOfFour, IsPlanOfFour};
 ghost use Rattle.iox_rows_whole_wire.specs.Fours.{client_of, server_of};

@@ -1,5 +1,5 @@
-//! The finished calls that a wire keeps: each with its node, its call, its reply, and the numbers of
-//! events before its begin and before its end.
+//! The finished calls that a wire keeps: each with its node, its call, its reply, and the numbers
+//! of events before its begin and before its end.
 use super::counts::are_answered;
 use super::play::{Act, Ask, Came, Told, begin, plays, replied, steps};
 use super::settings::{NO_OVERFLOW, OVERFLOW, open};

@@ -1,5 +1,5 @@
-//! A client on node 0 and a server on node 1, whose elements have no words: a message has any number
-//! of them, up to three, or one.
+//! A client on node 0 and a server on node 1, whose elements have no words: a message has any
+//! number of them, up to three, or one.
 ghost use Rattle.std.specs.Prelude.{◌≡◌, IfOk};
 ghost use Rattle.iox_rows_whole_wire.specs.Units.{AreTermsOfUnits, HasNoWord, IsMessageOfUnits};
 ghost use Rattle.iox_rows_whole_wire.specs.Units.{IsPlanOfUnits, unit_client, unit_server};

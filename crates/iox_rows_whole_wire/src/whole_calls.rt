@@ -11,7 +11,8 @@ use std::alloc::Global;
 use std::process::Abort;
 use std::test::Fail;
 
-/// A node makes a call, and is answered what the lists say. Says whether the node had anything to ask.
+/// A node makes a call, and is answered what the lists say. Says whether the node had anything to
+/// ask.
 fn turn(
     rt: &impl Abort,
     wire: &mut Wire,

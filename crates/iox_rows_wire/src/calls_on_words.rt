@@ -82,8 +82,8 @@ fn node(alloc: Global) -> Result<StoredSeat, Fail>
     Ok(StoredSeat::new(alloc, 1, 4, 0, 0, desks, counts)?)
 }
 
-/// How many accesses a receive of the server makes until it is over, and what it answers. The map of
-/// the wire tells it its ways.
+/// How many accesses a receive of the server makes until it is over, and what it answers. The map
+/// of the wire tells it its ways.
 fn receive(
     alloc: Global,
     words: &mut [u64],

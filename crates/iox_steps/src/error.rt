@@ -1,5 +1,6 @@
 //! Why a machine refuses an entry of a schedule.
 
+/// An entry that is refused; the machine is as before.
 #[derive(Clone, Copy, Debug, PartialEq, Eq)]
 pub enum MachineError {
     /// no party has this number, or it makes no such calls

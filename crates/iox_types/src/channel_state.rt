@@ -10,6 +10,7 @@ pub struct ChannelState {
     value: u64,
 }
 
+/// The number of a request is kept in a channel as its state.
 pub type RequestId = ChannelState;
 
 impl Model for ChannelState {

@@ -65,8 +65,8 @@ fn most_at(plan: &WirePlan, node: u64, port: PlanPort) -> Option<usize>
     }
 }
 
-/// For how many handles the node of that number has room, if that can be told: for one more than its
-/// ports may have.
+/// For how many handles the node of that number has room, if that can be told: for one more than
+/// its ports may have.
 pub(crate) fn handle_room(plan: &WirePlan, node: u64) -> Option<usize>
     ensures { result ≡ as_usize (handle_room plan.now node) }
 {

@@ -31,8 +31,8 @@ pub(crate) struct Member {
     died: Option<usize>,
     node: StoredNode,
     call: Option<BegunCall>,
-    // the words of that call, as far as there is room for them, those of its last read that is over,
-    // and for how many there is room
+    // the words of that call, as far as there is room for them, those of its last read that is
+    // over, and for how many there is room
     words: Vec<u64>,
     read: Vec<u64>,
     longest: usize,

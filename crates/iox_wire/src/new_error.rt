@@ -11,8 +11,8 @@ use std::fmt;
 pub enum WireNewError {
     /// The wire has 2^63 words or more: lower the limits of its service, or have fewer ports.
     TooManyWords,
-    /// The first handle of each node would have the number 2^63 or a later one: open the wire before
-    /// its service gave as many numbers.
+    /// The first handle of each node would have the number 2^63 or a later one: open the wire
+    /// before its service gave as many numbers.
     NumbersSpent,
     WantOfMemory,
 }

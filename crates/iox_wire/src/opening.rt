@@ -40,8 +40,8 @@ pub(crate) fn longest_message(plan: &WirePlan) -> usize
     most
 }
 
-/// A node as the wire opens, with room for its handles, for so many ways that a call visits, and for
-/// so many words of a call.
+/// A node as the wire opens, with room for its handles, for so many ways that a call visits, and
+/// for so many words of a call.
 fn open_member(
     alloc: Global,
     plan: &WirePlan,
@@ -63,8 +63,8 @@ fn open_member(
     Ok(member)
 }
 
-/// The nodes of these numbers as the wire opens, each with room for its handles, and for so many ways
-/// that a call visits.
+/// The nodes of these numbers as the wire opens, each with room for its handles, and for so many
+/// ways that a call visits.
 pub(crate) fn open_members(
     alloc: Global,
     plan: &WirePlan,
@@ -159,10 +159,10 @@ fn overflows_with_room(plan: &WirePlan) -> bool
     has_room_to_overflow(plan, Role::Client) && has_room_to_overflow(plan, Role::Server)
 }
 
-/// Whether the terms fit the plan, each port has a slot, and each queue that overflows has room for a
-/// message. With `is_plan` that is all that can be tested of what `Wire::new` asks, but that messages
-/// have layouts (`have_layouts`): that a wire of both may `open` follows from the service that they
-/// were made of, and is for those to say who have it.
+/// Whether the terms fit the plan, each port has a slot, and each queue that overflows has room for
+/// a message. With `is_plan` that is all that can be tested of what `Wire::new` asks, but that
+/// messages have layouts (`have_layouts`): that a wire of both may `open` follows from the service
+/// that they were made of, and is for those to say who have it.
 pub fn is_whole(plan: &WirePlan, terms: &WireTerms) -> bool
     ensures { IsTrue result ↔ AreWhole plan.now terms.now }
 {
@@ -195,8 +195,8 @@ pub fn have_layouts(plan: &WirePlan) -> bool
     true
 }
 
-/// Why no wire is made of the plan and the terms, whatever memory there is. The first that applies is
-/// told: too many words, and then that numbers are spent.
+/// Why no wire is made of the plan and the terms, whatever memory there is. The first that applies
+/// is told: too many words, and then that numbers are spent.
 pub fn new_refusal(plan: &WirePlan, terms: &WireTerms) -> Option<WireNewError>
     requires { AreDistinct (port_numbers plan.now) }
     ensures { result ≡ new_refusal plan.now terms.now }

@@ -4,7 +4,8 @@ ghost use Rattle.std.specs.Prelude.{◌≡◌};
 use iox_wire_handle_calls::{Source, Stop, Target, WordMap};
 use std::alloc::{AllocError, Global};
 
-/// The ways that a node lists as it begins a call. They are of no use later. Only `new` takes memory.
+/// The ways that a node lists as it begins a call. They are of no use later. Only `new` takes
+/// memory.
 #[derive(Drop)]
 pub struct Lists {
     pub sources: Vec<Source>,

@@ -108,7 +108,8 @@ impl CopyLending {
     ghost use Rattle.iox_wire_copies.specs.CopyAims.{GoesOn, HoldsMade, IsAimed, IsLoanOfOrder, IsMadeAt};
     ghost use Rattle.iox_wire_copies.specs.CopyAims.{IsSameCopy, KeepsPeers, MayLendMade, StaysAimed};
 
-    /// No loan is under way, and there is room for so many ways, and for so many words of a message.
+    /// No loan is under way, and there is room for so many ways, and for so many words of a
+    /// message.
     pub fn new(alloc: Global, ways: usize, longest: usize) -> Result<CopyLending, AllocError>
         ensures local { IfOk result (λ l. l.local ≡ Idle) }
         ensures ways { IfOk result (λ l. l.lending.ways_room ≡ ways) }

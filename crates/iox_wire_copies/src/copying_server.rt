@@ -59,7 +59,8 @@ impl CopyingServer {
     ghost use Rattle.iox_wire_copies.specs.ResponseCopies.{IsSameCall, MayEndCall, SendsItsLoan};
     ghost use Rattle.iox_wire_copies.specs.ResponseCopies.{StaysAimed};
 
-    /// No copy is under way, and there is room for so many ways, and for so many words of a message.
+    /// No copy is under way, and there is room for so many ways, and for so many words of a
+    /// message.
     pub fn new(alloc: Global, ways: usize, longest: usize) -> Result<CopyingServer, AllocError>
         ensures local { IfOk result (λ c. c.local ≡ Idle) }
         ensures ways { IfOk result (λ c. c.lends.lending.ways_room ≡ ways) }

@@ -1,5 +1,6 @@
 //! Loan, write and send of a request or of a response in one call on a wire, as single accesses:
-//! its loan, which stores the payload too, the send that follows, and how many accesses a copy takes.
+//! its loan, which stores the payload too, the send that follows, and how many accesses a copy
+//! takes.
 #![tactic(auto)]
 
 mod at;

@@ -11,8 +11,8 @@ use iox_wire_locals::CallRefusal;
 use iox_wire_request_sends::RequestReply;
 use iox_wire_sends::RespondReply;
 
-/// What the copy of a request answers where its send answers that. It is told as the send of what the
-/// same call lent.
+/// What the copy of a request answers where its send answers that. It is told as the send of what
+/// the same call lent.
 pub(crate) fn request_sent(reply: RequestReply) -> CopyReply
     requires { IsToldBy true reply }
     ensures { request_copies.reply_in result ≡ requests.reply_in reply }

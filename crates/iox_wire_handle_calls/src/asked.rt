@@ -6,8 +6,8 @@ ghost use Rattle.iox_wire_handle_calls.specs.HandleCalls.{HasRole, call_of};
 
 use iox_model::kind::{Kind, Role};
 
-/// Which call a port or a handle is asked for. A loan is of so many elements. A write or a copy is of
-/// a request or of a response, as its role tells.
+/// Which call a port or a handle is asked for. A loan is of so many elements. A write or a copy is
+/// of a request or of a response, as its role tells.
 #[derive(Clone, Copy, Debug, PartialEq, Eq)]
 pub enum Asked {
     Loan(u64),

@@ -1,5 +1,5 @@
-//! A node's own part of a wire in memory: its tables, and where it is in its call, so that each step
-//! is a few instructions and takes no memory.
+//! A node's own part of a wire in memory: its tables, and where it is in its call, so that each
+//! step is a few instructions and takes no memory.
 #![tactic(auto)]
 
 mod at;

@@ -130,9 +130,9 @@ impl Responding {
         }
     }
 
-    /// Goes on after its access, which found `seen`. If it is over it says what that answers. The loan
-    /// and what it gets back are to be in use at the port's desk, and what it delivers is to have room
-    /// in the record of its way.
+    /// Goes on after its access, which found `seen`. If it is over it says what that answers. The
+    /// loan and what it gets back are to be in use at the port's desk, and what it delivers is to
+    /// have room in the record of its way.
     #[inline(always)]
     pub fn go_on(&mut self, seat: &mut StoredSeat, seen: u64) -> Option<RespondReply>
         requires busy { is_busy self.old.local ≡ true }

@@ -60,8 +60,8 @@ fn return_on(map: &WordMap, server: usize, client: usize, lane: usize) -> LaneRe
 }
 
 /// Lists in addition where the responses of the server at an index return on the lanes of the
-/// client at another. It is told how many may return on the ways that are listed, and says so. There
-/// is room for them.
+/// client at another. It is told how many may return on the ways that are listed, and says so.
+/// There is room for them.
 fn list_lanes(
     map: &WordMap,
     server: usize,

@@ -24,5 +24,6 @@ serial_of plan nodes port slot = option_map_or (serial_at slot) (desk_at plan no
 abbrev pub owner_in : WireData → ℕ → Option WireNode
 owner_in wire port = owner_of wire.plan wire.nodes port
 
+-- the desk of the port, of the node of a wire that the plan gives it
 abbrev pub desk_in : WireData → ℕ → Option Desk
 desk_in wire port = desk_at wire.plan wire.nodes port

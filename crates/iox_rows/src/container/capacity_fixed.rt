@@ -10,6 +10,7 @@ use std::alloc::Global;
 use std::process::Abort;
 use std::test::Fail;
 
+/// An empty container with this identifier.
 pub fn made<const CAPACITY: usize>(
     alloc: Global,
     id: u64,
@@ -17,6 +18,7 @@ pub fn made<const CAPACITY: usize>(
     Ok(FixedSizeContainer::<u64, CAPACITY>::new(alloc, id)?)
 }
 
+/// Adds the value for the owner.
 pub fn add<const CAPACITY: usize>(
     container: &mut FixedSizeContainer<u64, CAPACITY>,
     value: u64,

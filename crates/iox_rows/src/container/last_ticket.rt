@@ -6,8 +6,8 @@ use iox_container::mpmc::container::{Container, ContainerAddFailure};
 use iox_sets::mpmc::robust_unique_index_set::OwnerId;
 use iox_sets::mpmc::unique_index_set_enums::{ReleaseMode, ReleaseState};
 
-/// Without tickets a container is full for good, though its slots are free. No test adds so often, so
-/// this is proved.
+/// Without tickets a container is full for good, though its slots are free. No test adds so often,
+/// so this is proved.
 pub fn without_tickets_a_container_is_full_for_good(container: &mut Container<u64>, owner: OwnerId)
     requires open { container.old.locked ≡ false }
     requires free { container.old.slots ≡ None ∷ None ∷ [] }

@@ -182,7 +182,7 @@ fn each_pair_has_its_own_count_of_what_is_borrowed(rt: HostRuntime) -> Result<()
             (1, Asked::Response(5, 20), Told::Done),
             (1, Asked::Release(4), Told::Done),
             (1, Asked::Release(1), Told::Done),
-            // One of each pair may be borrowed: one of server 1, which is gone, and one of server 2.
+            // One of each pair may be borrowed: of server 1, which is gone, and of server 2.
             (0, Asked::Receive(3), Told::Handle(6)),
             (0, Asked::Read(6), Told::Words(1, 10)),
             (0, Asked::Receive(3), Told::Handle(7)),

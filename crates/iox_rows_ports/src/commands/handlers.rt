@@ -1,6 +1,6 @@
 //! Sends to a full receiver, of ports that have a handler. A client has one active request, and one
-//! response may wait for it. Nothing overflows, and there is one server: so a second request meets a
-//! full queue, and so does a second response.
+//! response may wait for it. Nothing overflows, and there is one server: so a second request meets
+//! a full queue, and so does a second response.
 
 use super::answering::AnswersAt;
 use super::{Asked, Given, Told, plays_in, settings};
@@ -23,8 +23,8 @@ fn tight() -> Settings {
     }
 }
 
-/// What a second request is told, loaned or copied, where the first waits and its pending response is
-/// released. A copy does not tell to how many servers it went.
+/// What a second request is told, loaned or copied, where the first waits and its pending response
+/// is released. A copy does not tell to how many servers it went.
 fn second_request(
     rt: &impl Abort,
     alloc: Global,

@@ -1,5 +1,5 @@
-//! Whom a handler is asked about: each full server by itself, for its own client alone. Requests do not
-//! overflow, and a client has one active request: so a second request meets two full queues.
+//! Whom a handler is asked about: each full server by itself, for its own client alone. Requests do
+//! not overflow, and a client has one active request: so a second request meets two full queues.
 
 use super::answering::AnswersAt;
 use super::{Asked, Given, Told, plays, plays_in, settings};

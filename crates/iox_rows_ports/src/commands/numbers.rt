@@ -1,5 +1,5 @@
-//! A hub of numbers with the first limits: a client of node 0 has the number 0, and a server of node
-//! 1 the number 1.
+//! A hub of numbers with the first limits: a client of node 0 has the number 0, and a server of
+//! node 1 the number 1.
 ghost use Rattle.std.specs.Prelude.{IfOk};
 ghost use Rattle.iox_port_commands.specs.Applying.{HaveDefaults};
 

@@ -103,7 +103,8 @@ fn in_hub<T, F: FnOnce(&mut TheHub, Global) -> T + Drop>(
 /// A port's number, or why it is not made.
 type Made = Result<u64, NotMade>;
 
-/// A client and a server are made: the two, what each node has then, and how many calls were counted.
+/// A client and a server are made: the two, what each node has then, and how many calls were
+/// counted.
 fn client_and_server(hub: &mut TheHub, alloc: Global) -> ((Made, Made), [bool; 3], u64) {
     let made = client(hub, alloc, OPTIONS);
     let server = make(hub, alloc, 1, Role::Server, OPTIONS);
@@ -124,8 +125,8 @@ fn a_client_and_a_server_are_made(rt: HostRuntime) -> Result<(), Fail> {
     Ok(())
 }
 
-/// Nine clients are made: whether the first eight have the numbers from 0 on, the ninth, and what has
-/// the number 8 then.
+/// Nine clients are made: whether the first eight have the numbers from 0 on, the ninth, and what
+/// has the number 8 then.
 fn nine_clients(hub: &mut TheHub, alloc: Global) -> (bool, Made, Option<Kind>) {
     let mut are_eight = true;
     for expected in 0..8u64 {

@@ -127,7 +127,8 @@ fn a_port_needs_messages_for_all_at_once(rt: HostRuntime) -> Result<(), Fail> {
     Ok(())
 }
 
-/// A client with a pool of so many messages, and what comes of two loans of the client of that number.
+/// A client with a pool of so many messages, and what comes of two loans of the client of that
+/// number.
 fn lends_twice(
     hub: &mut TheHub,
     alloc: Global,
@@ -143,8 +144,8 @@ fn lends_twice(
     (made, first, lends(hub, client))
 }
 
-/// The same of a client whose closure asks for no message, if it is known how many are needed. It is
-/// the hub's first port.
+/// The same of a client whose closure asks for no message, if it is known how many are needed. It
+/// is the hub's first port.
 fn none_lends_twice(
     hub: &mut TheHub,
     alloc: Global,

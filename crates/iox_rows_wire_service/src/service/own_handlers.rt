@@ -104,8 +104,8 @@ fn options(handler: Option<FailsAt>) -> PortOptions<FailsAt> {
     }
 }
 
-/// Node 0 makes two servers, and a client whose handler fails at the server of that number. It sends
-/// a request, which it gives up and which still waits at both servers, and sends another.
+/// Node 0 makes two servers, and a client whose handler fails at the server of that number. It
+/// sends a request, which it gives up and which still waits at both servers, and sends another.
 fn asked(alloc: Global, server: u64) -> Result<Vec<AtPort>, Fail> {
     let (id, node) = (UniqueNodeId::new(id(1))?, 0);
     let mut asked = Vec::new(alloc);

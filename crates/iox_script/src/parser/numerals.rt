@@ -34,7 +34,8 @@ pub(super) fn number_up_to(word: &[u8], most: u64) -> Result<u64, LineCause>
     Ok(number)
 }
 
-/// The number with one more digit behind it, if the byte is a digit and the number is not above `most`.
+/// The number with one more digit behind it, if the byte is a digit and the number is not above
+/// `most`.
 fn with_digit(number: u64, byte: u8, most: u64) -> Option<u64>
     ensures { let longer = number * 10 + (byte - 48) in
         result ≡ (if is_digit byte && nat_lt longer (most + 1) then Some longer else None) }

@@ -14,22 +14,31 @@ pub struct UniqueId<Kind> {
     kind: PhantomData<Kind>,
 }
 
+/// Which client it is, among all of all processes.
 pub type UniqueClientId = UniqueId<kind::Client>;
 
+/// Which server it is, among all of all processes.
 pub type UniqueServerId = UniqueId<kind::Server>;
 
+/// Which publisher it is, among all of all processes.
 pub type UniquePublisherId = UniqueId<kind::Publisher>;
 
+/// Which subscriber it is, among all of all processes.
 pub type UniqueSubscriberId = UniqueId<kind::Subscriber>;
 
+/// Which notifier it is, among all of all processes.
 pub type UniqueNotifierId = UniqueId<kind::Notifier>;
 
+/// Which listener it is, among all of all processes.
 pub type UniqueListenerId = UniqueId<kind::Listener>;
 
+/// Which reader it is, among all of all processes.
 pub type UniqueReaderId = UniqueId<kind::Reader>;
 
+/// Which writer it is, among all of all processes.
 pub type UniqueWriterId = UniqueId<kind::Writer>;
 
+/// Which service it is, among all of all processes.
 pub type UniqueServiceId = UniqueId<kind::Service>;
 
 impl<Kind> Model for UniqueId<Kind> {

@@ -18,8 +18,8 @@ impl Member {
         }
     }
 
-    /// How many messages its sender delivered on the way and did not get back; none if the node does
-    /// not have that port.
+    /// How many messages its sender delivered on the way and did not get back; none if the node
+    /// does not have that port.
     pub(crate) fn outstanding(&self, way: Way) -> usize
         ensures { result
             ≡ option_map_or (outstanding_at way)

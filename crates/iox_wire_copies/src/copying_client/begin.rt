@@ -44,8 +44,8 @@ impl CopyingClient {
     }
 
     /// Begins to copy a request of these words, to the servers that it was told of: it gets back on
-    /// these ways first. Without a number of elements the words are not of whole elements. Where the
-    /// client has no free lane it need be told of no server. No copy may be under way.
+    /// these ways first. Without a number of elements the words are not of whole elements. Where
+    /// the client has no free lane it need be told of no server. No copy may be under way.
     pub fn begin(
         &mut self,
         seat: &mut StoredSeat,

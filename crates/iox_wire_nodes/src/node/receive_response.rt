@@ -20,8 +20,8 @@ use iox_wire_begins::{
 };
 
 impl StoredNode {
-    /// Begins to receive a response of the pending response of that number, which is no port's. What
-    /// it lists in `sources` is of no use later.
+    /// Begins to receive a response of the pending response of that number, which is no port's.
+    /// What it lists in `sources` is of no use later.
     pub fn begin_receive_on_handle(
         &mut self,
         map: &WordMap,
