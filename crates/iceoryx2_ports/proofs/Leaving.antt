@@ -45,7 +45,7 @@ use Rattle.iceoryx2_ports.proofs.Idle.{may_have_one}
 
 -- ---- what a release leaves
 
--- no more waits, and no more is had, than before; ports that are left have their roles
+-- no more waits, and no more is held, than before; ports that are left have their roles
 pub record LeavesLess (s t : m.State) : Type 0 where
   pub limits : t.fixed.limits ≡ s.fixed.limits
   pub ports : (k : ℕ) → is_connected_port t.fixed k ≡ true → is_connected_port s.fixed k ≡ true

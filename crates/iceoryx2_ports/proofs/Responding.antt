@@ -1,4 +1,4 @@
--- A copy of a response can be received by who asked, if it had room; and what is told of an open request.
+-- A copy of a response can be received by who asked, if it had room; and what is known about an open request.
 use Rattle.std.specs.Prelude.{◌≡◌, ℕ, Bool, true, false, ◌||◌, ◌==◌, if◌then◌else◌, List, [], ◌∷◌, Option, None, Some, is_some, refl}
 use Rattle.std.specs.Option.{option_map_or}
 use Rattle.std.proofs.Common.{sym, ap, subst, ◌∙◌, true≢false}
@@ -156,7 +156,7 @@ copy_reaches_asker old new hub node n k words has copies have =
 
 -- ---- questions
 
--- What an active request is told of its client is whether it is open.
+-- What an active request is told about its client is whether it is open.
 pub open_is_told : (h : HubState) → IsHub h → (node n : ℕ) (b : Bool) → HasValue h node n ActiveRequest
     → ((x : Given) → IsWholeCall (state_of_hub x h) node (IsConnected n) (replies.Answer b) (state_of_hub x h)) → b ≡ is_open h node n
 open_is_told h hub node n b has whole =

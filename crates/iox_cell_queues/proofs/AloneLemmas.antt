@@ -1,4 +1,4 @@
--- One access of a call that its party plays alone: it goes on or is the last.
+-- One access of a call that its party plays alone: it continues or is the last.
 use Rattle.std.proofs.Common.{◌≡◌, ℕ, suc, ◌+◌, ◌≤◌, List, length, get_or, refl, ◌∙◌, arith}
 use Rattle.iox_words.specs.declared.word_list.Words.{Ghosts}
 use Rattle.iox_steps.specs.declared.access.Progress.TheVariants.{Going, Done}
@@ -69,7 +69,7 @@ module _ {A : Type 0} (width : ℕ) (W : Ghosts A) (site : CellSite) where
     pub outside : KeepsOutside site.base (size site) list after
 
   module _ (list : List ℕ) (side : CellSide A width) (state : CellQueueState A) (room : site.base + size site ≤ length list) (shows : ShowsAlone list side state) where
-    -- the access goes on
+    -- the access continues
     pub goes_on : (more : ℕ) (reply : CellReply A) (state' : CellQueueState A) → let access = side_access W.words site side in let seen = seen_by access (λ at. get_or list at 0) in
         side_progress W.of_words site side seen ≡ Going → Ended (words_after access list) (side_after W.of_words site side seen) more reply state' → Ended list side (suc more) reply state'
     goes_on more reply state' going rest =

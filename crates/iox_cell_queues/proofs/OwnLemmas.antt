@@ -12,7 +12,7 @@ use Rattle.iox_cell_queues.specs.CellPrograms.{store_from}
 use Rattle.iox_cell_queues.specs.CellAnswers.{unpublished}
 use Rattle.iox_cell_queues.specs.CellOwn.{OwnStays}
 
--- a push that goes on to store has its value
+-- a push that continues to store has its value
 store_keeps : {A : Type 0} → (site : CellSite) (value : A) (cell next word : ℕ)
     → unpublished (pushing.Pushes (store_from site value cell next word)) ≡ Some value
 store_keeps site value cell next word = elim (cases_Bool (nat_le site.width word)) [

@@ -53,7 +53,7 @@ module _ {A : Type 0} (words : A → List ℕ) (of_words : List ℕ → Option A
   sides_show_one site list (Pusher pushes) (Pusher other) state state' shown shown' = absurd shown
   sides_show_one site list (Popper pops) b state state' shown shown' = absurd shown
 
--- a run goes on by another
+-- a run continues by another
 run_on : {A : Type 0} → (site : CellSite) (before : CellQueueState A) (happened more : List (CellEvent A)) (mid after : CellQueueState A)
     → Follows site before happened mid → Follows site mid more after → Follows site before (happened ++ more) after
 run_on site before [] more mid after run next = subst (λ l. Follows site l more after) run next

@@ -62,7 +62,7 @@ pop_next of_words site (pop.LoadsWord read cell got loaded) seen =
     Goes (load_from site read cell (slice_set got loaded seen) (loaded + 1))
 pop_next of_words site (pop.StoresRead read got) seen = Ends (of_words got)
 
--- how a program goes on that ended with this reply, or is at this place now
+-- how a program continues that ended with this reply, or is at this place now
 abbrev pub goes_or_ends : {P R : Type 0} → Option R → P → Next P R
 goes_or_ends None place = Goes place
 goes_or_ends (Some reply) place = Ends reply

@@ -20,7 +20,7 @@ pub fn every_access_keeps_the_values<T: Words>()
     ensures pop { EveryPoppingKeeps T.words T.of_words }
 {}
 
-/// A push that goes on keeps its value until it has published it, whatever its access found. Once
+/// A push that continues keeps its value until it has published it, whatever its access found. Once
 /// it ends it has none.
 pub fn values_are_kept_until_published<T>()
     ensures { OwnStays T }

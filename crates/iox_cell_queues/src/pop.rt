@@ -87,7 +87,7 @@ impl<const WIDTH: usize> CellPop<WIDTH> {
         }
     }
 
-    /// Makes its next access, writes down its event, and goes on where it lies. It answers its
+    /// Makes its next access, writes down its event, and continues in place. It answers its
     /// reply once it ended.
     #[inline]
     pub(crate) fn step<T: Words>(

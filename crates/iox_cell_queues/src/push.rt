@@ -93,7 +93,7 @@ impl<T: Words> CellPush<T> {
         }
     }
 
-    /// Makes its next access, writes down its event, and goes on where it lies. It answers its
+    /// Makes its next access, writes down its event, and continues in place. It answers its
     /// reply once it ended.
     #[inline]
     pub(crate) fn step(

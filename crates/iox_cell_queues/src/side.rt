@@ -92,7 +92,7 @@ impl<T: Words> CellPushing<T> {
         }
     }
 
-    /// Makes its next access, writes down its event, and goes on where it lies.
+    /// Makes its next access, writes down its event, and continues in place.
     #[inline]
     pub(crate) fn step(
         &mut self,
@@ -210,7 +210,7 @@ impl<const WIDTH: usize> CellPopping<WIDTH> {
         }
     }
 
-    /// Makes its next access, writes down its event, and goes on where it lies.
+    /// Makes its next access, writes down its event, and continues in place.
     #[inline]
     pub(crate) fn step<T: Words>(
         &mut self,

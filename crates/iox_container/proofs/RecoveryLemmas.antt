@@ -1,4 +1,4 @@
--- A closure that is asked about the entries of an owner in turn: one slot more.
+-- A closure that is asked about the entries of an owner one after another: one slot more.
 use Rattle.std.proofs.Common.{◌≡◌, ◌==◌, not, ◌+◌, ◌<◌, ◌≤◌, ℕ, Bool, true, false, List, [], ◌∷◌, Option, Some, None, length, get_or, set, filter, refl, ap, subst, arith}
 use Rattle.std.proofs.lemmas.Bool.Decides.{nat_tests}
 use Rattle.std.proofs.lemmas.List.{drop-set-lt}

@@ -26,7 +26,7 @@ pub told_some : (t : HubTables) (y : Lender) (a : Asked) (r : Option LoanRefusal
 told_some t y a None some is has told x none = true≢false (sym has ∙ is)
 told_some t y a (Some r) some is has told x none = none-some (refusal_of r) (sym (none x.0 x.1) ∙ told x.0 x.1)
 
--- what is told of a lender's port is what it is
+-- what is known about a lender's port is what it is
 pub port_told : (t : HubTables) (l : Lending) → IsPortOf t l → (p : PortState) → port_in t.ports l.port.number ≡ Some p → l.port ≡ info_of p
 port_told t l of p there = of.info ∙ ap info_of (same_Some of.port p (sym of.there ∙ there))
 

@@ -1,4 +1,4 @@
--- A lender, by what is told of its port.
+-- A lender, by what is known about its port.
 use Rattle.std.specs.Prelude.{◌≡◌, ℕ, ◌%◌, ◌^◌, Some}
 use Rattle.std.specs.Option.{option_map}
 use Rattle.std.proofs.Common.{ap, subst, ◌∙◌}
@@ -33,7 +33,7 @@ module _ (t : HubTables) (n : ℕ) (info : PortInfo) (p : PortState) (order : Ar
 abbrev pub request_of_port : PortInfo → Lending
 request_of_port info = record { port = info; client = info.number; lane = 0; request = info.loans % 2 ^ 62 }
 
--- what is so of a client that lends, by what is told of it, is so of it
+-- what is so of a client that lends, by what is known about it, is so of it
 pub request_so : (P : Lender → Type 0) (t : HubTables) (n : ℕ) (info : PortInfo) → AreInOrder t → Some info ≡ info_in t.ports n
     → ((p : PortState) → port_in t.ports info.number ≡ Some p → P (lender_of p (request_of_port info)))
     → (p : PortState) → port_in t.ports n ≡ Some p → P (lender_of_request p 0)
@@ -64,7 +64,7 @@ module _ (t : HubTables) (node n : ℕ) (e : Entry) (found : Some (handle_state 
       ap (λ (m : Label). lender_of p (response_of_entry e info m)) is
       ∙ ap (λ (k : HandleState). lender_of_response t k p) same_entry
 
--- what is so of a server that lends, by what is told of it, is so of it
+-- what is so of a server that lends, by what is known about it, is so of it
 pub response_so : (P : Lender → Type 0) (t : HubTables) (node n : ℕ) (e : Entry) (info : PortInfo) (label : Label) → AreInOrder t
     → Some (handle_state e) ≡ handle_in t.handles node n → Some info ≡ info_in t.ports e.port → label ≡ labels_of t.pools e.pool e.slot
     → ((p : PortState) → port_in t.ports info.number ≡ Some p → P (lender_of p (response_of_entry e info label)))

@@ -92,7 +92,7 @@ module _ (c : ControlState) (node n : ℕ) (a : Asked) (l : Loaned) (new : Contr
       connections = 0;
     }
 
-    -- the same, by what is told of it
+    -- the same, by what is known about it
     abbrev pub h : HandleState
     h = record { node = node; number = l.number; kind = RequestMut; port = n; pool = l.pool; slot = l.slot; client = n; connections = 0 }
 

@@ -106,7 +106,7 @@ take_all (x ∷ xs) (suc n) h = ap (λ zs. x ∷ zs) (take_all xs n (omega (arit
 pub ways_all : (client : ℕ) (ports : List PortState) (i : ℕ) → length ports ≤ i → request_ways client (take i ports) ≡ request_ways client ports
 ways_all client ports i h = ap (request_ways client) (take_all ports i h)
 
--- ---- what is told of a server in its place
+-- ---- what is known about a server in its place
 
 of_server : {A : Type 0} (f : ℕ → A) (none : A) (o : Option PortState) (n : ℕ) → option_map_or server_of o None ≡ Some n
     → option_map_or (λ p. f p.number) o none ≡ f n

@@ -27,7 +27,7 @@ pub not_false : (b : Bool) → not b ≡ false → b ≡ true
 not_false true e = refl
 not_false false e = absurd (true≢false e)
 
--- what is found is told of the ports that there are
+-- what is found is told about the ports that there are
 pub found_in : (ports ts : List PortState) → ports ≡ ts → (n : ℕ) (o : Option PortInfo) → o ≡ info_in ports n → (q : PortInfo) → o ≡ Some q → info_in ts n ≡ Some q
 found_in ports ts same n o told q is = sym (ap (λ ps. info_in ps n) same) ∙ sym told ∙ is
 

@@ -80,7 +80,7 @@ module _ {h : HubState} (hub : IsHub h) (now : HubState) (is : h ≡ now) (node 
 
 module _ {h : HubState} (hub : IsHub h) (n : ℕ) (ports : List PortState) (same : ports ≡ h.control.tables.ports) (i : PortInfo) (r : Option PortInfo) (told : r ≡ info_in ports n)
     (some : r ≡ Some i) {A : Type 0} (f : m.Port → A) (g : PortInfo → A) where
-  -- what is told of a port is so of the machine's
+  -- what is known about a port is so of the machine's
   pub port_is_as_told : ((x : Given) (p : PortState) → f (port_of x p) ≡ g (info_of p)) → (x : Given) → option_map f (port_at (state_of_hub x h).fixed n) ≡ Some (g i)
   port_is_as_told agree x =
       ap (option_map f) (find_port (given_by x h) h.control.tables.ports n)

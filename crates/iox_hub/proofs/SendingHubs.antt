@@ -109,7 +109,7 @@ pub whole_then : {h : HubState} → IsHub h → (c : ControlState) (new : HubSta
     → IsWholeCall (state_of_hub x h) node call reply (state_of_hub x new)
 whole_then {h} hub c new node call reply x whole same = subst (λ s. IsWholeCall (state_of_hub x h) node call reply s) same whole
 
--- so a hub goes on, if the call is one of the hub
+-- so a hub continues, if the call is one of the hub
 pub hub_goes_on_as : (h : HubState) (c : ControlState) (node : ℕ) (call : Call) (reply : Reply) → IsHub h → IsControl c → WordsFit (many_in h) h.words c.tables
     → ((x : Given) → IsWholeCall (state_of_hub x h) node call reply (state_of_hub x (with_control h c))) → IsHub (with_control h c)
 hub_goes_on_as h c node call reply hub order fit whole =

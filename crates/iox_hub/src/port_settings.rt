@@ -1,4 +1,4 @@
-//! With what a port is made, as it is told of one that is there.
+//! With what a port is made, as it is told about one that is there.
 ghost use Rattle.std.specs.Prelude.{◌≡◌, Some};
 ghost use Rattle.std.specs.Option.{option_map};
 ghost use Rattle.iox_model.specs.Names.{is_port};

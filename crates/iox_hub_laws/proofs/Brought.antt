@@ -87,7 +87,7 @@ module _ (z : State) (reached : IsReachableState z) (node : ℕ) (h : Handle) (k
   abbrev pub goes_to : List ℕ
   goes_to = if is_request_loan h.kind then others z.fixed h.node Server else h.client ∷ []
 
-  -- the ways that it goes on
+  -- the ways on which it goes
   abbrev pub goes_on : List Way
   goes_on = targets (sending_of z.fixed h copied goes_to)
 

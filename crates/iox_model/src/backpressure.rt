@@ -5,7 +5,7 @@
 pub enum BackpressureAction {
     /// The sender's strategy decides.
     FollowBackpressureStrategy,
-    /// The receiver is passed over, and the send goes on.
+    /// The receiver is passed over, and the send continues.
     DiscardData,
     /// The send is refused.
     DiscardDataAndFail,

@@ -1,4 +1,4 @@
--- One access of a call that its party plays alone: it goes on or is the last.
+-- One access of a call that its party plays alone: it continues or is the last.
 use Rattle.std.proofs.Common.{◌≡◌, ℕ, suc, ◌+◌, ◌≤◌, List, length, get_or, refl, ◌∙◌}
 use Rattle.iox_steps.specs.declared.access.Progress.TheVariants.{Going, Done}
 use Rattle.iox_steps.specs.declared.site.Site.{Site}
@@ -73,7 +73,7 @@ pub record Ended (site : Site) (words : List ℕ) (side : Side) (accesses : ℕ)
 
 module _ (site : Site) (words : List ℕ) (side : Side) (state : QueueState) (room : site.base + size site ≤ length words)
     (shows : ShowsAlone site words side state) where
-  -- the access goes on
+  -- the access continues
   pub goes_on : (more : ℕ) (reply : QueueReply) (state' : QueueState) → let access = side_access site side in let seen = seen_by access (λ place. get_or words place 0) in
       side_progress site side seen ≡ Going
       → Ended site (words_after access words) (side_after site side seen) more reply state' → Ended site words side (suc more) reply state'

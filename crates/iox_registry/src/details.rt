@@ -1,4 +1,4 @@
-//! What is told of the ports that are registered with a service.
+//! What is known about the ports that are registered with a service.
 use crate::has_node::HasNode;
 use iox_types::identifiers::{
     UniqueClientId, UniqueListenerId, UniqueNodeId, UniqueNotifierId, UniquePublisherId,
@@ -14,7 +14,7 @@ pub enum DataSegmentType {
     Dynamic,
 }
 
-/// What is told of a client.
+/// What is known about a client.
 #[derive(Clone, Copy, Debug, PartialEq, Eq)]
 pub struct ClientDetails {
     pub client_id: UniqueClientId,
@@ -32,7 +32,7 @@ pub struct ClientDetails {
     pub max_number_of_segments: usize,
 }
 
-/// What is told of a server.
+/// What is known about a server.
 #[derive(Clone, Copy, Debug, PartialEq, Eq)]
 pub struct ServerDetails {
     pub server_id: UniqueServerId,
@@ -50,7 +50,7 @@ pub struct ServerDetails {
     pub max_number_of_segments: usize,
 }
 
-/// What is told of a publisher.
+/// What is known about a publisher.
 #[derive(Clone, Copy, Debug, PartialEq, Eq)]
 pub struct PublisherDetails {
     pub publisher_id: UniquePublisherId,
@@ -66,7 +66,7 @@ pub struct PublisherDetails {
     pub max_number_of_segments: usize,
 }
 
-/// What is told of a subscriber.
+/// What is known about a subscriber.
 #[derive(Clone, Copy, Debug, PartialEq, Eq)]
 pub struct SubscriberDetails {
     pub subscriber_id: UniqueSubscriberId,
@@ -76,7 +76,7 @@ pub struct SubscriberDetails {
     pub buffer_size: usize,
 }
 
-/// What is told of a notifier.
+/// What is known about a notifier.
 #[derive(Clone, Copy, Debug, PartialEq, Eq)]
 pub struct NotifierDetails {
     pub notifier_id: UniqueNotifierId,
@@ -84,7 +84,7 @@ pub struct NotifierDetails {
     pub node_id: UniqueNodeId,
 }
 
-/// What is told of a listener.
+/// What is known about a listener.
 #[derive(Clone, Copy, Debug, PartialEq, Eq)]
 pub struct ListenerDetails {
     pub listener_id: UniqueListenerId,
@@ -92,7 +92,7 @@ pub struct ListenerDetails {
     pub node_id: UniqueNodeId,
 }
 
-/// What is told of a reader.
+/// What is known about a reader.
 #[derive(Clone, Copy, Debug, PartialEq, Eq)]
 pub struct ReaderDetails {
     pub reader_id: UniqueReaderId,
@@ -100,7 +100,7 @@ pub struct ReaderDetails {
     pub node_id: UniqueNodeId,
 }
 
-/// What is told of a writer.
+/// What is known about a writer.
 #[derive(Clone, Copy, Debug, PartialEq, Eq)]
 pub struct WriterDetails {
     pub writer_id: UniqueWriterId,

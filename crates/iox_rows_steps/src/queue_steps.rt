@@ -33,7 +33,7 @@ fn machine_at(
 enum Deed {
     /// The party begins a call.
     Begins(usize, Call),
-    /// The next access of the party's call goes on.
+    /// The next access of the party's call continues.
     Goes(usize),
     /// The party's call ends at the access of this number, with this reply.
     Ends(usize, usize, QueueReply),

@@ -38,7 +38,7 @@ fn hint(hub: &mut Exchange, pending: &Pending) {
     }
 }
 
-/// What the client is told of a request that was sent, that is received, answered and heard.
+/// What the client is told about a request that was sent, that is received, answered and heard.
 fn told_the_client(
     hub: &mut Exchange,
     pending: &Pending,
@@ -51,7 +51,7 @@ fn told_the_client(
     Some([received, waiting, of_pending(hub, pending)?])
 }
 
-/// What a server is told of a request that its client hints at, and then gives up.
+/// What a server is told about a request that its client hints at, and then gives up.
 fn told_the_server(
     hub: &mut Exchange,
     pending: Pending,

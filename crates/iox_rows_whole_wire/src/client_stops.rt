@@ -1,4 +1,4 @@
-//! A client stops at each place of a call, and the server goes on.
+//! A client stops at each place of a call, and the server continues.
 use super::play::{Act, Ask, Told};
 use super::settings::NO_OVERFLOW;
 use super::stops::{On, Stop, stops};

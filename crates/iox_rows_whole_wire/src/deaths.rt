@@ -9,7 +9,7 @@ use std::alloc::Global;
 use std::process::Abort;
 use std::test::Fail;
 
-/// As many nodes may die, so that one goes on.
+/// As many nodes may die, so that one continues.
 const MOST_DEATHS: usize = 2;
 
 /// A client's requests have so many lanes.
@@ -106,7 +106,7 @@ fn turns(rt: &impl Abort, game: &mut Game, count: u32) -> Result<(), Fail> {
     Ok(())
 }
 
-/// Two nodes die, or fewer, and what is left goes on. Says how many died.
+/// Two nodes die, or fewer, and what is left continues. Says how many died.
 fn goes_on(rt: &impl Abort, game: &mut Game) -> Result<usize, Fail> {
     game.deadly = Some(200);
     turns(rt, game, 700)?;

@@ -71,7 +71,7 @@ pub(super) enum Act {
     /// It makes a call from its begin to its end, in so many steps, and is answered that.
     Whole(u64, Ask, u64, Told),
     Begins(u64, Ask),
-    /// It makes so many steps, and its call goes on.
+    /// It makes so many steps, and its call continues.
     Goes(u64, u64),
     /// Its call ends with so many steps more.
     Ends(u64, u64, Told),

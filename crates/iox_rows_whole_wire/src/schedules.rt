@@ -169,7 +169,7 @@ fn schedule_is_played_in_the_room_that_was_made(rt: HostRuntime) -> Result<(), F
 fn room_for_too_many_steps_is_refused(rt: HostRuntime) -> Result<(), Fail> {
     let mut wire = open(rt.alloc(), NO_OVERFLOW)?;
     holds(&rt, wire.reserve(1 << 62).is_err());
-    // the wire goes on as before
+    // the wire continues as before
     const TABLE: &[Act] = &[
         Act::RefusedStep(0, WireRefusal::AtRest),
         Act::Whole(0, Ask::CopyRequest(0, 456), 19, Told::Handle(2)),
@@ -204,7 +204,7 @@ fn nodes_with_all_their_handles_begin_calls(rt: HostRuntime) -> Result<(), Fail>
         (0, Ask::Receive(2), Told::ExceedsMaxBorrows),
         (1, Ask::Loan(2), Told::ExceedsMaxLoans),
         (1, Ask::CopyResponse(2, 1), Told::ExceedsMaxLoans),
-        // and the wire goes on
+        // and the wire continues
         (0, Ask::Release(3), Told::Done),
         (0, Ask::Receive(2), Told::Handle(5)),
         (0, Ask::Read(5), Told::Word(321)),

@@ -1,4 +1,4 @@
-//! A server stops at each place of a call, and the client goes on.
+//! A server stops at each place of a call, and the client continues.
 use super::play::{Act, Ask, Told};
 use super::settings::NO_OVERFLOW;
 use super::stops::{On, Stop, stops};

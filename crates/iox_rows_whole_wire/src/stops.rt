@@ -1,4 +1,4 @@
-//! A node stops at a place of its call, and the other one goes on.
+//! A node stops at a place of its call, and the other one continues.
 use super::play::{Act, Ask, Came, begin, plays, steps};
 use super::settings::{Service, open};
 use super::{four, wide};

@@ -25,7 +25,7 @@ fn client_stops_in_its_copy(rt: HostRuntime) -> Result<(), Fail> {
                 &[
                     Act::Whole(1, Ask::Receive(1), 4, Told::Nothing),
                     Act::Whole(2, Ask::Receive(2), 4, Told::Nothing),
-                    // the other client goes on
+                    // the other client continues
                     Act::Whole(2, Ask::CopyRequest(3, 8), 30, Told::Handle(4)),
                     Act::Whole(1, Ask::Receive(1), 13, Told::Handle(4)),
                     Act::Whole(1, Ask::Read(4), 1, Told::Word(8)),
@@ -38,7 +38,7 @@ fn client_stops_in_its_copy(rt: HostRuntime) -> Result<(), Fail> {
                     Act::Whole(1, Ask::Read(4), 1, Told::Word(5)),
                     Act::Whole(1, Ask::IsConnected(4), 1, Told::Answer(true)),
                     Act::Whole(2, Ask::Receive(2), 4, Told::Nothing),
-                    // the other client goes on
+                    // the other client continues
                     Act::Whole(2, Ask::CopyRequest(3, 8), 30, Told::Handle(4)),
                     Act::Whole(1, Ask::Receive(1), 13, Told::Handle(5)),
                     Act::Whole(1, Ask::Read(5), 1, Told::Word(8)),
@@ -52,7 +52,7 @@ fn client_stops_in_its_copy(rt: HostRuntime) -> Result<(), Fail> {
                     Act::Whole(2, Ask::Receive(2), 11, Told::Handle(4)),
                     Act::Whole(2, Ask::Read(4), 1, Told::Word(5)),
                     Act::Whole(2, Ask::CopyResponse(4, 6), 40, Told::Done),
-                    // the other client goes on
+                    // the other client continues
                     Act::Whole(2, Ask::CopyRequest(3, 8), 30, Told::Handle(5)),
                     Act::Whole(1, Ask::Receive(1), 13, Told::Handle(5)),
                     Act::Whole(1, Ask::Read(5), 1, Told::Word(8)),

@@ -1,5 +1,5 @@
 //! A node stops among the words of a message that it writes, copies or reads, and the other one
-//! goes on.
+//! continues.
 use super::play::{Act, Ask, Told};
 use super::stops::{On, Stop, stops};
 use iox_model::kind::Role;

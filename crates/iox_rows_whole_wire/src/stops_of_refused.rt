@@ -1,4 +1,4 @@
-//! A node stops in a call that is refused, and the other one goes on.
+//! A node stops in a call that is refused, and the other one continues.
 use super::play::{Act, Ask, Told, plays};
 use super::settings::{NO_OVERFLOW, open};
 use super::stops::{On, Stop, stops};
@@ -31,7 +31,7 @@ const SERVER_IS_LIMITED: [Act; 3] = [
     Act::Whole(1, Ask::Loan(2), 14, Told::Handle(3)),
 ];
 
-/// The client gets no response, and goes on.
+/// The client gets no response, and continues.
 const NONE_CAME: [Act; 5] = [
     Act::Keeps(1, 1),
     Act::Whole(0, Ask::Receive(2), 2, Told::Nothing),

@@ -1,5 +1,5 @@
 //! A node stops in a send or a copy that is refused: its peer is full, it has as many as it may, or
-//! nobody waits for its response. The other one goes on.
+//! nobody waits for its response. The other one continues.
 use super::play::{Act, Ask, Told};
 use super::settings::NO_OVERFLOW;
 use super::stops::{On, Stop, stops};

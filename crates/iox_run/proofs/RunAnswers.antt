@@ -53,7 +53,7 @@ pub saids-push : (lines : List (List ℕ)) (line : List ℕ)
     → map meaning (lines ++ line ∷ []) ≡ map meaning lines ++ meaning line ∷ []
 saids-push lines line = map-append meaning lines (line ∷ [])
 
--- the lines of a script that have ended are the first that have where it goes on
+-- the lines of a script that have ended are the first that have where it continues
 pub ended_lines_are_first : (a b : List ℕ)
     → ended_lines a ≡ take (length (ended_lines a)) (ended_lines (a ++ b))
 ended_lines_are_first a b =

@@ -26,7 +26,7 @@ pub ended_answered : (script sent : List ℕ) (player : Player) → IsAsFar scri
     → IsTextOfLines (ended_lines script) (sent ++ player.answers.items)
 ended_answered script sent player stands = (stands.replies, session_of player.session, stands.played, stands.answers)
 
--- and so the first lines of a script that goes on
+-- and so the first lines of a script that continues
 first_answered : (script rest whole sent : List ℕ) (player : Player) → script ++ rest ≡ whole
     → IsAsFar script sent player
     → IsTextOfLines (take (length (ended_lines script)) (ended_lines whole)) (sent ++ player.answers.items)

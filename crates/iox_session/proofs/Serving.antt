@@ -196,7 +196,7 @@ server_large k node id o b requests responses is asked large =
 
 -- ---- the whole call
 
--- what is told of a service that is asked
+-- what is known about a service that is asked
 told_so : {Z E : Type 0} (v v' : ServiceTables) (command : ServiceCommand) (c : Command) (r : Result (the_reply.Reply (Vec ℕ Z) Infallible) E)
     (large : Bool) (told : Result ServiceReply E) → Some c ≡ command_asked (service_of v) command
     → IfOk r (λ reply. IsDoneWithMemory (service_of v) c (nodes.reply_given no_cause reply) (service_of v'))

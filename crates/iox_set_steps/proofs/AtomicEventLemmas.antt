@@ -44,7 +44,7 @@ atomic_answers size (LoadsWord version list index) seen = tt
 atomic_answers size (LoadsAgain version list) seen = elim (cases_eq seen version) [ inl stands ↦ rw (eq-eqb _ _ stands) refl | inr moved ↦ rw (ne_eqb _ _ moved) tt ]
 
 module _ (size : ℕ) (old : AtomicMachineState size) (holds : AtomicsHold size old) where
-  -- the call of a party goes on, or ends in a reply that tells of it
+  -- the call of a party continues, or ends in a reply that tells of it
   call_goes : (base : ℕ) (new : AtomicMachineState size) (number : ℕ) (call : AtomicCall size) (turn : AtomicTurn size) (next : Next (AtomicProgram size)
       (AtomicReply size)) (answer : Progress (AtomicReply size)) (after : AtomicParty size)
       → IsParty new number after → after.program ≡ program_of next → answer ≡ progress_of next → Tells size base call turn next

@@ -65,7 +65,7 @@ module _ (size base : ℕ) where
   start_doing (Store list) = refl
   start_doing Load = tt
 
-  -- a call that goes on is still doing it, and one that ended rests
+  -- a call that continues is still doing it, and one that ended rests
   goes_or_rests : (call : AtomicCall size) (turn : AtomicTurn size) (next : Next (AtomicProgram size) (AtomicReply size)) → Tells size base call turn next
       → IsDoing call (program_of next) ⊎ (program_of next ≡ AtRest)
   goes_or_rests call turn (Goes program) tells = inl tells.1

@@ -60,7 +60,7 @@ module _ {S G P C R E : Type 0} (kind : Kind S G P C R E) (laws : Laws kind) (ca
   abbrev at_site : MachineState P E → Sited S P E
   at_site machine = record { site = site; machine = machine }
 
-  -- the call of a party goes on, or ends in a reply that tells of it
+  -- the call of a party continues, or ends in a reply that tells of it
   call_goes : (new : MachineState P E) (number : ℕ) (call : C) (earlier : List (Turn E)) (turn : Turn E) (next : Next G R)
       (answer : Progress R) (after : P)
       → IsParty new number after → kind.site_of after ≡ site → kind.program_of after ≡ goes_to kind.at_rest next → answer ≡ progress_by next

@@ -15,7 +15,7 @@ module _ {S G P C R E : Type 0} (kind : Kind S G P C R E) (calls : Calls S G C R
     pub start_doing : (site : S) (call : C) → calls.IsDoing site call [] (kind.start site call)
 
 module _ {S G P C R E : Type 0} (kind : Kind S G P C R E) (laws : Laws kind) (calls : Calls S G C R E) (telling : Telling kind calls) where
-  -- a call that goes on is still doing it, and one that ended rests
+  -- a call that continues is still doing it, and one that ended rests
   goes_or_rests : (site : S) (call : C) (earlier : List (Turn E)) (turn : Turn E) (next : Next G R) → Tells calls site call earlier turn next
       → calls.IsDoing site call (turn ∷ earlier) (goes_to kind.at_rest next) ⊎ (goes_to kind.at_rest next ≡ kind.at_rest)
   goes_or_rests site call earlier turn (Goes program) tells = inl tells.1

@@ -128,7 +128,7 @@ module _ {T : Type 0} (count : ℕ) (is_value : T → Type 0) (words : T → Lis
         let on = subst (λ e. LeadsOn size (value_now size base old.words) e (value_now size base new.words)) is leads in
         ap (λ l. or_else (of l) other) (list_of size (value_now size base old.words) list (is_loaded list is) on.0)
 
-    -- the call of the party goes on, or ends in a reply that tells of it
+    -- the call of the party continues, or ends in a reply that tells of it
     goes : (call : ValueCall T) (what : Option (AtomicEvent size)) (next : Next (AtomicProgram size) (AtomicReply size)) (answer : Progress
         (AtomicReply size)) → IsCallOf is_value call
         → Tells size base (call_words words call) (record { found = old.words; event = what }) next → answer ≡ progress_of next

@@ -28,7 +28,7 @@ same_words size value other agree =
     list_of size other (map value (range_with_len 0 size)) counted (λ k below.
     get_or-map-range_with_len value 0 size k k 0 below (omega arith) ∙ agree k below)
 
--- what an access that goes on stores, it was to store before
+-- what an access that continues stores, it was to store before
 pub stored_next : (size : ℕ) (program : AtomicProgram size) (seen : ℕ) (list : List ℕ) → stored_by (program_of (atomic_next size program seen)) ≡ Some list → stored_by program ≡ Some list
 stored_next size AtRest seen list is = is
 stored_next size (LoadsToStore value) seen list is = elim (cases_Bool (eqb seen last_version)) [

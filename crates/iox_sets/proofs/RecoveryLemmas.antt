@@ -1,4 +1,4 @@
--- A closure that is asked about the indices in turn: one index more.
+-- A closure that is asked about the indices one after another: one index more.
 use Rattle.std.proofs.Common.{◌≡◌, ◌+◌, ◌<◌, ◌≤◌, ℕ, suc, Bool, true, false, List, [], ◌∷◌, Option, Some, None, length, get_or, set, drop, map, refl, ap, sym, subst, ◌∙◌, inl, inr, arith}
 use Rattle.std.proofs.lemmas.List.{drop_all, drop_more, drop-set-lt, map-set, length-map, get_or-map}
 use Rattle.iox_sets.specs.BitSets.{set_bits, set_bits_from}

@@ -1,5 +1,5 @@
 //! The pools of message slots of a hub's ports: which slots are free, how many have each of the
-//! others, and what a receiver is told of the message there.
+//! others, and what a receiver is told about the message there.
 #![tactic(auto)]
 
 mod place;

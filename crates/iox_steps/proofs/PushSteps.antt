@@ -43,7 +43,7 @@ refused_when_full kind is = ap (λ k. is_refused k false true) is
 pub overflows : (kind : QueueKind) → kind ≡ Overflowing → is_refused kind false true ≡ false
 overflows kind is = ap (λ k. is_refused k false true) is
 
--- the read position goes on, by whoever moves it
+-- the read position continues, by whoever moves it
 module _ (site : Site) (word : ℕ → ℕ) (first : ℕ) (others : List ℕ) (ring : Ring site word (first ∷ others)) (position : write_of site word < 2 ^ 64) where
   pub moved_on : position_after (read_of site word) ≡ read_of site word + 1
   moved_on = let counts = ring.counts in omega arith

@@ -40,7 +40,7 @@ module _ (site : Site) (word : ℕ → ℕ) where
             rw read_same (put-other word cell value (cell_at site (read_of site word + k)) (omega arith) ∙ ring.items k below);
       }
 
-  -- the write position goes on, and the value in the free cell waits
+  -- the write position continues, and the value in the free cell waits
   pub ring_publish : (waiting : List ℕ) (value next : ℕ) → Ring site word waiting → length waiting < cells site
       → word (cell_at site (write_of site word)) ≡ value → next ≡ write_of site word + 1
       → Ring site (put word site.base next) (waiting ++ value ∷ [])
@@ -63,7 +63,7 @@ module _ (site : Site) (word : ℕ → ℕ) where
             ]);
       }
 
-  -- the read position goes on, and the first is taken
+  -- the read position continues, and the first is taken
   pub ring_take : (first : ℕ) (others : List ℕ) (next : ℕ) → Ring site word (first ∷ others) → next ≡ read_of site word + 1
       → Ring site (put word (site.base + 1) next) others
   ring_take first others next ring is_next =

@@ -7,7 +7,7 @@ use Rattle.iox_steps.specs.declared.side.QueueEvent.TheVariants.{Quiet, Publish,
 use Rattle.iox_steps.specs.Events.{rest, front, IsTrueOf}
 use Rattle.iox_steps.specs.EventLists.{QueueState, state_after, Follows, published, departed, told}
 
--- a run goes on by one event
+-- a run continues by one event
 run_more : (site : Site) (before : QueueState) (events : List QueueEvent) (mid : QueueState) (event : QueueEvent) → Follows site before events mid
     → IsTrueOf site mid.write mid.waiting mid.hand event
     → Follows site before (events ++ event ∷ []) (state_after event mid)

@@ -1,4 +1,4 @@
--- Each party that stores goes on alike whatever it found.
+-- Each party that stores continues alike whatever it found.
 use Rattle.std.proofs.Common.{◌≡◌, ℕ, ◌+◌, true, refl}
 use Rattle.iox_steps.specs.declared.site.QueueKind.{QueueKind}
 use Rattle.iox_steps.specs.declared.site.QueueKind.TheVariants.{Index, Overflowing}

@@ -1,4 +1,4 @@
--- A node makes its access, and goes on.
+-- A node makes its access, and continues.
 use Rattle.std.specs.Prelude.{IfSome, Option}
 use Rattle.std.proofs.Common.{◌≡◌, ℕ, List, ap, ap₂, sym, subst, ◌∙◌}
 use Rattle.iox_steps.specs.declared.access.Access.{Access}
@@ -34,7 +34,7 @@ module _ (p : Setting) (x z : NodeView) (same : x ≡ z) (words : List ℕ) (may
   pub its_access : (access : Access) → ((q : Setting) → IsAimed q x → access ≡ access_in q x) → access ≡ access_in p z
   its_access access asked = asked p aimed_here ∙ ap (access_in p) same
 
-  -- it goes on with what that found
+  -- it continues with what that found
   module _ (seen : ℕ) (its_word : seen ≡ seen_at (access_in p z) words) where
     pub may_go_on : KnowsItsPlace x.at x → MayGoOn x.at x seen
     may_go_on place =

@@ -1,4 +1,4 @@
--- What the code of a node asks as its call goes on follows from what the laws tell of its place.
+-- What the code of a node asks as its call continues follows from what the laws tell of its place.
 use Rattle.std.proofs.Common.{◌≡◌, ℕ, Bool, true, false, None, refl, ap, ap₂, sym, subst, ◌∙◌, true≢false}
 use Rattle.iox_model.specs.declared.kind.Kind.{Kind}
 use Rattle.iox_model.specs.declared.kind.Kind.TheVariants.{RequestMut, ResponseMut}

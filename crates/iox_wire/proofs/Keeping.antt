@@ -62,7 +62,7 @@ none_of : {A B : Type 0} (f : A → B) (o : Option A) → option_map f o ≡ Non
 none_of f None none = refl
 none_of f (Some a) none = absurd (none-some (f a) (sym none))
 
--- a call that goes on answers nothing
+-- a call that continues answers nothing
 quiet : (p : Setting) (x : Seat) (seen : ℕ) → is_busy (next p x seen).local ≡ true → tells p x seen ≡ None
 quiet p x seen busy = by_end (advance p (accessed x) x.local seen) (ending_at (advance p (accessed x) x.local seen).local) busy
   where

@@ -63,7 +63,7 @@ named_node (Some x) first is =
 step_named : (a : WireData) (n : ℕ) (first : WireRefusal) → step_refusal a n ≡ Some first → IsNamed first
 step_named a n first is = named_node (node_at n a.nodes) first is
 
--- ---- what is told of a step
+-- ---- what is known about a step
 
 -- a refusal that the machine has is not for want of memory
 by_state : (A B : Type 0) (o : Option WireRefusal) (refusal : WireRefusal) → IsRefusal WantOfMemory o refusal → IsNamed refusal → B → MatchOption o A (λ r. B)
@@ -112,13 +112,13 @@ step_room a b (Err refusal) took same = let e : b.room ≡ a.room = ap (λ (w : 
     more : (n m : ℕ) → m ≡ n → n ≤ m + 1
     more n m is = omega (arith, is)
 
--- what is told of a call that is not made is a refusal
+-- what is known about a call that is not made is a refusal
 pub left_told : {A : Type 0} (P : Type 0) (told : Result A WireRefusal) (want : Result (Unit {0}) WireRefusal) → OnErr told P → OnErr want (IfOk told (λ done. ⊥)) → OnErr want P
 left_told P told (Ok none) left wants = tt
 left_told P (Ok done) (Err want) left wants = absurd wants
 left_told P (Err refusal) (Err want) left wants = left
 
--- ---- what is told of a begin
+-- ---- what is known about a begin
 
 begin_asked : (a b : WireData) (n : ℕ) (call : NodeCall) → BeginsItsCall a n call b → BeginIsWoven a n call b → IsAsked a n call b
 begin_asked a b n call begun woven p r shows =
@@ -156,7 +156,7 @@ death_told a b n (Err refusal) woven lost alive refused same = refused_where _ _
 
 -- ---- what an entry does to a run
 
--- the run goes on by beats to which the entry may lead, and the wire shows it
+-- the run continues by beats to which the entry may lead, and the wire shows it
 abbrev GoesOnIn : Setting → Run → WireEntry → WireData → Type 0
 GoesOnIn p r e b =
     (bs : List Beat) × (after : Run) × EntryLeadsTo r.last e bs × IsWeave r.last bs after.last

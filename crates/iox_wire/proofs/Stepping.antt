@@ -190,6 +190,6 @@ module _ (w : WireData) (n i : ℕ) (m d : WireNode) (first : position (λ x. x.
 
 -- ---- what is replied
 
--- as long as a call goes on nothing is
+-- as long as a call continues, nothing is
 pub nothing_replied : (before : List Finished) (n : ℕ) (x : WireNode) (words : List ℕ) (events : ℕ) → before ≡ before ++ finished_by n x words events None
 nothing_replied before n x words events = sym (append-nil before)

@@ -37,7 +37,7 @@ pub record IsKept (x : NodeView) : Type 0 where
   pub tidy : IsTidy (seat_in x)
   -- its ports send on fewer ways than a word counts
   pub ways : HaveFewWays (seat_in x).desks
-  -- a message that its call made and sends goes on
+  -- a message that its call made and sends continues
   pub copies : CopyGoesOn (seat_in x).local
   -- a read that is over without an access has no words to tell
   pub reads : TellsNoWords (seat_in x).local

@@ -21,7 +21,7 @@ use Rattle.iox_wire.specs.declared.entry.WireEntry.TheVariants.{Begin, Die, Step
 
 -- ---- what an entry does to the wire
 
--- In each run that the wire shows: the node begins the call, and the run goes on by that; where the
+-- In each run that the wire shows: the node begins the call, and the run continues by that; where the
 -- machine refuses the call, nothing changes.
 abbrev pub IsAsked : WireData → ℕ → NodeCall → WireData → Type 0
 IsAsked old node call new =
@@ -31,7 +31,7 @@ IsAsked old node call new =
     × ((c : Choice) × (after : Run) × GoesOnBy r (Begins node asked c) after × Shows p new after))
     (λ refusal. new ≡ old)
 
--- The node makes the one access of its place, and each run that the wire showed goes on by that
+-- The node makes the one access of its place, and each run that the wire showed continues by that
 -- step; where the step is refused, nothing changes.
 abbrev pub IsStepped : WireData → ℕ → WireData → Type 0
 IsStepped old node new =
@@ -40,7 +40,7 @@ IsStepped old node new =
     × ((progress : Progress NodeReply) × StepIsWoven old node progress new))
     (λ refusal. new ≡ old)
 
--- The node is lost, and each run that the wire showed goes on by its death; where the death is
+-- The node is lost, and each run that the wire showed continues by its death; where the death is
 -- refused, nothing changes.
 abbrev pub IsDeclaredDead : WireData → ℕ → WireData → Type 0
 IsDeclaredDead old node new =
@@ -77,7 +77,7 @@ IsWeaveBy w (e ∷ es) bs w' =
     (now later : List Beat) × (mid : World) × (bs ≡ now ++ later)
     × EntryLeadsTo w e now × IsWeave w now mid × IsWeaveBy mid es later w'
 
--- Each run that the wire showed goes on by beats to which these entries may lead, and the wire
+-- Each run that the wire showed continues by beats to which these entries may lead, and the wire
 -- shows that run.
 abbrev pub IsWovenBy : WireData → List WireEntry → WireData → Type 0
 IsWovenBy old entries new =

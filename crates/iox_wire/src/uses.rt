@@ -104,7 +104,7 @@ pub fn messages_have_layouts(plan: &WirePlan, terms: &WireTerms, nodes: &[u64]) 
     have_layouts(plan)
 }
 
-/// A living node dies: no refusal is left, and what the wire showed goes on by that.
+/// A living node dies: no refusal is left, and what the wire showed continues by that.
 pub fn living_node_dies(wire: &mut Wire, node: u64) -> bool
     requires { living_refusal wire.old.nodes node ≡ None }
     ensures died { OnTrue result (DeathIsWoven wire.old node wire.new) }
@@ -141,7 +141,7 @@ pub fn spent_node_is_passed_over(wire: &mut Wire, node: u64) -> Result<(), WireR
     wire.run(&[WireEntry::Step(node)])
 }
 
-/// Where a step is not refused, what the wire showed goes on by it.
+/// Where a step is not refused, what the wire showed continues by it.
 pub fn node_steps(wire: &mut Wire, node: u64) -> Result<Progress<NodeReply>, WireRefusal>
     requires { step_refusal wire.old node ≡ None }
     ensures stepped { IfOk result (λ progress. StepIsWoven wire.old node progress wire.new) }
@@ -172,7 +172,7 @@ pub fn node_steps_in_room(wire: &mut Wire, node: u64) -> Result<Progress<NodeRep
     wire.step(node)
 }
 
-/// A node begins to look for requests, and makes three steps: a run of the machine goes on so.
+/// A node begins to look for requests, and makes three steps: a run of the machine continues so.
 pub fn node_looks(wire: &mut Wire, node: u64, number: u64) -> Result<(), WireRefusal>
     ensures woven { OnOk result (EntriesArePlayed wire.old
         (Begin node (calls.HasRequests number) ∷ Step node ∷ Step node ∷ Step node ∷ [])
@@ -202,7 +202,7 @@ pub fn node_makes_three_steps(wire: &mut Wire, node: u64) -> Result<(), WireRefu
 }
 
 /// In each run that is shown these are three accesses: words and seats are those after each of
-/// them, as long as the node's call goes on.
+/// them, as long as the node's call continues.
 pub fn three_steps_are_three_accesses(wire: &mut Wire, node: u64) -> Result<(), WireRefusal>
     ensures { (p : Setting) → (r : Run) → Shows p wire.old r → OnOk result ((a b : WireData)
         × (step_refusal wire.old node ≡ None → MakesOneAccess p wire.old node a)
@@ -238,7 +238,7 @@ pub fn client_asks(
     wire.begin(node, NodeCall::SendCopy { number, payload })
 }
 
-/// A server begins to receive, and makes two steps: a run of the machine goes on so.
+/// A server begins to receive, and makes two steps: a run of the machine continues so.
 pub fn server_receives(wire: &mut Wire, node: u64, number: u64) -> Result<(), WireRefusal>
     ensures woven { OnOk result (EntriesArePlayed wire.old
         (Begin node (calls.Receive number) ∷ Step node ∷ Step node ∷ []) wire.new) }

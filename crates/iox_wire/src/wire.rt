@@ -254,7 +254,7 @@ impl Wire {
     }
 }
 
-/// What a step answers whose call goes on. Written by itself it is zeros alone, in a few stores.
+/// What a step answers whose call continues. Written by itself it is zeros alone, in a few stores.
 #[inline(always)]
 fn going() -> Result<Progress<NodeReply>, WireRefusal>
     ensures { result ≡ Ok Going }

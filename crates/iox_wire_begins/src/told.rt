@@ -1,4 +1,4 @@
-//! What sends are told of the wire.
+//! What sends are told about the wire.
 ghost use Rattle.std.specs.Prelude.{◌≡◌};
 ghost use Rattle.iox_model.specs.declared.kind.Role.TheVariants.{Client};
 ghost use Rattle.iox_wire_handle_calls.specs.WayIndex.TheVariants.{Responses};
@@ -14,7 +14,7 @@ use iox_steps::QueueKind;
 use iox_wire_handle_calls::{RequestTerms, ResponseTerms, WordMap, terms_of_response};
 use iox_wire_lenders::WireTerms;
 
-/// What the send of a request of the client at an index is told of the wire. It is not told yet
+/// What the send of a request of the client at an index is told about the wire. It is not told yet
 /// where words stand.
 pub fn request_terms(map: &WordMap, terms: &WireTerms, client: usize) -> RequestTerms
     requires client { IsPortAt map.now Client client }
@@ -35,7 +35,7 @@ pub fn request_terms(map: &WordMap, terms: &WireTerms, client: usize) -> Request
     }
 }
 
-/// What the send of a response is told of its way, from the server at an index to a lane of the
+/// What the send of a response is told about its way, from the server at an index to a lane of the
 /// client at another.
 pub fn response_terms(
     map: &WordMap,

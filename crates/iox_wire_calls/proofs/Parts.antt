@@ -22,7 +22,7 @@ use Rattle.iox_steps.specs.Sides.{in_empty_look, in_full_look, in_pop, in_push, 
 use Rattle.iox_steps.specs.Sites.{cell_at, is_empty, is_full, last_position}
 use Rattle.iox_wire_calls.specs.Places.{IsEmptyLook, IsFullLook, IsPop}
 
--- a pop goes on, hands out, or sees that the queue is empty
+-- a pop continues, hands out, or sees that the queue is empty
 pub pops_on : (Q : Popping → QueueEvent → Type 0) → ((next : Popping) (event : QueueEvent) → IsPop next → Q next event)
     → ((next : Popping) (slot : ℕ) → Q next (HandOut slot)) → ((next : Popping) → Q next SeesEmpty) → (site : Site) (place : Pop) (seen : ℕ)
     → Q (in_pop (pop_next site place seen)) (pop_event site place seen)
@@ -39,7 +39,7 @@ pops_on Q going hands empty site (pop.Takes read value) seen = by_taken (is_take
     by_taken true = hands _ value
     by_taken false = going _ _ tt
 
--- a look at emptiness goes on, or sees how it is
+-- a look at emptiness continues, or sees how it is
 pub empty_looks_on : (Q : Popping → QueueEvent → Type 0) → ((next : Popping) (event : QueueEvent) → IsEmptyLook next → Q next event)
     → ((next : Popping) → Q next SeesEmpty) → ((next : Popping) → Q next SeesWaiting) → (site : Site) (place : EmptyLook) (seen : ℕ)
     → Q (in_empty_look (empty_look_next site place seen)) (empty_look_event site place seen)
@@ -50,7 +50,7 @@ empty_looks_on Q going empty waiting site (empty_look.LoadsWrite read) seen = by
     by_empty true = empty _
     by_empty false = waiting _
 
--- a look at fullness goes on, or sees how it is
+-- a look at fullness continues, or sees how it is
 pub full_looks_on : (Q : Pushing → QueueEvent → Type 0) → ((next : Pushing) (event : QueueEvent) → IsFullLook next → Q next event)
     → ((next : Pushing) → Q next SeesFull) → ((next : Pushing) → Q next SeesRoom) → (site : Site) (place : FullLook) (seen : ℕ)
     → Q (in_full_look (full_look_next site place seen)) (full_look_event site place seen)

@@ -1,4 +1,4 @@
--- The loan of a copy goes on as a loan does that is told without the payload.
+-- The loan of a copy continues as a loan does that is told without the payload.
 use Rattle.std.proofs.Common.{◌≡◌, ℕ, false, List, [], ◌∷◌, refl, true≢false}
 use Rattle.iox_model.specs.declared.way.Way.{Way}
 use Rattle.iox_steps.specs.declared.side.Popping.{Popping}

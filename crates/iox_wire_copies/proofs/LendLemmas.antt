@@ -73,7 +73,7 @@ alike : (x : Placed) (r : CopyLoan) (p : Setting) (seen : ℕ) → IsLoanAt r.le
     → GoesAlike p r.payload x.seat r.lending.local seen
 alike x r p seen loan before = goes_alike p r.payload x.seat r.lending.order r.lending.local seen loan before
 
--- it goes on
+-- it continues
 pub lend_goes_on : (x y : Placed) (r s : CopyLoan) (seen : ℕ) → Lends r → s.local ≡ with_payload r.payload s.lending.local
     → IsLoanAt r.lending.order r.lending.local → is_storing r.lending.local ≡ false
     → loans.GoesOn x r.lending seen y s.lending → loans.Answers x r.lending seen None → GoesOn x r seen y s None

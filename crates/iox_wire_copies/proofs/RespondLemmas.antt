@@ -1,4 +1,4 @@
--- How the copy of a response goes on from its loan to its send.
+-- How the copy of a response continues from its loan to its send.
 use Rattle.std.proofs.Common.{◌≡◌, ℕ, true, false, List, [], ◌∷◌, refl, ap, sym, subst, true≢false, ◌∙◌}
 use Rattle.std.specs.Prelude.{Option, None, Some, is_some, option_map}
 use Rattle.iox_model.specs.declared.way.Way.{Way}
@@ -105,14 +105,14 @@ send_ends p x y loan q t lends reply told says begun led answered_so over = reco
   aimed = tt;
 }
 
--- it was told of the way of the loan
+-- it was told about the way of the loan
 pub told_start : (p : Setting) (loan : Entry) (t : ResponseTerms) (q : Dispatch) → q.loan ≡ loan → q.terms ≡ t → IsToldOf p loan t → responses.IsAimed p q
 told_start p loan t q same terms told =
     subst (λ (e : Entry). IsToldOf p e q.terms) (sym same) (subst (IsToldOf p loan) (sym terms) told)
 
 -- ---- a step of its loan
 
--- the loan goes on
+-- the loan continues
 pub lends_next : (x y : Placed) (r s : ResponseCopy) (seen : ℕ) → Lends r → s.local ≡ s.lends.local → copies.GoesOn x r.lends seen y s.lends None → GoesOn x r seen y s
 lends_next x y r s seen lends local led p aim =
     ap (placed y.seat) local ∙ (led p (aimed_lends p x.seat r lends aim).0).0 ∙ ap (λ (l : Local). next p (placed x.seat l) seen) (sym lends.local)

@@ -1,4 +1,4 @@
--- How the copy of a request goes on from its loan to its send.
+-- How the copy of a request continues from its loan to its send.
 use Rattle.std.proofs.Common.{◌≡◌, ◌<◌, ℕ, true, false, List, refl, ap, sym, subst, true≢false, ◌∙◌}
 use Rattle.std.specs.Prelude.{Option, None, Some, option_map}
 use Rattle.iox_model.specs.Handles.{is_request_loan}
@@ -129,7 +129,7 @@ send_stays p x y loan q t lends begun leads = record {
 
 -- ---- a step of its loan
 
--- the loan goes on
+-- the loan continues
 pub lends_next : (x y : Placed) (r s : CopyCall) (seen : ℕ) → Lends r → s.local ≡ s.lends.local → copies.GoesOn x r.lends seen y s.lends None → GoesOn x r seen y s
 lends_next x y r s seen lends local led p aim =
     ap (placed y.seat) local ∙ (led p (aimed_lends p x.seat r lends aim).0).0 ∙ ap (λ (l : Local). next p (placed x.seat l) seen) (sym lends.local)

@@ -72,7 +72,7 @@ store_goes_on p x r payload (LendStores o slot n) k seen is aim ahead =
     )
 store_goes_on p x r payload l k seen is aim ahead = absurd ahead
 
--- with the last it goes on to the payload,
+-- with the last it continues with the payload,
 pub store_writes : (p : Setting) (x : Seat) (r : Loaned) (payload : List ℕ) (l k : Local) (loan : Entry) (seen : ℕ) → IsLoanAt r.order l → AreAimed p x l r
     → StoresAhead l (length r.words) (Some loan) k → 0 < length payload
     → (placed (accessed x) (LendStores (copy_of (loan_of r.order) payload) loan.slot (length r.words + 0)) ≡ next p (placed x (with_payload payload l)) seen)

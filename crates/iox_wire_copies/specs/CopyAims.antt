@@ -80,7 +80,7 @@ pub record HasSameRooms (r s : CopyLoan) : Type 0 where
   pub lending : loans.HasSameRooms r.lending s.lending
   pub payload : s.payload_room ≡ r.payload_room
 
--- it is the loan of the same order, told of the same slots
+-- it is the loan of the same order, told about the same slots
 pub record IsSameCopy (r s : CopyLoan) : Type 0 where
   pub order : s.lending.order ≡ r.lending.order
   pub payload : s.payload ≡ r.payload

@@ -58,7 +58,7 @@ LendsRequest name order = Unit {0}
 
 -- ---- the wire
 
--- What it was told of the servers is so on the wire, for a request of that port on that lane.
+-- What it was told about the servers is so on the wire, for a request of that port on that lane.
 pub record KnowsServers
     (p : Setting) (x : Seat) (port lane : ℕ) (s : RequestDispatch) : Type 0 where
   pub told : (loan : Entry) → loan.port ≡ port → IsToldOf p loan s.terms
@@ -148,7 +148,7 @@ abbrev pub StaysAimed : Placed → CopyCall → Placed → CopyCall → Type 0
 StaysAimed x r y s =
     (p : Setting) → IsAimed p x.seat r → TellsOfSlotAndLane p s.local → IsAimed p y.seat s
 
--- it is the copy of the same order, told of the same servers
+-- it is the copy of the same order, told about the same servers
 pub record IsSameCall (r s : CopyCall) : Type 0 where
   pub lends : IsSameCopy r.lends s.lends
   pub terms : s.sends.terms ≡ r.sends.terms
@@ -169,7 +169,7 @@ pub record LeadsTo
   pub over : answered p (sends p x loan true) ≡ option_map reply_in reply
   pub aimed : IsAimed p y.seat s
 
--- So it is for a loan of the servers that it was told of, which has the node's next number.
+-- So it is for a loan of the servers that it was told about, which has the node's next number.
 abbrev pub SendsTo : Seat → RequestDispatch → Entry → Placed → CopyCall → Option CopyReply → Type 0
 SendsTo x r loan y s reply =
     (p : Setting) → KnowsServers p x loan.port loan.lane r → loan.number ≡ next_handle p x

@@ -60,7 +60,7 @@ LendsResponse name order = Unit {0}
 abbrev pub way_of : Order → Way
 way_of o = response_way o.client o.lane o.port
 
--- what it was told of a way is so on the wire, for each loan that goes there
+-- what it was told about a way is so on the wire, for each loan that goes there
 abbrev pub KnowsWay : Setting → Way → ResponseTerms → Type 0
 KnowsWay p w t = (loan : Entry) → state_in loan ≡ w → IsToldOf p loan t
 
@@ -126,7 +126,7 @@ abbrev pub StaysAimed : Placed → ResponseCopy → Placed → ResponseCopy → 
 StaysAimed x r y s =
     (p : Setting) → IsAimed p x.seat r → TellsOfSlot p s.local → IsAimed p y.seat s
 
--- it is the copy of the same order, told of the same way
+-- it is the copy of the same order, told about the same way
 pub record IsSameCall (r s : ResponseCopy) : Type 0 where
   pub lends : IsSameCopy r.lends s.lends
   pub terms : s.sends.terms ≡ r.sends.terms

@@ -1,5 +1,5 @@
 -- Slots hold their messages after an access: those of other nodes and of queues stay, and the node's
--- own goes on.
+-- own continues.
 use Rattle.iox_wire_keeps.specs.Accesses.{AccessesLeaveMessages}
 use Rattle.iox_wire_keeps.proofs.Kept.{slot_itself, named_sent, loan_lane}
 use Rattle.iox_steps.specs.Events.{rest, IsTrueOf}

@@ -30,7 +30,7 @@ use Rattle.iox_wire_calls.specs.Local.{Local}
 use Rattle.iox_model.specs.States.{Port}
 use Rattle.iox_model.specs.declared.way.Way.{Way}
 
--- nothing is stored or loaded at the place, nor told of a read
+-- nothing is stored or loaded at the place, nor told about a read
 abbrev pub IsFirst : Local → Type 0
 IsFirst (LendStores o slot next) = next ≡ 0
 IsFirst (Writes e words next) = next ≡ 0

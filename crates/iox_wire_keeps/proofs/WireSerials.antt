@@ -84,7 +84,7 @@ module _ (p : Setting) (words : List ℕ) (players : ℕ → Player) (r : Run) (
   raw_node : (m : ℕ) → (players m).seat.node ≡ m
   raw_node m = sym (node_alike p (players m).seat (players m).seat.local) ∙ wire.stands.shows.node m
 
-  -- ---- one node goes on, and all others stay
+  -- ---- one node continues, and all others stay
 
   module _ (player : Player) (new held : Pools) (agree : (port slot : ℕ) → IsInPool p port slot → new port slot ≡ held port slot)
       (node : player.seat.node ≡ (players n).seat.node)

@@ -62,7 +62,7 @@ pub fn slots_in_use_are_kept()
     ensures pools { PoolsAreTold }
 {}
 
-/// A push that found its queue full goes on only where messages overflow, as the words tell.
+/// A push that found its queue full continues only where messages overflow, as the words tell.
 pub fn full_pushes_overflow()
     ensures { FullPushesOverflow }
 {}

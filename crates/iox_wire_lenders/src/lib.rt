@@ -1,4 +1,4 @@
-//! What a wire is told of its ports beside its plan, and the lenders that are made of both.
+//! What a wire is told about its ports beside its plan, and the lenders that are made of both.
 #![tactic(auto)]
 
 mod lenders;

@@ -1,4 +1,4 @@
--- How a loan goes on from a way on which nothing is left to get back.
+-- How a loan continues from a way on which nothing is left to get back.
 use Rattle.std.proofs.Common.{◌≡◌, ℕ, List, [], ◌∷◌, refl, ap, sym, ◌∙◌}
 use Rattle.iox_model.specs.declared.way.Way.{Way}
 use Rattle.iox_steps.specs.declared.side.Popping.{Popping}

@@ -60,7 +60,7 @@ HasWordsLeft name words places next first user = Unit {0}
 
 -- ---- the places that it knows of
 
--- What it was told of the node and of the wire is so.
+-- What it was told about the node and of the wire is so.
 pub record Knows (p : Setting) (x : Seat) (r : Loaned) : Type 0 where
   pub number : r.order.number ≡ next_handle p x
   pub words : r.words ≡ loan_words p (loan_of r.order)

@@ -55,7 +55,7 @@ pub record IsWhole (t : Lender) : Type 0 where
   pub user : t.places.user ≡ length t.user.now
   pub within : IsWithin t.places
 
--- What is told of the port is so on the wire, as far as all loans ask it.
+-- What is known about the port is so on the wire, as far as all loans ask it.
 pub record LenderIsTold (p : Setting) (t : Lender) : Type 0 where
   pub number : (p.port t.port).number ≡ t.port
   pub role : (p.port t.port).role ≡ t.role

@@ -86,7 +86,7 @@ sends p x e copied =
     (record { loan = e; copied = copied; to = others (known p x) x.node Server })
     else sends_response p x (record { loan = e; copied = copied; to = e.client ∷ [] })
 
--- after a look at its request state: goes on to the client, or delivers to nobody
+-- after a look at its request state: continues to the client, or delivers to nobody
 abbrev pub asked : Setting → Seat → Delivery → RequestState → Seat
 asked p x d shown =
     if names shown d.loan.request then emptying p x d (targets (sending p x d))

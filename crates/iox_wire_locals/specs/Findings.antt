@@ -1,5 +1,5 @@
 -- What a loan or a send makes of an access that found this: in a queue its event says whether it
--- goes on at its next place there, `place`, or whether that part of it is done.
+-- continues at its next place there, `place`, or whether that part of it is done.
 use Rattle.std.specs.Prelude.{ℕ, ◌+◌, if◌then◌else◌, ◌==◌, List, ◌∷◌, length, Option, Some, None}
 use Rattle.iox_model.specs.declared.way.Way.{Way}
 use Rattle.iox_model.specs.Requests.{may_evict}

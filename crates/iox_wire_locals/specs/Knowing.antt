@@ -90,7 +90,7 @@ ReceivesGoOn =
 
 -- ---- releases, questions and hints
 
--- A release begins and goes on as in the machine.
+-- A release begins and continues as in the machine.
 abbrev pub ReleasesGoOn : Type 0
 ReleasesGoOn =
     (p : Setting) (x : Seat) (f : Fixed) (held : Pools) (e : Entry) (left : List Way)

@@ -1,5 +1,5 @@
 -- In reading order: how a message stands in its slot, what a node keeps and knows, which access
--- each place of a call makes and what that place stands for, how a call goes on, begins, finds
+-- each place of a call makes and what that place stands for, how a call continues, begins, finds
 -- and ends, and the steps of a node.
 pub mod Stored
 pub mod Tables

@@ -39,7 +39,7 @@ ReliesOn p x s held (SendEmpties d w (popping.Pops place) left) seen = Unit {0}
 ReliesOn p x s held (SendEmpties d w place left) seen = ⊥
 ReliesOn p x s held (SendLooks d w (pushing.Looks place) left full) seen = Unit {0}
 ReliesOn p x s held (SendLooks d w place left full) seen = ⊥
--- a push that finds its queue full goes on only where messages overflow
+-- a push that finds its queue full continues only where messages overflow
 ReliesOn p x s held
     (SendPushes d last w (pushing.Pushes (push.StoresWrite value end (Some read))) left count) seen =
     (sending p x d).overflow ≡ true

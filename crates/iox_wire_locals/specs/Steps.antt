@@ -1,4 +1,4 @@
--- A node's step: it makes the access that its place asks for, and goes on with what that found.
+-- A node's step: it makes the access that its place asks for, and continues with what that found.
 use Rattle.std.specs.Prelude.{ℕ, ◌+◌, ◌∷◌, ◌++◌, [], Option, Some, None, option_map}
 use Rattle.iox_model.specs.Commands.{Reply}
 use Rattle.iox_steps.specs.declared.side.Pushing.{Pushing}

@@ -1,4 +1,4 @@
--- A copy goes on: a step closes what is over, and no call begins with a message that it made.
+-- A copy continues: a step closes what is over, and no call begins with a message that it made.
 use Rattle.std.specs.Prelude.{◌⊎◌}
 use Rattle.std.proofs.Common.{◌≡◌, true, Option, Some, None, refl, ap, subst, inl, inr, true≢false}
 use Rattle.iox_model.specs.declared.way.RequestState.TheVariants.{Closed}

@@ -55,7 +55,7 @@ of_first local is = tt
 pub begun_reads_tell_none : BegunReadsTellNone
 begun_reads_tell_none p x call = of_first (begin p x call).local (first p x call)
 
--- what goes on tells nothing
+-- what continues tells nothing
 goes_on : (local : Local) → ending_at local ≡ None → TellsNoWords local
 goes_on (Ends (endings.Words words)) is = absurd (none-some _ (sym is))
 goes_on local is = tt
@@ -78,7 +78,7 @@ abbrev words_in : Reply → List ℕ
 words_in (replies.Words words) = words
 words_in reply = []
 
--- what is told of a send are no words
+-- what is known about a send are no words
 no_sent : (p : Setting) (y : Seat) (e : Entry) (copied : Bool) (count : ℕ) → is_read (sent_reply p y e copied count) ≡ false
 no_sent p y e copied count = by_kind (next_handle p y) (is_request_loan e.kind) copied
   where

@@ -190,7 +190,7 @@ one_slot slot k true = by_number (k == slot)
     by_number false = omega arith
 one_slot slot k false = omega arith
 
--- it goes on with the ways left
+-- it continues with the ways left
 record GoesOnBy (z y : Seat) (d : Delivery) : Type 0 where
   pub desks : y.desks ≡ z.desks
   pub table : y.table ≡ z.table

@@ -1,4 +1,4 @@
--- A call that sends a message which it made goes on: it is not over but for its end.
+-- A call that sends a message which it made continues: it is not over but for its end.
 use Rattle.std.specs.Prelude.{◌≡◌, ℕ, None, true}
 use Rattle.iox_model.specs.Commands.{WireCall}
 use Rattle.iox_wire_keeps.specs.Begins.{begin}

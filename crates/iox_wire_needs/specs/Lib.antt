@@ -1,6 +1,6 @@
 -- In reading order: the two laws of a wire, that calls begin by their node's own data, and that steps
 -- keep what stands and the setting; that a place bounds its access; what a node may count, and that it
--- stays tidy; slots and lanes that its place names; which slots are in use; that a copy goes on; which
+-- stays tidy; slots and lanes that its place names; which slots are in use; that a copy continues; which
 -- words a read tells; what it may do with its handles, and how many these are.
 pub mod OwnBegins
 pub mod SettingsStay

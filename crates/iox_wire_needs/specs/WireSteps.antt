@@ -18,11 +18,11 @@ use Rattle.iox_wire_keeps.specs.WholeSteps.{GoesOnWith, player_next, step_beats}
 use Rattle.iox_wire_keeps.specs.WireStands.{WireStands}
 use Rattle.iox_wire_needs.specs.SettingsStay.{ForgetsNobody, SettingStays}
 
--- Where a step of the node leads whose access found this: the run goes on, the wire stands there, and
+-- Where a step of the node leads whose access found this: the run continues, the wire stands there, and
 -- the setting stays. Slots and nodes are told as they were before it, and words as they are after it.
 pub record StandsAfterStep (p : Setting) (held : Pools) (words : List ℕ) (players : ℕ → Player)
     (r : Run) (n seen : ℕ) : Type 0 where
-  -- the run goes on by at most one moment of the machine, and then the end of the node's call with the
+  -- the run continues by at most one moment of the machine, and then the end of the node's call with the
   -- machine's reply, if that was its last access; a new loan has this payload
   pub payload : List ℕ
   pub after : Run

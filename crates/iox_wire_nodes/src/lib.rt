@@ -1,5 +1,5 @@
 //! A node of a wire with whatever call is under way: what it keeps, how it begins a call of a
-//! handle, the access that it makes next, and how it goes on after that.
+//! handle, the access that it makes next, and how it continues after that.
 #![tactic(auto)]
 
 mod call_at;

@@ -28,7 +28,7 @@ use Rattle.iox_wire_pools.proofs.HeldSlots.{held_in}
 use Rattle.iox_wire_pools.proofs.ReceiveSlots as received
 use Rattle.iox_wire_pools.proofs.SeatUses.{delivered, got_back, slot_picked, unchanged}
 
--- the node goes on
+-- the node continues
 pub goes : (p : Setting) (x y : Seat) (slots : ℕ → List ℕ) → AllUsesAreCounted p x → ((port : ℕ) → slots_in_call port x.local ≡ slots port) → Goes x y slots
     → AllUsesAreCounted p y
 goes p x y slots all is on port mine =
@@ -61,7 +61,7 @@ module _ (p : Setting) (x : Seat) (all : AllUsesAreCounted p x) where
       (refl, subst (λ k. is_some (record_of w (recorded_of x k)) ≡ true) (sym may.0) may.1, subst (λ k. has_number slot (slots_used x k) ≡ true) (sym may.0) may.2)
       (all q mine))
 
-  -- the node goes on from this place
+  -- the node continues from this place
   from : (local : Local) (y : Seat) → x.local ≡ local → Goes x y (λ port. slots_in_call port local) → AllUsesAreCounted p y
   from local y is on = goes p x y (λ port. slots_in_call port local) all (λ port. ap (slots_in_call port) is) on
 

@@ -23,7 +23,7 @@ use Rattle.iox_wire_locals.specs.NewLoans.{entry_in, loan_words}
 use Rattle.iox_wire_locals.specs.Tables.{Setting}
 use Rattle.iox_wire_laws.specs.WireKeeping.UsedSlots.{slot_of_loan, slot_of_send, slots_in_call}
 
--- The node goes on: its call has these slots then, and its desks and handles are the same.
+-- The node continues: its call has these slots then, and its desks and handles are the same.
 pub record Goes (x y : Seat) (slots : ℕ → List ℕ) : Type 0 where
   pub node : y.node ≡ x.node
   pub desks : y.desks ≡ x.desks

@@ -21,7 +21,7 @@ use Rattle.iox_wire_locals.specs.Tables.{Setting}
 use Rattle.iox_wire_pools.proofs.CallSlots.{Goes, either, placed}
 
 module _ (p : Setting) (x : Seat) where
-  -- the node goes on, and its call has no slot
+  -- the node continues, and its call has no slot
   abbrev K : Seat → Type 0
   K y = Goes x y (λ port. [])
 

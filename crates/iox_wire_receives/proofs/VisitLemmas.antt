@@ -1,4 +1,4 @@
--- How a receive goes on to its next way.
+-- How a receive continues to its next way.
 use Rattle.std.proofs.Common.{◌≡◌, ℕ, Bool, true, false, if◌then◌else◌, List, [], ◌∷◌, refl, ap, sym, ◌∙◌}
 use Rattle.std.specs.Prelude.{nat_le}
 use Rattle.iox_model.specs.declared.way.Way.{Way}

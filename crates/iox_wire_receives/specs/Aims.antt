@@ -46,12 +46,12 @@ HasHeader name v header place capacity = received_length v ≤ capacity
 
 -- ---- the places that it knows of
 
--- What it was told of the node and of the wire is so.
+-- What it was told about the node and of the wire is so.
 pub record KnowsTerms (p : Setting) (x : Seat) (t : ReceiveTerms) : Type 0 where
   pub number : t.number ≡ next_handle p x
   pub fire_and_forget : t.fire_and_forget ≡ p.limits.fire_and_forget
 
--- and so is what it was told of its ways
+-- and so is what it was told about its ways
 pub record Knows (p : Setting) (x : Seat) (r : Receipt) : Type 0 where
   pub terms : KnowsTerms p x r.terms
   pub source : IsSource p r.terms (received_length r.visit) r.source

@@ -1,4 +1,4 @@
--- How the send of a request goes on from one of its rounds to the next.
+-- How the send of a request continues from one of its rounds to the next.
 use Rattle.std.proofs.Common.{◌≡◌, ℕ, Bool, true, List, [], ◌∷◌, Option, None, refl, ap, ap₂, ◌∙◌}
 use Rattle.std.specs.Prelude.{if◌then◌else◌, map}
 use Rattle.std.specs.List.{list_any}

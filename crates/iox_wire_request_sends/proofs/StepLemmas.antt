@@ -1,4 +1,4 @@
--- How the send of a request goes on from an access that is the last of its part.
+-- How the send of a request continues from an access that is the last of its part.
 use Rattle.std.proofs.Common.{◌≡◌, ◌+◌, ℕ, Bool, true, false, List, ◌∷◌, Option, None, Some, refl, ap, ap₂, sym, ◌∙◌, true≢false}
 use Rattle.std.specs.Prelude.{if◌then◌else◌, option_map}
 use Rattle.iox_model.specs.declared.way.Way.{Way}

@@ -1,4 +1,4 @@
--- What the send of a request is told of the wire, what its accesses find, and what a step of it
+-- What the send of a request is told about the wire, what its accesses find, and what a step of it
 -- does.
 use Rattle.std.specs.Prelude.{◌≡◌, ◌+◌, ◌<◌, ◌≤◌, ℕ, Bool, true, false, List, Option, option_map}
 use Rattle.std.specs.Prelude.{IfSome, is_none}
@@ -54,14 +54,14 @@ HasCount name count left all = Unit {0}
 
 -- ---- the wire
 
--- What it was told of its client is so on the wire.
+-- What it was told about its client is so on the wire.
 pub record IsToldOf (p : Setting) (loan : Entry) (t : RequestTerms) : Type 0 where
   pub overflow : (x : Seat) → overflow_of p.limits (role_at (known p x) loan.port) ≡ t.overflow
   pub fails : (x : Seat) (server : ℕ)
       → fails_at (known p x) (request_way loan.port server) ≡ t.fails
   pub active : p.limits.active_requests ≡ t.active
 
--- So is what it was told of the servers, and of the node if its own call made the loan.
+-- So is what it was told about the servers, and of the node if its own call made the loan.
 pub record Knows (p : Setting) (x : Seat) (r : RequestDispatch) : Type 0 where
   pub told : IsToldOf p r.loan r.terms
   pub targets : AreTargets p r.terms r.loan r.targets
@@ -168,7 +168,7 @@ IsToldBy copied reply = Unit {0}
 abbrev pub StaysAimed : Placed → RequestDispatch → Placed → RequestDispatch → Type 0
 StaysAimed x r y s = (p : Setting) → IsAimed p x.seat r → IsAimed p y.seat s
 
--- it is the send of the same loan, told of the same servers, with room for as many
+-- it is the send of the same loan, told about the same servers, with room for as many
 pub record IsSameSend (r s : RequestDispatch) : Type 0 where
   pub loan : s.loan ≡ r.loan
   pub copied : s.copied ≡ r.copied

@@ -108,7 +108,7 @@ abbrev pub drops_or_returns : Seat → Entry → Bool → Seat
 drops_or_returns x e forgot =
     if forgot then placed x (Ends (endings.Drops e)) else placed x (ReleaseReturns e (pushing.Pushes (push.LoadsWrite e.slot)))
 
--- a release goes on as the sender is forgotten or not
+-- a release continues as the sender is forgotten or not
 releases : (p : Setting) (x : Seat) (e : Entry) (port : ℕ) (forgot : Bool) → is_received e.kind ≡ true → (way_in e).sender ≡ port
     → forgot_port (known p x) x.node port ≡ forgot → drops_or_returns x e forgot ≡ releasing p x e
 releases p x e port forgot received sender is =

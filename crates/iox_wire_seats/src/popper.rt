@@ -20,7 +20,7 @@ pub enum PopAt {
 }
 
 /// The party of a queue that pops and looks at emptiness. It makes no access itself: it says which
-/// comes next, and goes on with what that found.
+/// comes next, and continues with what that found.
 #[derive(Drop)]
 pub struct Popper {
     at: PopAt,

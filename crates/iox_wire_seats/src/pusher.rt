@@ -23,7 +23,7 @@ pub enum PushAt {
 }
 
 /// The party of a queue that pushes and looks at fullness. It makes no access itself: it says which
-/// comes next, and goes on with what that found.
+/// comes next, and continues with what that found.
 #[derive(Drop)]
 pub struct Pusher {
     at: PushAt,

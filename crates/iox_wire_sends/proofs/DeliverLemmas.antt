@@ -1,4 +1,4 @@
--- How the send of a response goes on as it delivers.
+-- How the send of a response continues as it delivers.
 use Rattle.std.proofs.Common.{◌≡◌, ◌+◌, ◌<◌, ◌==◌, ℕ, Bool, true, false, cond, List, [], ◌∷◌, map, slice_index, slice_set, None, Some, refl, ap, ap₂, sym, subst, ◌∙◌, true≢false, eqb-true, eq-eqb, arith}
 use Rattle.std.proofs.lemmas.List.{get_or-set_other, get_or-set_same}
 use Rattle.iox_model.specs.declared.reply.Reply.TheVariants as replies

@@ -1,4 +1,4 @@
--- How the send of a response goes on once what returned is got back.
+-- How the send of a response continues once what returned is got back.
 use Rattle.std.proofs.Common.{◌≡◌, ℕ, Bool, true, false, List, [], ◌∷◌, None, refl, ap, ap₂, sym, ◌∙◌, true≢false}
 use Rattle.std.specs.Prelude.{if◌then◌else◌}
 use Rattle.iox_model.specs.declared.kind.Kind.{Kind}

@@ -1,4 +1,4 @@
--- What the send of a response is told of the wire, what its accesses find, and what a step of it
+-- What the send of a response is told about the wire, what its accesses find, and what a step of it
 -- does.
 use Rattle.std.specs.Prelude.{◌≡◌, ℕ, Bool, true, not, Option, option_map}
 use Rattle.iox_model.specs.declared.kind.Role.TheVariants.{Client}
@@ -29,7 +29,7 @@ use Rattle.iox_wire_sends.specs.Dispatches.{Dispatch, reply_in}
 
 -- ---- the wire
 
--- What it was told of the loan's way, and of its client, is so on the wire.
+-- What it was told about the loan's way, and of its client, is so on the wire.
 pub record IsToldOf (p : Setting) (loan : Entry) (t : ResponseTerms) : Type 0 where
   pub messages : t.messages ≡ site_of p.layout (MessageQueue (state_in loan))
   pub returning : t.returning ≡ site_of p.layout (ReturningQueue (state_in loan))
@@ -112,7 +112,7 @@ Answers x r seen reply =
     (p : Setting) → IsAimed p r
     → tells p (placed x.seat r.local) seen ≡ option_map reply_in reply
 
--- and it is the send of the same loan, told of the same way.
+-- and it is the send of the same loan, told about the same way.
 pub record IsSameSend (r s : Dispatch) : Type 0 where
   pub loan : s.loan ≡ r.loan
   pub copied : s.copied ≡ r.copied

@@ -18,7 +18,7 @@ use Rattle.iox_wire_sends.specs.declared.at.RespondReply.TheVariants as respond_
 use Rattle.iox_wire_sends.specs.declared.terms.ResponseTerms.{ResponseTerms}
 
 -- A send of a response: where it is, its loan and whether its own call made that, and what it was
--- told of its way.
+-- told about its way.
 pub record Dispatch : Type 0 where
   pub local : Local
   pub loan : Entry

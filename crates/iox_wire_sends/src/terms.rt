@@ -1,7 +1,7 @@
-//! What the send of a response is told of the wire.
+//! What the send of a response is told about the wire.
 use iox_steps::Site;
 
-/// What the send of a response is told of its way, and of its client.
+/// What the send of a response is told about its way, and of its client.
 #[derive(Clone, Copy)]
 pub struct ResponseTerms {
     /// The queues in which messages wait for the client, and in which they return.

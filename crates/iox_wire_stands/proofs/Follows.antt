@@ -1,4 +1,4 @@
--- Each access goes on as it is said, by the cases of each course.
+-- Each access continues as it is said, by the cases of each course.
 use Rattle.std.specs.Prelude.{map, not, ◌&&◌, ◌++◌, ◌⊎◌}
 use Rattle.std.specs.List.{list_any}
 use Rattle.std.proofs.Common.{◌≡◌, ℕ, ◌+◌, Bool, true, false, if◌then◌else◌, ◌==◌, List, [], ◌∷◌, Option, Some, None, refl, ap, sym, subst, ◌∙◌, inl, inr, length}

@@ -1,4 +1,4 @@
--- A run that goes on with one beat.
+-- A run that continues with one beat.
 use Rattle.std.specs.Prelude.{◌++◌}
 use Rattle.std.proofs.Common.{◌≡◌, ℕ, List, [], ◌∷◌, refl, ap, subst, append_assoc, ◌∙◌}
 use Rattle.iox_model.specs.Weaves.{Beat, IsBeat, IsWeave, World}

@@ -147,7 +147,7 @@ abbrev pub IsLending : Local → Type 0
 IsLending (LendEmpties o w place left) = Unit {0}
 IsLending local = ⊥
 
--- how a node goes on with an access: its desks, and the message of its call
+-- how a node continues with an access: its desks, and the message of its call
 pub data NodeContinues (p : Setting) (x : Seat) (local : Local) (seen : ℕ) (y : Seat) : Type 0 where
   -- the call has the same message
   keeps : (desks : y.desks ≡ (changed (desk_change p local seen) x).desks)
@@ -181,7 +181,7 @@ pub data NodeContinues (p : Setting) (x : Seat) (local : Local) (seen : ℕ) (y 
       → (before : message_at local ≡ Lent loan slot) → (copies : loan.copies ≡ true)
       → (message : message_at y.local ≡ Sent (entry_in loan slot) true) → NodeContinues p x local seen y
 
--- Each access goes on so.
+-- Each access continues so.
 abbrev pub AccessesFollow : Type 0
 AccessesFollow =
     (p : Setting) (x : Seat) (seen : ℕ) → NodeContinues p x x.local seen (advance p x x.local seen)

@@ -12,7 +12,7 @@ pub record Run : Type 0 where
   pub opened : IsOpenedWire first
   pub woven : IsWeave first beats last
 
--- the run goes on with one beat
+-- the run continues with one beat
 pub record GoesOnBy (r : Run) (b : Beat) (next : Run) : Type 0 where
   pub first : next.first ≡ r.first
   pub beats : next.beats ≡ r.beats ++ b ∷ []

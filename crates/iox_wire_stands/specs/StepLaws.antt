@@ -41,7 +41,7 @@ OtherSlotsMayChange =
 
 -- ---- a step
 
--- without a moment the run is the same, else it goes on with that of the node
+-- without a moment the run is the same, else it continues with that of the node
 abbrev pub RunGoesOn : Run → ℕ → Option Moment → Run → Type 0
 RunGoesOn r n None next = next ≡ r
 RunGoesOn r n (Some m) next = GoesOnBy r (Makes n m) next

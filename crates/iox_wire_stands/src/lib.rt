@@ -31,7 +31,7 @@ pub fn deaths_keep()
     ensures { DeathsKeep }
 {}
 
-/// Each access goes on in one of seven ways.
+/// Each access continues in one of seven ways.
 pub fn accesses_follow()
     ensures { AccessesFollow }
 {}

@@ -56,7 +56,7 @@ use Rattle.iox_wire_steps.proofs.StepsWhole.{whole_steps_keep}
 
 -- ---- where it leads
 
--- it goes on, looks at the request state, or is over
+-- it continues, looks at the request state, or is over
 given : (x : Seat) (e : Entry) (b : Bool) → Follows (if b then placed x (ReleaseLooks e) else ended x (endings.Drops e)).local
 given x e true = tt
 given x e false = tt

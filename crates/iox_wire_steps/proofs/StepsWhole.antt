@@ -80,7 +80,7 @@ said_then : (n k : ℕ) (payload : List ℕ) (m : Option Moment) (reply : Option
 said_then n k payload None reply = reply_said n k payload reply
 said_then n k payload (Some m) reply = reply_said n k payload reply
 
--- ---- a release that goes on
+-- ---- a release that continues
 
 -- any other place has put nothing aside
 abbrev pub IsOther : Local → Type 0
@@ -235,7 +235,7 @@ module _ (p : Setting) (words words' : List ℕ) (players : ℕ → Player) (r :
             (sym (still plain.0 (ending_at going.local))) plain.1
         by_part (inr aside) = aside.1
 
-    -- a release that gave its message back goes on alike
+    -- a release that gave its message back continues alike
     alike : IsReceiving x.local → Result
     alike received = by_part both
       where

@@ -47,7 +47,7 @@ reply_beats n payload (Some reply) = Ends n reply payload ∷ []
 abbrev pub step_beats : ℕ → List ℕ → Option Moment → Option Reply → List Beat
 step_beats n payload m reply = moment_beats n m ++ reply_beats n payload reply
 
--- the run goes on with these beats
+-- the run continues with these beats
 pub record GoesOnWith (r : Run) (bs : List Beat) (next : Run) : Type 0 where
   pub first : next.first ≡ r.first
   pub beats : next.beats ≡ r.beats ++ bs

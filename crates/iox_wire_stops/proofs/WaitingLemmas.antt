@@ -24,7 +24,7 @@ pub in_memory : (t : ReceiveTerms) (header : ℕ) (ss : List Source) → AreWith
 in_memory t header [] are = tt
 in_memory t header (s ∷ ss) are = (are.0.messages, in_memory t header ss are.1)
 
--- ---- with what was told of them
+-- ---- with what was known about them
 
 module _ (t : ReceiveTerms) (header : ℕ) (ss : List Source) (stops : List Stop) (kind : QueueKind) (capacity : ℕ)
     (k : kind ≡ t.kind) (c : capacity ≡ t.capacity) (all : stops ≡ map stop_of ss) where

@@ -126,7 +126,7 @@ module _ (plan : WirePlan) (is : IsPlan plan) (role : Role) (i : ℕ) (at : IsPo
         ∙ ap (λ m. m + 8 * k) size)
         ∙ omega arith
 
--- ---- what is told of the port at an index
+-- ---- what is known about the port at an index
 
 pub record PortFacts (plan : WirePlan) (i : ℕ) (q : PlanPort) : Type 0 where
   pub number : q.number ≡ number_at plan i

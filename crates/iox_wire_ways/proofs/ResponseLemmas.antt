@@ -1,4 +1,4 @@
--- What a pending response's receive is told of the servers is so on the wire, and in memory.
+-- What a pending response's receive is told about the servers is so on the wire, and in memory.
 use Rattle.std.proofs.Common.{◌≡◌, ℕ, ◌+◌, ◌*◌, ◌<◌, ◌^◌, Bool, List, [], length, map, refl, ap, ap₂, sym, subst, ◌∙◌, arith}
 use Rattle.std.specs.Prelude.{filter, find, ◌==◌}
 use Rattle.std.specs.Option.{option_map_or}

@@ -1,4 +1,4 @@
--- What the send of a response is told of its way is so on the wire.
+-- What the send of a response is told about its way is so on the wire.
 use Rattle.std.proofs.Common.{◌≡◌, ℕ, ◌<◌, Bool, true, false, not, ◌&&◌, List, length, map, get_or, refl, ap, ap₂, sym, ◌∙◌}
 use Rattle.std.specs.Prelude.{find, ◌==◌}
 use Rattle.std.specs.Option.{option_map_or}

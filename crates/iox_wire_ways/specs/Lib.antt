@@ -1,10 +1,10 @@
 -- the ports and the ways that a call visits
 pub mod Visits
--- what a server's receive is told of them
+-- what a server's receive is told about them
 pub mod RequestSources
 -- and that of a pending response
 pub mod ResponseSources
--- what the send of a request is told of its servers
+-- what the send of a request is told about its servers
 pub mod RequestTargets
 -- where the messages of a port stand
 pub mod PlannedSlots

@@ -1,4 +1,4 @@
--- What the receive of a server is told of its ways, as a plan tells it.
+-- What the receive of a server is told about its ways, as a plan tells it.
 use Rattle.std.specs.Prelude.{◌≡◌, ◌+◌, ◌*◌, ◌<◌, ◌^◌, ℕ, Bool, if◌then◌else◌, List, []}
 use Rattle.iox_model.specs.declared.kind.Role.TheVariants.{Client}
 use Rattle.iox_word_map.specs.WordMaps.{MessageQueue, Region, lane_words, piece_place, total_words}

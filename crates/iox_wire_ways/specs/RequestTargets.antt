@@ -1,4 +1,4 @@
--- What the send of a request is told of its servers, as a plan tells it.
+-- What the send of a request is told about its servers, as a plan tells it.
 use Rattle.std.specs.Prelude.{◌≡◌, ◌+◌, ◌*◌, ℕ}
 use Rattle.iox_model.specs.declared.kind.Role.TheVariants.{Client}
 use Rattle.iox_word_map.specs.WordMaps.{MessageQueue, lane_words}
@@ -28,7 +28,7 @@ target_of plan client server = record {
   place = (site_of (layout_of plan) (MessageQueue (way_at plan (Requests client server)))).base;
 }
 
--- What is told of a send elsewhere stays: whether a full queue gives up its oldest message, whether
+-- What is known about a send elsewhere stays: whether a full queue gives up its oldest message, whether
 -- the send fails at a full server, and how many pending responses there may be.
 pub record KeepsTerms (old new : RequestTerms) : Type 0 where
   pub overflow : new.overflow ≡ old.overflow

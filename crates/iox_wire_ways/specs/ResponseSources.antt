@@ -1,4 +1,4 @@
--- What the receive of a pending response is told of its ways, as a plan tells it.
+-- What the receive of a pending response is told about its ways, as a plan tells it.
 use Rattle.std.specs.Prelude.{ℕ, Bool}
 use Rattle.iox_model.specs.declared.kind.Role.TheVariants.{Server}
 use Rattle.iox_word_map.specs.WordMaps.{MessageQueue, Region, piece_place}

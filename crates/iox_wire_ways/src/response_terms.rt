@@ -14,7 +14,7 @@ ghost use Rattle.iox_wire_copies.specs.Aims.{IsToldOf};
 use iox_wire_copies::ResponseTerms;
 use iox_wire_messages::{WayIndex, WordMap};
 
-/// What the send of a response is told of its way, from the server at an index to a lane of the
+/// What the send of a response is told about its way, from the server at an index to a lane of the
 /// client at another. Whether it fails at a full client is told elsewhere.
 pub fn terms_of_response(
     map: &WordMap,

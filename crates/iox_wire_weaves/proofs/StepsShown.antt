@@ -1,4 +1,4 @@
--- After a step of a node the wire shows the run that goes on so.
+-- After a step of a node the wire shows the run that continues so.
 use Rattle.std.specs.Prelude.{option_map}
 use Rattle.std.specs.Option.{option_map_or}
 use Rattle.std.proofs.Common.{◌≡◌, ℕ, ◌+◌, ◌<◌, ◌^◌, Bool, true, false, ◌==◌, List, [], ◌∷◌, ◌++◌, length, map, Option, Some, None, refl, ap, ap₂, sym, subst, ◌∙◌, arith, eqb-true, if◌then◌else◌, inl, inr}

@@ -69,7 +69,7 @@ abbrev pub BeginsItsCall : WireData → ℕ → NodeCall → WireData → Type 0
 BeginsItsCall old n call new =
     (p : Setting) (r : Run) → Shows p old r → BeginsCall p old n (asked_of r n call) new
 
--- Each run that the wire showed goes on by the begin of that call, and the wire shows that run.
+-- Each run that the wire showed continues by the begin of that call, and the wire shows that run.
 abbrev pub BeginIsWoven : WireData → ℕ → NodeCall → WireData → Type 0
 BeginIsWoven old n call new =
     (p : Setting) (r : Run) → Shows p old r

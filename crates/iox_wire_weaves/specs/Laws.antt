@@ -1,4 +1,4 @@
--- That a wire shows a run as it opens, and goes on showing one.
+-- That a wire shows a run as it opens, and keeps showing one.
 use Rattle.std.specs.Prelude.{◌≡◌, ◌⊎◌, ℕ, ◌+◌, ◌==◌, false, true, ◌++◌, List, [], length, replicate, Option, Some, None, is_some, option_map, ◌<◌, ◌≤◌, IfSome}
 use Rattle.iox_model.specs.Maps.{has_number}
 use Rattle.iox_model.specs.States.{State}
@@ -103,7 +103,7 @@ StepsAreSafe =
     (p : Setting) (wire : WireData) (r : Run) (n : ℕ) → Shows p wire r
     → living_refusal wire.nodes n ≡ None → IsWithin 0 (length wire.words) (access_of p wire n)
 
--- After a step that is not refused, the wire shows the run that goes on so, in the same setting.
+-- After a step that is not refused, the wire shows the run that continues so, in the same setting.
 abbrev pub StepsShow : Type 0
 StepsShow =
     (p : Setting) (old new : WireData) (r : Run) (n : ℕ) (x y : WireNode)

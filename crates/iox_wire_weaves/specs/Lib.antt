@@ -1,7 +1,7 @@
 -- In reading order: how many messages ports keep and have outstanding; which calls are under way, when
 -- nodes died, and how many words of calls a wire keeps; what a wire is and when it shows a run of the
 -- machine; which node has a port, and which events are recorded; what a step and a death do to a wire, and
--- the begin of a call; the laws that it goes on showing a run; how many handles a node has at most; and that
+-- the begin of a call; the laws that it keeps showing a run; how many handles a node has at most; and that
 -- desks tell how many messages ports keep and have outstanding.
 pub mod PortCounts
 pub mod Replies

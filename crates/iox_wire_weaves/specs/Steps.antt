@@ -62,7 +62,7 @@ abbrev pub most_handles : List WireNode → ℕ → ℕ
 most_handles nodes n =
     option_map_or (λ x. x.node.seat.room + length x.node.seat.seat.table) (node_at n nodes) 0
 
--- The step of a node is the one access of its place: the words are those after it, the node goes on
+-- The step of a node is the one access of its place: the words are those after it, the node continues
 -- with what it found, in the call that it keeps, it may have as many handles as before, and all other
 -- nodes and the setting stay.
 pub record MakesOneAccess (p : Setting) (old : WireData) (n : ℕ) (new : WireData) : Type 0 where
@@ -135,8 +135,8 @@ abbrev pub recorded : WirePlan → List WireNode → ℕ → Option Event → Li
 recorded plan nodes n None = []
 recorded plan nodes n (Some event) = (n, with_serials (serial_of plan nodes) event) ∷ []
 
--- The run goes on by a step of the node, with these answers, in the same setting, and the wire shows the
--- run that goes on so.
+-- The run continues by a step of the node, with these answers, in the same setting, and the wire shows the
+-- run that continues so.
 pub record GoesOnByStep (p : Setting) (r : Run) (n : ℕ) (answers : List (ℕ × Reply))
     (new : WireData) : Type 0 where
   pub beats : List Beat
@@ -152,8 +152,8 @@ pub record GoesOnByStep (p : Setting) (r : Run) (n : ℕ) (answers : List (ℕ �
       → after.last.state.fixed.forgot n ≡ r.last.state.fixed.forgot n
   pub shows : Shows p new after
 
--- Each run that the wire showed goes on by a step of the node: at most one moment of the machine,
--- and then the end of its call with that answer. The wire shows the run that goes on so.
+-- Each run that the wire showed continues by a step of the node: at most one moment of the machine,
+-- and then the end of its call with that answer. The wire shows the run that continues so.
 abbrev pub StepIsWoven : WireData → ℕ → Progress NodeReply → WireData → Type 0
 StepIsWoven old n progress new =
     (p : Setting) (r : Run) → Shows p old r
@@ -161,7 +161,7 @@ StepIsWoven old n progress new =
 
 -- ---- a death
 
--- Each run that the wire showed goes on by the death of the node, and the wire shows that run.
+-- Each run that the wire showed continues by the death of the node, and the wire shows that run.
 abbrev pub DeathIsWoven : WireData → ℕ → WireData → Type 0
 DeathIsWoven old n new =
     (p : Setting) (r : Run) → Shows p old r

@@ -1,4 +1,4 @@
-//! When a wire shows a run of the machine, and that it goes on showing one.
+//! When a wire shows a run of the machine, and that it keeps showing one.
 //! The functions have nothing to do: each is there for its contract.
 #![tactic(auto)]
 
@@ -28,7 +28,7 @@ pub fn steps_are_safe()
     ensures { StepsAreSafe }
 {}
 
-/// After a step of a node the wire shows the run that goes on so.
+/// After a step of a node the wire shows the run that continues so.
 pub fn steps_show()
     ensures { StepsShow }
 {}

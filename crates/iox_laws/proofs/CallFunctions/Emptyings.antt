@@ -86,7 +86,7 @@ empties_at node during after f s w left (k ∷ ks) hand e =
     (subst (λ (v : State). Walks v node (during (w ∷ left)) (with_none s w (k ∷ ks)) (after (with_none s w (k ∷ ks)) left)) (sym (back_one s w k hand))
     (subst (λ (u : State). Walks t node (during (w ∷ left)) u (after u left)) (none_twice s w (rest_of (s.returned w)) d ks) rest)))
 
--- All ways are emptied, and then the call goes on.
+-- All ways are emptied, and then the call continues.
 pub empties_all : (node : ℕ) (during : List Way → Doing) (after : State → List Way → Doing) → IsEmptying node during after
     → (s : State) (ws : List Way) → NoneInHand s → Walks s node (after s ws) (emptied s ws) (after (emptied s ws) [])
 empties_all node during after f s [] none = stays _ _ _

@@ -33,7 +33,7 @@ use Rattle.iox_laws.proofs.MessageLaws.Readings.{told, IfTold, TellsSo, Shows, s
 use Rattle.iox_laws.proofs.MessageLaws.Sendings.{IsSent, start_carries}
 use Rattle.iox_laws.proofs.MessageLaws.WireHoldings.{had_as_delivered_on_wires}
 
--- what is left to do while a call goes on
+-- what is left to do while a call continues
 during_has : (P : Doing → Type 0) (w v : World) (node : ℕ) (call : Call) (c : Choice) (bs : List Beat) → StepsKeep node P → P (start w.state node c call)
     → IsDuring w node (wire_calls.Port call) c bs v → Has v node P
 during_has P w v node call c bs keeps first during =

@@ -25,7 +25,7 @@ use Rattle.iox_laws.proofs.ReplyLaws.Sending.{send_sees_full, send_sees_room, on
 use Rattle.iox_laws.proofs.ReplyLaws.Taking.{visit_leaves, again_leaves, visit_passes, visit_chooses, again_takes, took_told, judged_told}
 use Rattle.iox_laws.proofs.ReplyLaws.Ways.{any_in, any_without}
 
--- it takes from the way that it goes on with
+-- it takes from the way that it continues with
 takes_on : (s : State) (node : ℕ) (x : Receiver) (left : List Way) (seen : Bool) (v w : Way) (m : Message) → w ≡ v → Holds s (Take w m)
     → told (moved s (Take w m)) node (took s.fixed node x v m left seen) ≡ again_told s node x v left seen false
 takes_on s node x left seen v w m is =

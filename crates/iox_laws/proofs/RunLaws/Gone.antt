@@ -1,4 +1,4 @@
--- What rests goes on resting as a port goes, or its value is released.
+-- What rests keeps resting as a port goes, or its value is released.
 use Rattle.std.specs.Prelude.{◌≡◌, ℕ, ◌+◌, true, false, not, ◌&&◌, ◌==◌, nat_lt, nat_le, List, [], ◌∷◌, length, map, filter, None, refl}
 use Rattle.std.specs.List.{list_any}
 use Rattle.std.specs.Option.{option_map_or}

@@ -138,7 +138,7 @@ put-or-not s n (Delivering x last left count) (Deliver w m) y c = by_case (same_
 put-or-not s n d (Deliver w m) y c = absurd c
 put-or-not s n d m y c = inl refl
 
--- a send goes on delivering, and gives nothing back
+-- a send keeps delivering, and gives nothing back
 still-delivers : (s : State) (n : ℕ) (d : Doing) (m : Moment) (y : Way) → (next s n d m).condition → is_delivering d ≡ true → s.returned y ≡ []
     → (is_delivering (next s n d m).after ≡ true) × ((moved s m).returned y ≡ [])
 still-delivers s n (Delivering x last left count) (Deliver w m) y c e none = (refl, none)

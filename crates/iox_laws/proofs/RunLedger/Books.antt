@@ -63,7 +63,7 @@ pub record Books (s : State) : Type 0 where
 
 -- ---- how much is out
 
--- no more waits than the buffer, no more is had than may be, and nothing else is out
+-- no more waits than the buffer, no more is held than may be, and nothing else is out
 pub is-within : (s : State) (y : Way) → Calm s → Books s → has_ends s.fixed y ≡ true → out any s y (had_in s.fixed y) ≤ most_on s.fixed y
 is-within s y c b ends = elim (b.within y ends) as (λ u. out any s y (had_in s.fixed y) ≤ most_on s.fixed y) [
   | inl p ↦ p

@@ -22,7 +22,7 @@ use Rattle.iox_laws.proofs.WeaveLedger.Views.{not-equal}
 use Rattle.iox_laws.proofs.RunLedger.Rights.{is_loan_from, loaned_in, right_of, plus-rights}
 use Rattle.iox_laws.proofs.WeaveLaws.CallLaws.{put_at-else}
 
--- ---- what is had
+-- ---- what is held
 
 -- what changes no received handle
 pub held-same : (y : Way) (hs hs' : List Handle) (o : Outcome) → is_quiet_outcome o ≡ true → filter (has_received y) hs' ≡ filter (has_received y) hs

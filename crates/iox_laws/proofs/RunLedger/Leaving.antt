@@ -159,7 +159,7 @@ are-away s o r k e = ((o.has).away r k e).0
 
 -- ---- a port is made
 
--- of a way that a new port opens nothing waits, and nothing is had
+-- of a way that a new port opens nothing waits, and nothing is held
 nothing-yet : (s : State) (p : Port) (y : Way) → p.number ≡ s.fixed.next_number → Calm s → has_ends s.fixed y ≡ false → has_ends (with_port s.fixed p) y ≡ true
     → (s.waiting y ≡ []) × ((n : ℕ) → held_on y (s.fixed.handles n) None ≡ [])
 nothing-yet s p y is c off on = by_cases (any_at y.sender s.fixed.ports)

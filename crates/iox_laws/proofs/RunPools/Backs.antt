@@ -41,7 +41,7 @@ use Rattle.iox_laws.proofs.RunPools.Counting.{Kinds}
 
 -- ---- what is recorded
 
--- nothing is in hand, and what is recorded on a live way waits there, is had or was given back
+-- nothing is in hand, and what is recorded on a live way waits there, is held or was given back
 pub record Ledgered (s : State) : Type 0 where
   pub hand : (y : Way) → s.in_hand y ≡ []
   pub out : (y : Way) (k : ℕ) → is_live s.fixed y ≡ true → s.delivered y k ≡ true → IsAmong k (out_on (at_work s) y)

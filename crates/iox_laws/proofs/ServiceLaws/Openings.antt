@@ -1,4 +1,4 @@
--- What is told of a call as it begins.
+-- What is known about a call as it begins.
 use Rattle.std.specs.Prelude.{◌≡◌, ℕ, ◌*◌, Bool, true, false, not, if◌then◌else◌, ◌==◌, nat_le, List, ◌++◌, map, Option, Some, None, refl}
 use Rattle.std.specs.Option.{option_map_or}
 use Rattle.std.proofs.Common.{sym, ap, ◌∙◌, eqb-true, true≢false}

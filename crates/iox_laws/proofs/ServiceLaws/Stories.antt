@@ -1,4 +1,4 @@
--- What is told of a call as it goes on: of what it got back or took until it is refused, and of the
+-- What is known about a call as it continues: of what it got back or took until it is refused, and of the
 -- loan that it sends or fills.
 use Rattle.std.specs.Prelude.{◌≡◌, ℕ, Bool, true, false, if◌then◌else◌, ◌==◌, List, [], ◌∷◌, map, Option, Some, None, refl}
 use Rattle.std.specs.List.{list_any}

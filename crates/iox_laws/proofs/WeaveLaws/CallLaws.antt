@@ -75,7 +75,7 @@ beat_keeps node P keeps w v (Ends n reply payload) beat goes has =
     ∙ put_at-else w.doing n None node (eqb-flip n node (not-true (n == node) goes)))
 beat_keeps node P keeps w v (Dies n) beat goes has = stays_at node P w v has (ap (λ (x : World). x.doing node) beat.1)
 
--- A property that each moment of a call keeps lasts as long as the call goes on.
+-- A property that each moment of a call keeps lasts as long as the call continues.
 pub along : (node : ℕ) (P : Doing → Type 0) → StepsKeep node P → (w v : World) (bs : List Beat) → IsWeave w bs v
     → list_all (goes_on_by node) bs ≡ true → Has w node P → Has v node P
 along node P keeps w v [] weave goes has = stays_at node P w v has (ap (λ (x : World). x.doing node) weave)

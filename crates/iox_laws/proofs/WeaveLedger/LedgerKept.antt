@@ -132,7 +132,7 @@ begun-had w node r d y idle there live well = by_case (r == node) refl
         ∙ ap (held_on y (w.state.fixed.handles r)) (sym (ap w.doing same ∙ idle))
     by_case false e = refl
 
--- where the state, what is had and what is emptied stay
+-- where the state, what is held and what is emptied stay
 begun-balanced : (w : World) (node n r : ℕ) (d : Doing) (y : Way) → w.doing node ≡ None → IsAt w.state.fixed.ports y.receiver r → IsLive w.state.fixed y
     → BeginsWell w.state.fixed node y d → Balanced w.state.fixed w.state w.doing y n r → Balanced w.state.fixed w.state (put_at w.doing node (Some d)) y n r
 begun-balanced w node n r d y idle there live well p = record {

@@ -18,7 +18,7 @@ use Rattle.iox_laws.proofs.WeaveLedger.Had.{put_on, taken_on, given_on, got_on}
 abbrev pub out : (ℕ → Bool) → State → Way → List ℕ → ℕ
 out value s y had = count value (serials_of (s.waiting y)) + count value had + count value (s.returned y) + count value (s.in_hand y)
 
--- the same but for what is had, from one state to the next
+-- the same but for what is held, from one state to the next
 abbrev pub Shifts : (ℕ → Bool) → State → State → Way → Moment → Type 0
 Shifts value s u y m =
     count value (serials_of (u.waiting y)) + count value (taken_on y m) + count value (u.returned y) + count value (u.in_hand y) + count value (got_on y m)

@@ -196,7 +196,7 @@ asked-same q x shown =
     (Ended (Sends x.loan x.copied 0))
     (λ u. emptying-same q x (targets x)) (λ u. refl)
 
--- a call that holds nothing, or goes on holding it
+-- a call that holds nothing, or keeps holding it
 pub next-stays : (s : State) (n q k : ℕ) (d : Doing) (m : Moment) → (next s n d m).condition → has_number k (under_way q d) ≡ true
     → has_number k (under_way q (next s n d m).after) ≡ true
 next-stays s n q k (Asking x) (Look w shown) c e = ap (has_number k) (asked-same q x shown) ∙ e

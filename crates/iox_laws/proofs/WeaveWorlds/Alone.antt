@@ -101,7 +101,7 @@ returning_ends s node h =
 
 -- ---- receives
 
--- once a receive took a message, and goes on where that does not fit
+-- once a receive took a message, and continues where that does not fit
 stale_ends : (s : State) (node : ℕ) (x : Receiver) (w : Way) (m : Message) (left : List Way) (seen : Bool)
     → ((t : State) → t.waiting w ≡ s.waiting w → CanEnd t node (Again x w left seen)) → CanEnd s node (Stale x w m left seen)
 stale_ends s node x w m left seen again =

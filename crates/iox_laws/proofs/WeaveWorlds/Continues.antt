@@ -1,4 +1,4 @@
--- What a call goes on to do can be done, where what it did could.
+-- What a call still has to do can be done, where what it did could.
 use Rattle.std.specs.Prelude.{◌≡◌, ℕ, ◌+◌, Bool, true, false, if◌then◌else◌, ◌==◌, nat_lt, nat_le, List, [], ◌∷◌, length, map, Option, None, refl}
 use Rattle.std.specs.List.{list_any}
 use Rattle.std.proofs.Common.{sym, ap, ◌∙◌, true≢false, arith, subst, eqb-true}

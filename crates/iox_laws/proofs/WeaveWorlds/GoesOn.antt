@@ -1,4 +1,4 @@
--- Whoever has something to do that can be done goes on: a moment of the call may come, or the call may end.
+-- Whoever has something to do that can be done continues: a moment of the call may come, or the call may end.
 use Rattle.std.specs.Prelude.{◌≡◌, ℕ, ◌*◌, Bool, true, false, not, if◌then◌else◌, List, [], ◌∷◌, ◌++◌, length, Option, Some, None, ◌⊎◌, refl}
 use Rattle.std.proofs.Common.{sym, subst, ap, true≢false, inl, inr, suc, zero}
 use Rattle.iox_model.specs.declared.way.Way.{Way}

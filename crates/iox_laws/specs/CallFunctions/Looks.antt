@@ -23,13 +23,13 @@ use Rattle.iox_laws.specs.CallFunctions.Answers.{answered, unless_misnamed, refu
 abbrev pub waits_on : State → List Way → Bool
 waits_on s ws = list_any (λ w. not (is_empty (s.waiting w))) ws
 
--- what a server is told of its clients' ways
+-- what a server is told about its clients' ways
 abbrev pub sought_by_server : State → Option Subject → Outcome × State
 sought_by_server s (Some (ThePort p)) = (Tells (Answer (waits_on s (server_ways s.fixed p))), s)
 sought_by_server s (Some (TheHandle h)) = refusing WrongKind s
 sought_by_server s None = refusing UnknownNumber s
 
--- what a pending response is told of its servers' ways
+-- what a pending response is told about its servers' ways
 abbrev pub sought_by_pending : State → Handle → Outcome × State
 sought_by_pending s h = (Tells (Answer (waits_on s (pending_ways s.fixed h))), s)
 

@@ -91,7 +91,7 @@ impl DynamicConfig {
         self.readers.len()
     }
 
-    /// Calls `callback` with what is told of each reader, as far as it says `Continue`.
+    /// Calls `callback` with what is known about each reader, as far as it says `Continue`.
     pub fn list_readers<F: FnMut(&ReaderDetails) -> CallbackProgression>(&self, callback: F)
         requires { F.IsAlwaysCallable callback }
         ensures { VisitsInOrder (CalledAt F.FnMut) callback (listed self.now.readers) }
@@ -137,7 +137,7 @@ impl DynamicConfig {
         self.writers.len()
     }
 
-    /// Calls `callback` with what is told of each writer, as far as it says `Continue`.
+    /// Calls `callback` with what is known about each writer, as far as it says `Continue`.
     pub fn list_writers<F: FnMut(&WriterDetails) -> CallbackProgression>(&self, callback: F)
         requires { F.IsAlwaysCallable callback }
         ensures { VisitsInOrder (CalledAt F.FnMut) callback (listed self.now.writers) }

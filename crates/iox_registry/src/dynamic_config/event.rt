@@ -94,7 +94,7 @@ impl DynamicConfig {
         self.notifiers.len()
     }
 
-    /// Calls `callback` with what is told of each notifier, as far as it says `Continue`.
+    /// Calls `callback` with what is known about each notifier, as far as it says `Continue`.
     pub fn list_notifiers<F: FnMut(&NotifierDetails) -> CallbackProgression>(&self, callback: F)
         requires { F.IsAlwaysCallable callback }
         ensures { VisitsInOrder (CalledAt F.FnMut) callback (listed self.now.notifiers) }
@@ -140,7 +140,7 @@ impl DynamicConfig {
         self.listeners.len()
     }
 
-    /// Calls `callback` with what is told of each listener, as far as it says `Continue`.
+    /// Calls `callback` with what is known about each listener, as far as it says `Continue`.
     pub fn list_listeners<F: FnMut(&ListenerDetails) -> CallbackProgression>(&self, callback: F)
         requires { F.IsAlwaysCallable callback }
         ensures { VisitsInOrder (CalledAt F.FnMut) callback (listed self.now.listeners) }

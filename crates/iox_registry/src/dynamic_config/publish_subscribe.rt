@@ -95,7 +95,7 @@ impl DynamicConfig {
         self.publishers.len()
     }
 
-    /// Calls `callback` with what is told of each publisher, as far as it says `Continue`.
+    /// Calls `callback` with what is known about each publisher, as far as it says `Continue`.
     pub fn list_publishers<F: FnMut(&PublisherDetails) -> CallbackProgression>(&self, callback: F)
         requires { F.IsAlwaysCallable callback }
         ensures { VisitsInOrder (CalledAt F.FnMut) callback (listed self.now.publishers) }
@@ -142,7 +142,7 @@ impl DynamicConfig {
         self.subscribers.len()
     }
 
-    /// Calls `callback` with what is told of each subscriber, as far as it says `Continue`.
+    /// Calls `callback` with what is known about each subscriber, as far as it says `Continue`.
     pub fn list_subscribers<F: FnMut(&SubscriberDetails) -> CallbackProgression>(&self, callback: F)
         requires { F.IsAlwaysCallable callback }
         ensures { VisitsInOrder (CalledAt F.FnMut) callback (listed self.now.subscribers) }

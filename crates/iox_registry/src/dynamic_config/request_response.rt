@@ -92,7 +92,7 @@ impl DynamicConfig {
         self.clients.len()
     }
 
-    /// Calls `callback` with what is told of each client, as far as it says `Continue`.
+    /// Calls `callback` with what is known about each client, as far as it says `Continue`.
     pub fn list_clients<F: FnMut(&ClientDetails) -> CallbackProgression>(&self, callback: F)
         requires { F.IsAlwaysCallable callback }
         ensures { VisitsInOrder (CalledAt F.FnMut) callback (listed self.now.clients) }
@@ -138,7 +138,7 @@ impl DynamicConfig {
         self.servers.len()
     }
 
-    /// Calls `callback` with what is told of each server, as far as it says `Continue`.
+    /// Calls `callback` with what is known about each server, as far as it says `Continue`.
     pub fn list_servers<F: FnMut(&ServerDetails) -> CallbackProgression>(&self, callback: F)
         requires { F.IsAlwaysCallable callback }
         ensures { VisitsInOrder (CalledAt F.FnMut) callback (listed self.now.servers) }

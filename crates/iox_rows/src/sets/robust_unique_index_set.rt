@@ -124,7 +124,7 @@ fn the_lowest_free_index_is_taken(rt: HostRuntime) -> Result<(), Fail> {
     Ok(())
 }
 
-/// Two owners take indices in turn, and the first is recovered, but for its first.
+/// Two owners take indices one after another, and the first is recovered, but for its first.
 fn first_is_recovered(
     rt: &impl Abort,
     set: &mut StaticRobustUniqueIndexSet<70>,

@@ -6,7 +6,7 @@ use iox_registry::details::{
 };
 use iox_types::identifiers::{UniqueId, UniqueNodeIdError};
 
-/// What is told of a client of the process.
+/// What is known about a client of the process.
 pub fn client(process: u32) -> Result<ClientDetails, UniqueNodeIdError> {
     Ok(ClientDetails {
         client_id: UniqueId::new(system_id(process, 3)),
@@ -19,7 +19,7 @@ pub fn client(process: u32) -> Result<ClientDetails, UniqueNodeIdError> {
     })
 }
 
-/// What is told of a server of the process.
+/// What is known about a server of the process.
 pub fn server(process: u32) -> Result<ServerDetails, UniqueNodeIdError> {
     Ok(ServerDetails {
         server_id: UniqueId::new(system_id(process, 3)),
@@ -32,7 +32,7 @@ pub fn server(process: u32) -> Result<ServerDetails, UniqueNodeIdError> {
     })
 }
 
-/// What is told of a publisher of the process.
+/// What is known about a publisher of the process.
 pub fn publisher(process: u32) -> Result<PublisherDetails, UniqueNodeIdError> {
     Ok(PublisherDetails {
         publisher_id: UniqueId::new(system_id(process, 3)),
@@ -44,7 +44,7 @@ pub fn publisher(process: u32) -> Result<PublisherDetails, UniqueNodeIdError> {
     })
 }
 
-/// What is told of a subscriber of the process.
+/// What is known about a subscriber of the process.
 pub fn subscriber(process: u32) -> Result<SubscriberDetails, UniqueNodeIdError> {
     Ok(SubscriberDetails {
         subscriber_id: UniqueId::new(system_id(process, 3)),
@@ -53,7 +53,7 @@ pub fn subscriber(process: u32) -> Result<SubscriberDetails, UniqueNodeIdError> 
     })
 }
 
-/// What is told of a notifier of the process.
+/// What is known about a notifier of the process.
 pub fn notifier(process: u32) -> Result<NotifierDetails, UniqueNodeIdError> {
     Ok(NotifierDetails {
         notifier_id: UniqueId::new(system_id(process, 3)),
@@ -61,7 +61,7 @@ pub fn notifier(process: u32) -> Result<NotifierDetails, UniqueNodeIdError> {
     })
 }
 
-/// What is told of a listener of the process.
+/// What is known about a listener of the process.
 pub fn listener(process: u32) -> Result<ListenerDetails, UniqueNodeIdError> {
     Ok(ListenerDetails {
         listener_id: UniqueId::new(system_id(process, 3)),
@@ -69,7 +69,7 @@ pub fn listener(process: u32) -> Result<ListenerDetails, UniqueNodeIdError> {
     })
 }
 
-/// What is told of a reader of the process.
+/// What is known about a reader of the process.
 pub fn reader(process: u32) -> Result<ReaderDetails, UniqueNodeIdError> {
     Ok(ReaderDetails {
         reader_id: UniqueId::new(system_id(process, 3)),
@@ -77,7 +77,7 @@ pub fn reader(process: u32) -> Result<ReaderDetails, UniqueNodeIdError> {
     })
 }
 
-/// What is told of a writer of the process.
+/// What is known about a writer of the process.
 pub fn writer(process: u32) -> Result<WriterDetails, UniqueNodeIdError> {
     Ok(WriterDetails {
         writer_id: UniqueId::new(system_id(process, 3)),

@@ -9,7 +9,7 @@ use std::process::Abort;
 pub enum Deed {
     /// The party begins a call.
     Begins(usize, CellCall<u128>),
-    /// The next access of the party's call goes on.
+    /// The next access of the party's call continues.
     Goes(usize),
     /// The party's call ends at the access of this number, with this reply.
     Ends(usize, usize, CellReply<u128>),

@@ -19,7 +19,7 @@ fn machine_of(alloc: Global, filled: u64) -> Result<AtomicMachine<2>, AllocError
 enum Deed {
     /// The party begins a call.
     Begins(usize, AtomicCall<2>),
-    /// The next access of the party's call goes on.
+    /// The next access of the party's call continues.
     Goes(usize),
     /// The party's call ends at the access of this number, with this reply.
     Ends(usize, usize, AtomicReply<2>),

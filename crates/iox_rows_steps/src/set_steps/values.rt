@@ -18,7 +18,7 @@ fn machine_of(alloc: Global, value: u128) -> Result<ValueMachine<u128, 2>, Alloc
 enum Deed {
     /// The party begins a call.
     Begins(usize, ValueCall<u128>),
-    /// The next access of the party's call goes on.
+    /// The next access of the party's call continues.
     Goes(usize),
     /// The party's call ends at the access of this number, with this reply.
     Ends(usize, usize, ValueReply<u128>),

@@ -53,7 +53,7 @@ fn servers(service: &TheService) -> Seen {
     seen
 }
 
-/// What is told of nodes, clients and servers.
+/// What is known about nodes, clients and servers.
 type AllSeen = (Seen, Seen, Seen);
 
 /// Asks a new service in this way. Then it is open, and tells these ids.

@@ -1,4 +1,4 @@
--- No slot is had more often than each lane and each handle once.
+-- No slot is held more often than each lane and each handle once.
 use Rattle.std.specs.Prelude.{◌≡◌, ℕ, ◌+◌, ◌<◌, ◌≤◌, ◌^◌, Bool, true, false, if◌then◌else◌, ◌==◌, List, [], ◌∷◌, length}
 use Rattle.std.proofs.Common.{arith}
 use Rattle.iox_lanes.specs.Lanes.{LaneState}

@@ -61,7 +61,7 @@ module _ (t : HubTables) (order : AreInOrder t) (node n : ℕ) (h : HandleState)
     sent = record t { calls = calls; ports = ports; handles = hs; pools = pools }
 
     module _ (counted : HoldersAreCounted sent) where
-      -- nothing else is had by more
+      -- nothing else is held by more
       elsewhere : (pool k : ℕ) → is_at pool k h ≡ false → (slot_at pools pool k).holders ≤ (slot_at t.pools pool k).holders
       elsewhere pool k off =
           let new = counted pool k in

@@ -70,7 +70,7 @@ DroppedHandlesCount =
 
 -- ---- bounds
 
--- No slot is had more often than each lane and each handle once.
+-- No slot is held more often than each lane and each handle once.
 abbrev pub UsesAreBounded : Type 0
 UsesAreBounded =
     (t : HubTables) (pool k : ℕ) → AreInOrder t → uses t pool k ≤ most_holders t

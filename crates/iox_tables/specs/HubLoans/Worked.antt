@@ -40,7 +40,7 @@ one_word = record {
   element_part = part_of_words 1;
 }
 
--- no node is told of, and no message has words yet
+-- no node is told about, and no message has words yet
 abbrev pub no_words : Given
 no_words = record {
   members = record { nodes = []; joins = 0; closed = false };

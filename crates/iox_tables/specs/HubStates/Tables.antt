@@ -52,7 +52,7 @@ slot_at pools place k = option_map_or (λ s. s) (slice_get (slots_of pools place
 abbrev pub owner_of : List (Option PoolState) → ℕ → ℕ
 owner_of pools place = option_map_or (λ p. p.port) (pool_at pools place) 0
 
--- what a receiver is told of a message before it takes it
+-- what a receiver is told about a message before it takes it
 abbrev pub labels_of : List (Option PoolState) → LabelsByPlace
 labels_of pools place k =
     record { lane = (slot_at pools place k).lane; request = (slot_at pools place k).request }

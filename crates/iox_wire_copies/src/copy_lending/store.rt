@@ -13,7 +13,7 @@ impl CopyLending {
     ghost use Rattle.iox_wire_copies.specs.CopyAims.{GoesOn, HoldsMade, IsLending, IsLoanOfOrder};
     ghost use Rattle.iox_wire_copies.specs.CopyAims.{IsMadeAt, IsSameCopy, IsWriting, StaysAimed};
 
-    /// A word in front of the payload is stored. With the last it goes on to the payload, and
+    /// A word in front of the payload is stored. With the last it continues with the payload, and
     /// without one it is over.
     #[inline(always)]
     pub(super) fn store_on(&mut self, seat: &mut StoredSeat) -> Option<CopyLent>

@@ -29,7 +29,7 @@ impl CopyingClient {
     ghost use Rattle.iox_wire_copies.specs.CopyCalls.{IsAimed, KnowsServersOnLane, TellsOfSlotAndLane};
     ghost use Rattle.iox_wire_copies.specs.Payloads.{SlotsHold};
 
-    /// Is told of the servers to which it sends. No copy may be under way.
+    /// Is told about the servers to which it sends. No copy may be under way.
     pub fn prepare(&mut self, terms: RequestTerms, targets: &[Target])
         requires rests { is_busy self.old.local ≡ false }
         requires within { AreWithin terms targets.now }
@@ -43,9 +43,9 @@ impl CopyingClient {
         self.sends.prepare(terms, targets)
     }
 
-    /// Begins to copy a request of these words, to the servers that it was told of: it gets back on
-    /// these ways first. Without a number of elements the words are not of whole elements. Where
-    /// the client has no free lane it need be told of no server. No copy may be under way.
+    /// Begins to copy a request of these words, to the servers that it was told about: it gets back
+    /// on these ways first. Without a number of elements the words are not of whole elements. Where
+    /// the client has no free lane it need be told about no server. No copy may be under way.
     pub fn begin(
         &mut self,
         seat: &mut StoredSeat,

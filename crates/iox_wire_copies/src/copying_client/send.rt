@@ -1,4 +1,4 @@
-//! The copy of a request goes on from its loan to its send.
+//! The copy of a request continues from its loan to its send.
 ghost use Rattle.std.specs.Prelude.{◌≡◌};
 
 use super::CopyingClient;

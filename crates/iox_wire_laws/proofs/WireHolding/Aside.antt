@@ -178,7 +178,7 @@ entries_may_be_put_aside p held word c seats w n e shows living is has none = (
     beyond : (a b : ℕ) → a ≤ a + b
     beyond a b = omega arith
 
--- ---- how it goes on
+-- ---- how it continues
 
 pub shown_nodes_run_the_same : ShownNodesRunTheSame
 shown_nodes_run_the_same p x = by_place x.local refl

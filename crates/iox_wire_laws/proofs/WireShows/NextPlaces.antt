@@ -1,4 +1,4 @@
--- Each access leads to a place that goes on with the program, or begins another once that is over.
+-- Each access leads to a place that continues with the program, or begins another once that is over.
 use Rattle.std.proofs.Common.{◌≡◌, ℕ, ◌⊎◌, inl, inr, Bool, true, false, if◌then◌else◌, ◌==◌, Option, Some, None, refl}
 use Rattle.iox_steps.specs.declared.push.Push.{Push}
 use Rattle.iox_steps.specs.declared.push.Push.TheVariants as push
@@ -28,7 +28,7 @@ use Rattle.iox_wire_locals.specs.Tables.{Setting}
 use Rattle.iox_wire_locals.specs.Locals.{program_of}
 use Rattle.iox_wire_laws.proofs.WireKeeping.CourseLeads.{FreshAt}
 
--- the node's place goes on with that program, or begins another as that is over
+-- the node's place continues with that program, or begins another as that is over
 abbrev pub Follows : Setting → Program → Seat → Type 0
 Follows p after y = (program_of p y.local ≡ after) ⊎ (IsOver after × FreshAt p y)
 
@@ -92,7 +92,7 @@ module _ (p : Setting) (q : WireQueue) where
         at_read true = inr (refl, full)
         at_read false = inr (refl, room)
 
-    -- the push goes on at its place whatever it sees of the positions
+    -- the push continues at its place whatever it sees of the positions
     abbrev pub Watches : Type 0
     Watches =
         (place : Pushing) → (program_of p (f place SeesFull).local ≡ Pushes q place)

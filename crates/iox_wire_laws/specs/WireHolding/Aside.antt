@@ -70,7 +70,7 @@ abbrev pub ShownNodesRunTheSame : Type 0
 ShownNodesRunTheSame =
     (p : Setting) (x : Seat) → program_of p (shown p x).local ≡ program_of p x.local
 
--- The release of what was received goes on from there alike, and once it is over the node is shown
+-- The release of what was received continues from there alike, and once it is over the node is shown
 -- as it is.
 abbrev pub ReleasesGoOnAlike : Type 0
 ReleasesGoOnAlike =

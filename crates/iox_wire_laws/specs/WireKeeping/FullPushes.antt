@@ -1,4 +1,4 @@
--- What the words tell of a push: it goes on at a full queue only where messages overflow.
+-- What the words tell of a push: it continues at a full queue only where messages overflow.
 use Rattle.std.specs.Prelude.{◌≡◌, ℕ, true, List, Option, Some, None}
 use Rattle.iox_model.specs.declared.way.Way.{Way}
 use Rattle.iox_model.specs.Joins.{not_living}
@@ -16,7 +16,7 @@ use Rattle.iox_wire_locals.specs.Tables.{Setting}
 use Rattle.iox_wire_locals.specs.Known.{sending}
 use Rattle.iox_wire_laws.specs.WireKeeping.Shows.{ShowsWorld}
 
--- A push that found its queue full and goes on is one of a send whose messages overflow.
+-- A push that found its queue full and continues is one of a send whose messages overflow.
 abbrev pub FullPushesOverflow : Type 0
 FullPushesOverflow =
     (p : Setting) (held : Pools) (word : ℕ → ℕ) (c : WireContents) (seats : ℕ → Seat) (w : World)

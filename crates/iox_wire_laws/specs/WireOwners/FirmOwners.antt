@@ -49,7 +49,7 @@ OthersLeaveFirm =
 abbrev pub FirmOwnersStay : Type 0
 FirmOwnersStay = StayOwners OwnsFirmly
 
--- Where the call of a living node owns its place firmly, it goes on, and owns its next place as
+-- Where the call of a living node owns its place firmly, it continues, and owns its next place as
 -- firmly.
 abbrev pub FirmOwnersGoOn : Type 0
 FirmOwnersGoOn = GoOnAsOwners OwnsFirmly

@@ -82,6 +82,6 @@ GoOnAsOwners owns =
 abbrev pub OwnersStayOwners : Type 0
 OwnersStayOwners = StayOwners Owns
 
--- And a node whose call owns its place goes on.
+-- And a node whose call owns its place continues.
 abbrev pub OwnersGoOn : Type 0
 OwnersGoOn = GoOnAsOwners Owns

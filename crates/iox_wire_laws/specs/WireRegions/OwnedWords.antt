@@ -26,7 +26,7 @@ use Rattle.iox_wire_laws.specs.WireRegions.Regions.{HasRegion, words_of_longest,
 abbrev pub send_to : Entry → List ℕ → Delivery
 send_to e to = record { loan = e; copied = true; to = to }
 
--- What the send owns with which a call goes on that made its loan: a request goes to all servers
+-- What the send owns with which a call continues that made its loan: a request goes to all servers
 -- that the node did not forget, a response to its client, unless that is forgotten.
 pub record OwnsCopy (p : Setting) (node : ℕ) (f : Fixed) (e : Entry) : Type 0 where
   pub request : is_request_loan e.kind ≡ true

@@ -16,7 +16,7 @@ use Rattle.iox_wire_locals.specs.Steps.{advance, accessed}
 use Rattle.iox_wire_laws.specs.WireKeeping.Shows.{ShowsWorld, OwnsPlace, programs_of}
 
 -- Where words and seats show a world, the next access of a living node leaves words that fit all
--- programs again: the node's next place goes on with its program, or begins another once that is
+-- programs again: the node's next place continues with its program, or begins another once that is
 -- over.
 abbrev pub NextProgramsFit : Type 0
 NextProgramsFit =

@@ -1,4 +1,4 @@
-//! How a receive begins, and goes on to its next way.
+//! How a receive begins, and continues to its next way.
 ghost use Rattle.std.specs.Prelude.{◌≡◌};
 ghost use Rattle.iox_model.specs.Settings.{other_role};
 ghost use Rattle.iox_wire_locals.specs.Stored.{header_length as words_of_header};

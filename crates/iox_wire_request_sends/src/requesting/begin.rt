@@ -51,7 +51,7 @@ impl Requesting {
         self.start(seat, loan, false);
     }
 
-    /// Is told of the servers, to which it sends later. No send may be under way.
+    /// Is told about the servers, to which it sends later. No send may be under way.
     pub fn prepare(&mut self, terms: RequestTerms, targets: &[Target])
         requires rests { is_busy self.old.local ≡ false }
         requires within { AreWithin terms targets.now }

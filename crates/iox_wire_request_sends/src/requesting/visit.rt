@@ -1,4 +1,4 @@
-//! How the send of a request goes on to the next server, in each of its rounds.
+//! How the send of a request continues to the next server, in each of its rounds.
 ghost use Rattle.std.specs.Prelude.{◌≡◌};
 
 use super::Requesting;

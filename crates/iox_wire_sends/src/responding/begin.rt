@@ -35,7 +35,7 @@ impl Responding {
         self.start(seat, loan, false);
     }
 
-    /// Is told of the way on which it sends later. No send may be under way.
+    /// Is told about the way on which it sends later. No send may be under way.
     pub fn prepare(&mut self, terms: ResponseTerms)
         requires rests { is_busy self.old.local ≡ false }
         requires messages { IsInMemory terms.messages }
