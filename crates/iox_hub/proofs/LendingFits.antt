@@ -57,47 +57,47 @@ module _ (words : List (Option Carried)) (pool k : ℕ) (z : StoredMessage) wher
 
   -- ---- handles
 
-  module _ {many : Bool × Bool} where
-    pub suits_else : (h : HandleState) → is_place pool k h.pool h.slot ≡ false → SuitsHandle many words h → SuitsHandle many new h
-    suits_else h other is = record {
+  -- whatever is filled, in the handle's own slot or in another, the elements stay
+  elements_stay : k < count_in words pool → z.elements ≡ (stored_in words pool k).elements → (p j : ℕ)
+      → (stored_in new p j).elements ≡ (stored_in words p j).elements
+  elements_stay low same p j = step (p == pool) (j == k) refl refl
+    where
+      step : (a b : Bool) → (p == pool) ≡ a → (j == k) ≡ b → (stored_in new p j).elements ≡ (stored_in words p j).elements
+      step true true ea eb =
+          ap (λ (s : StoredMessage). s.elements)
+          (ap (stored_in new p) (eqb-true j k eb) ∙ ap (λ q. stored_in new q k) (eqb-true p pool ea) ∙ stored_new words pool k z low)
+          ∙ same
+          ∙ ap (λ (s : StoredMessage). s.elements) (sym (ap (stored_in words p) (eqb-true j k eb) ∙ ap (λ q. stored_in words q k) (eqb-true p pool ea)))
+      step true false ea eb = ap (λ (s : StoredMessage). s.elements) (stored_else words pool k z p j (ap (λ a. a && (j == k)) ea ∙ eb))
+      step false b ea eb = ap (λ (s : StoredMessage). s.elements) (stored_else words pool k z p j (ap (λ a. a && (j == k)) ea))
+
+  pub suits_else : {many : Bool × Bool} (h : HandleState) → is_place pool k h.pool h.slot ≡ false → SuitsHandle many words h → SuitsHandle many new h
+  suits_else h other is = record {
+    kind = requests_new words pool k z h.pool ∙ is.kind;
+    one = λ e one. subst (λ (s : StoredMessage). s.elements ≡ 1) (sym (stored_else words pool k z h.pool h.slot other)) (is.one e one);
+    full = λ e. subst (λ (s : StoredMessage). s.filled ≡ s.elements) (sym (stored_else words pool k z h.pool h.slot other)) (is.full e);
+  }
+
+  -- where nobody has the slot, each handle has what it had
+  pub each_suits_else : (many : Bool × Bool) (hs : List HandleState) → list_any (λ h. is_place pool k h.pool h.slot) hs ≡ false
+      → OfEachHandle (SuitsHandle many words) hs → OfEachHandle (SuitsHandle many new) hs
+  each_suits_else many [] none all = tt
+  each_suits_else many (h ∷ hs) none all =
+      let both = or_false (is_place pool k h.pool h.slot) (list_any (λ h. is_place pool k h.pool h.slot) hs) none in
+      (suits_else h both.0 all.0, each_suits_else many hs both.1 all.1)
+
+  -- where as many are filled as there were, each handle still has what it asks
+  module _ (low : k < count_in words pool) (all : z.filled ≡ z.elements) (same : z.elements ≡ (stored_in words pool k).elements) where
+    suits_full : {many : Bool × Bool} (h : HandleState) → SuitsHandle many words h → SuitsHandle many new h
+    suits_full h is = record {
       kind = requests_new words pool k z h.pool ∙ is.kind;
-      one = λ e one. subst (λ (s : StoredMessage). s.elements ≡ 1) (sym (stored_else words pool k z h.pool h.slot other)) (is.one e one);
-      full = λ e. subst (λ (s : StoredMessage). s.filled ≡ s.elements) (sym (stored_else words pool k z h.pool h.slot other)) (is.full e);
+      one = λ e one. elements_stay low same h.pool h.slot ∙ is.one e one;
+      full = λ e. each_stored (λ (s : StoredMessage). s.filled ≡ s.elements) low all h.pool h.slot (is.full e);
     }
 
-    -- where nobody has the slot, each handle has what it had
-    pub each_suits_else : (hs : List HandleState) → list_any (λ h. is_place pool k h.pool h.slot) hs ≡ false → OfEachHandle (SuitsHandle many words) hs
-        → OfEachHandle (SuitsHandle many new) hs
-    each_suits_else [] none all = tt
-    each_suits_else (h ∷ hs) none all =
-        let both = or_false (is_place pool k h.pool h.slot) (list_any (λ h. is_place pool k h.pool h.slot) hs) none in
-        (suits_else h both.0 all.0, each_suits_else hs both.1 all.1)
-
-    -- whatever is filled, in the handle's own slot or in another
-    module _ (low : k < count_in words pool) (all : z.filled ≡ z.elements) (same : z.elements ≡ (stored_in words pool k).elements) where
-      elements_stay : (p j : ℕ) → (stored_in new p j).elements ≡ (stored_in words p j).elements
-      elements_stay p j = step (p == pool) (j == k) refl refl
-        where
-          step : (a b : Bool) → (p == pool) ≡ a → (j == k) ≡ b → (stored_in new p j).elements ≡ (stored_in words p j).elements
-          step true true ea eb =
-              ap (λ (s : StoredMessage). s.elements)
-              (ap (stored_in new p) (eqb-true j k eb) ∙ ap (λ q. stored_in new q k) (eqb-true p pool ea) ∙ stored_new words pool k z low)
-              ∙ same
-              ∙ ap (λ (s : StoredMessage). s.elements) (sym (ap (stored_in words p) (eqb-true j k eb) ∙ ap (λ q. stored_in words q k) (eqb-true p pool ea)))
-          step true false ea eb = ap (λ (s : StoredMessage). s.elements) (stored_else words pool k z p j (ap (λ a. a && (j == k)) ea ∙ eb))
-          step false b ea eb = ap (λ (s : StoredMessage). s.elements) (stored_else words pool k z p j (ap (λ a. a && (j == k)) ea))
-
-      suits_full : (h : HandleState) → SuitsHandle many words h → SuitsHandle many new h
-      suits_full h is = record {
-        kind = requests_new words pool k z h.pool ∙ is.kind;
-        one = λ e one. elements_stay h.pool h.slot ∙ is.one e one;
-        full = λ e. each_stored (λ (s : StoredMessage). s.filled ≡ s.elements) low all h.pool h.slot (is.full e);
-      }
-
-      -- where all is filled, each handle still has what it asks
-      pub each_suits_full : (hs : List HandleState) → OfEachHandle (SuitsHandle many words) hs → OfEachHandle (SuitsHandle many new) hs
-      each_suits_full [] each = tt
-      each_suits_full (h ∷ hs) each = (suits_full h each.0, each_suits_full hs each.1)
+    pub each_suits_full : (many : Bool × Bool) (hs : List HandleState) → OfEachHandle (SuitsHandle many words) hs → OfEachHandle (SuitsHandle many new) hs
+    each_suits_full many [] each = tt
+    each_suits_full many (h ∷ hs) each = (suits_full h each.0, each_suits_full many hs each.1)
 
   -- ---- all
 

@@ -185,7 +185,7 @@ module _ {many : Bool × Bool} (words : List (Option Carried)) (t : HubTables) (
         (put_pools t.pools y.port.pool slot (loaned_slot y k))
         (lenders_were_there t.ports y.port.number)
         (each_last (SuitsHandle many (with_message words y.port.pool slot z)) t.handles handle
-        (each_suits_else words y.port.pool slot z t.handles unused.handles fit.handles) loan_suits)
+        (each_suits_else words y.port.pool slot z many t.handles unused.handles fit.handles) loan_suits)
 
 -- ---- the words of a new loan
 

@@ -236,7 +236,7 @@ module _ (role : Role) {h : HubState} (hub : IsHub h) (node n : ℕ) (loan : IsL
         (fits_message h.words k.pool k.slot z t (with_kind t k (filled_kind k.kind)) hub.words loan_within (λ place. refl)
         (elements ∙ loan_elements) (λ p j other. refl) (pools_stay t.pools) (ports_stay t.ports)
         (each_changed (SuitsHandle (many_in h) (with_message h.words k.pool k.slot z)) filled t.handles
-        (each_suits_full h.words k.pool k.slot z loan_within all elements t.handles hub.words.handles) filled_suits)))
+        (each_suits_full h.words k.pool k.slot z loan_within all elements (many_in h) t.handles hub.words.handles) filled_suits)))
 
     pub filled_found : handle_in new.tables.handles node n ≡ Some filled
     filled_found =
