@@ -43,3 +43,4 @@ pub mod MadeAs
 pub mod InTurn
 pub mod FilledLoans
 pub mod Unsent
+pub mod OneElement

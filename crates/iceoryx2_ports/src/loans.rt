@@ -2,12 +2,14 @@
 ghost use Rattle.std.specs.Prelude.{◌≡◌, ◌≢◌, Err, IfErr, IfOk, IsOk, IsSome, OnErr, OnOk, false};
 ghost use Rattle.iox_model.specs.declared.kind.Kind.TheVariants as kinds;
 ghost use Rattle.iox_model.specs.declared.kind.Role.TheVariants as roles;
+ghost use Rattle.iox_model.specs.Handles.{is_request_loan, is_response_loan};
 ghost use Rattle.iox_model.specs.WholeCalls.{IsWholeCall};
 ghost use Rattle.iox_tables.specs.HubLoans.Loans.{loan_call};
 ghost use Rattle.iox_tables.specs.HubStates.States.{Given};
 ghost use Rattle.iox_hub_laws.specs.Hubs.{HasValue, state_of_hub, with_control};
 ghost use Rattle.iox_hub_laws.specs.Keeping.{HaveSameShapes, KeepsAll};
 ghost use Rattle.iox_hub_laws.specs.Lending.{IsFresh};
+ghost use Rattle.iox_hub_laws.specs.Reads.{HasOf, message_in};
 ghost use Rattle.iox_hub_laws.specs.Sending.{HasNothing};
 ghost use Rattle.iox_hub_laws.specs.Sends.{NothingComes};
 ghost use Rattle.iox_hub_laws.specs.Waiting.{client_in};
@@ -26,7 +28,7 @@ ghost use Rattle.iceoryx2_ports.specs.declared.errors.LoanError.TheVariants.{Wan
 
 use crate::errors::LoanError;
 use iox_hub_laws::{Backpressure, Hub, Lent, LoanRefusal};
-use iox_store::Payload;
+use iox_store::{One, Payload};
 use iox_words::Words;
 
 /// Loans a request of that client, and tells its number.
@@ -118,4 +120,32 @@ pub(crate) fn lend_response<Q: Payload, QH: Words, P: Payload, PH: Words, H: Bac
         Lent::Refused(LoanRefusal::WantOfMemory) => Err(LoanError::WantOfMemory),
         Lent::OutOfMemory => Err(LoanError::OutOfMemory),
     }
+}
+
+/// A loaned request of one element has one. This does nothing: it is there for its contract.
+#[inline]
+pub(crate) fn request_has_one<E: Words, QH: Words, P: Payload, PH: Words, H: Backpressure>(
+    hub: &Hub<One<E>, QH, P, PH, H>,
+    _node: u64,
+    _number: u64,
+)
+    requires has { HasOf is_request_loan hub.now _node _number }
+    ensures { (message_in hub.now _node _number).elements ≡ 1 }
+{
+    hub.is_in_order();
+    hub.is_of_its_types();
+}
+
+/// A loaned response of one element has one. This does nothing: it is there for its contract.
+#[inline]
+pub(crate) fn response_has_one<Q: Payload, QH: Words, E: Words, PH: Words, H: Backpressure>(
+    hub: &Hub<Q, QH, One<E>, PH, H>,
+    _node: u64,
+    _number: u64,
+)
+    requires has { HasOf is_response_loan hub.now _node _number }
+    ensures { (message_in hub.now _node _number).elements ≡ 1 }
+{
+    hub.is_in_order();
+    hub.is_of_its_types();
 }

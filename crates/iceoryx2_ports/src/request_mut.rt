@@ -32,6 +32,7 @@ mod payloads;
 
 use crate::errors::{RequestSendError, SendError};
 use crate::headers::request_header;
+use crate::loans::request_has_one;
 use crate::pending_response::PendingResponse;
 use crate::releases::release_handle;
 use iox_hub_laws::{Backpressure, Hub, Requested, Written, send_request};
@@ -174,7 +175,6 @@ impl<E: Words, QH: Words, P: Payload, PH: Words> RequestMutUninit<One<E>, QH, P,
     ) -> RequestMut<One<E>, QH, P, PH>
         requires has { HasValue hub.old self.node self.number kinds.RequestMutUninit }
         requires small { FitsInMemory E.row }
-        requires one { (message_in hub.old self.node self.number).elements ≡ 1 }
         ensures whole { (x : Given) → IsWholeCall (state_of_hub x hub.old) self.node
             (calls.Write self.number (payload_of roles.Client 1 (flat_map E.words (value ∷ []))))
             Done (state_of_hub x hub.new) }
@@ -196,6 +196,7 @@ impl<E: Words, QH: Words, P: Payload, PH: Words> RequestMutUninit<One<E>, QH, P,
             hint,
             of,
         } = self;
+        request_has_one(hub, node, number);
         let Written::Done(_) = hub.write_request(node, number, hint, &[value]) else {
             unreachable!();
         };

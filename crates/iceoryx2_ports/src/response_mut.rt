@@ -31,6 +31,7 @@ mod payloads;
 
 use crate::errors::SendError;
 use crate::headers::response_header;
+use crate::loans::response_has_one;
 use crate::releases::release_handle;
 use iox_hub_laws::{Backpressure, Hub, Responded, Written, send_response};
 use iox_model::kind::Kind;
@@ -172,7 +173,6 @@ impl<Q: Payload, QH: Words, E: Words, PH: Words> ResponseMutUninit<Q, QH, One<E>
     ) -> ResponseMut<Q, QH, One<E>, PH>
         requires has { HasValue hub.old self.node self.number kinds.ResponseMutUninit }
         requires small { FitsInMemory E.row }
-        requires one { (message_in hub.old self.node self.number).elements ≡ 1 }
         ensures whole { (x : Given) → IsWholeCall (state_of_hub x hub.old) self.node
             (calls.Write self.number (payload_of roles.Server 1 (flat_map E.words (value ∷ []))))
             Done (state_of_hub x hub.new) }
@@ -195,6 +195,7 @@ impl<Q: Payload, QH: Words, E: Words, PH: Words> ResponseMutUninit<Q, QH, One<E>
             hint,
             of,
         } = self;
+        response_has_one(hub, node, number);
         let Written::Done(_) = hub.write_response(node, number, hint, &[value]) else {
             unreachable!();
         };

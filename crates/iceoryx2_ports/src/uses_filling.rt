@@ -4,7 +4,10 @@ ghost use Rattle.iceoryx2_ports.specs.Kind.TheVariants as kinds;
 ghost use Rattle.iceoryx2_ports.specs.Hubs.{HasValue};
 ghost use Rattle.iceoryx2_ports.specs.Reads.{message_in};
 
-use crate::{Client, Hub, LoanError, Many, One, RequestMut, ResponseMut, ResponseMutUninit, Words};
+use crate::{
+    Client, Hub, LoanError, Many, One, Payload, PendingResponse, RequestMut, RequestMutUninit,
+    RequestSendError, ResponseMut, ResponseMutUninit, Words,
+};
 
 /// A write replaces what was filled before.
 pub fn writes_over(
@@ -42,6 +45,54 @@ pub fn fills_one<QH: Words>(
             unreachable!();
         }
     }
+}
+
+/// A loan, a value and a send, one after another. That the loan has one element is no question:
+/// its type says so.
+pub fn sends_one<QH: Words, P: Payload, PH: Words>(
+    client: &Client<One<u64>, QH, P, PH>,
+    hub: &mut Hub<One<u64>, QH, P, PH>,
+    value: u64,
+) -> Result<PendingResponse<One<u64>, QH, P, PH>, RequestSendError>
+    requires { HasValue hub.old client.now.node client.now.number kinds.Client }
+    ensures { IfOk result (λ pending.
+        HasValue hub.new pending.node pending.number kinds.PendingResponse) }
+{
+    let request = client.loan_uninit(hub)?.write_payload(hub, value);
+    if hub.calls() < 1 << 56 {
+        return request.send(hub);
+    }
+    request.release(hub);
+    Err(RequestSendError::from(LoanError::CallsSpent))
+}
+
+/// A request that somebody else loaned is filled with one value: how it was loaned need not be
+/// known, and it has one element.
+pub fn fills_what_was_loaned<QH: Words, P: Payload, PH: Words>(
+    loan: RequestMutUninit<One<u64>, QH, P, PH>,
+    hub: &mut Hub<One<u64>, QH, P, PH>,
+    value: u64,
+) -> RequestMut<One<u64>, QH, P, PH>
+    requires { HasValue hub.old loan.node loan.number kinds.RequestMutUninit }
+    ensures carries { (message_in hub.new result.node result.number).payload ≡ value ∷ [] }
+    ensures one { (message_in hub.old loan.node loan.number).elements ≡ 1 }
+{
+    loan.write_payload(hub, value)
+}
+
+/// The same of a response, whose value is then replaced.
+pub fn refills_what_was_loaned<Q: Payload, QH: Words, PH: Words>(
+    loan: ResponseMutUninit<Q, QH, One<u64>, PH>,
+    hub: &mut Hub<Q, QH, One<u64>, PH>,
+    first: u64,
+    second: u64,
+) -> ResponseMut<Q, QH, One<u64>, PH>
+    requires { HasValue hub.old loan.node loan.number kinds.ResponseMutUninit }
+    ensures { (message_in hub.new result.node result.number).payload ≡ second ∷ [] }
+{
+    let response = loan.write_payload(hub, first);
+    response.set_payload(hub, second);
+    response
 }
 
 /// A closure fills a response of any length.

@@ -46,6 +46,7 @@ use Rattle.iox_hub.proofs.Fitting.{fits_on}
 use Rattle.iox_hub.proofs.LendingCalls.{refused_left}
 use Rattle.iox_hub.proofs.LendingGiven.{IsNoUnfilled, filled_unread, given_put, hub_is_left}
 use Rattle.iox_hub.proofs.LendingMade.{back_fits, back_order, back_there, lent_requests, lent_within, loan_fits, loan_found, none_unfilled}
+use Rattle.iox_hub.proofs.OneElement.{loan_is_of_one}
 use Rattle.iox_hub.proofs.LendingWords.{requests_new, stored_new}
 use Rattle.iox_hub.proofs.LendingWrites.{changed_is_found, each_changed}
 use Rattle.iox_hub.proofs.Named.{handle_is_value}
@@ -165,7 +166,8 @@ module _ {h : HubState} (hub : IsHub h) (k : ℕ) (ws : List ℕ) (node n : ℕ)
       lent_words =
           subst (λ q. WordsFit (many_in h) (with_message h.words q place.slot z) loaned.tables) (sym sent.lent.made.pool)
           (subst (WordsFit (many_in h) (with_message h.words p.pool place.slot z)) lent_tables
-          (loan_fits h.words mid.tables mid_fits mid_order n its mid_there false k place.slot sent.lent.made.within sent.lent.made.free z refl (λ e. refl)))
+          (loan_fits h.words mid.tables mid_fits mid_order n its mid_there false k place.slot sent.lent.made.within sent.lent.made.free z refl (λ e. refl)
+          (loan_is_of_one hub h.request y of a asked l loaned sent.lent)))
 
       lent_unread : OfEachHandle (IsNoUnfilled place.pool place.slot) loaned.tables.handles
       lent_unread =
@@ -184,9 +186,10 @@ module _ {h : HubState} (hub : IsHub h) (k : ℕ) (ws : List ℕ) (node n : ℕ)
       tables : new.tables ≡ record (with_request_sent loaned.tables handle overflow) { pools = new.tables.pools }
       tables = ap (λ (d : ControlState). d.tables) sent.left
 
-      suits : SuitsHandle us pending
+      suits : SuitsHandle (many_in h) us pending
       suits = record {
         kind = requests_new h.words place.pool place.slot z place.pool ∙ copy_of;
+        one = λ e. absurd (true≢false (sym e));
         full = λ e. absurd (true≢false (sym e));
       }
 
@@ -196,8 +199,8 @@ module _ {h : HubState} (hub : IsHub h) (k : ℕ) (ws : List ℕ) (node n : ℕ)
           (fits_on us loaned.tables lent_words new.tables
           (subst (λ (u : HubTables). AreAlike loaned.tables.ports u.ports) (sym tables) (request_alike loaned.tables handle overflow))
           sent.delivered.same
-          (subst (λ (u : HubTables). OfEachHandle (SuitsHandle us) u.handles) (sym tables)
-          (each_changed (SuitsHandle us) pending loaned.tables.handles lent_words.handles suits)))
+          (subst (λ (u : HubTables). OfEachHandle (SuitsHandle (many_in h) us) u.handles) (sym tables)
+          (each_changed (SuitsHandle (many_in h) us) pending loaned.tables.handles lent_words.handles suits)))
 
       unread : OfEachHandle (IsNoUnfilled place.pool place.slot) new.tables.handles
       unread =

@@ -127,7 +127,7 @@ module _ {many : Bool × Bool} (words : List (Option Carried)) (t : HubTables) (
         (λ p j other. ap (λ (s : SlotState). s.elements) (slot_stays t.pools y.port.pool slot (loaned_slot y k) p j other))
         (put_pools t.pools y.port.pool slot (loaned_slot y k))
         (ports_stay t.ports)
-        (each_suits_else words y.port.pool slot z t.handles unused.handles fit.handles)
+        (each_suits_else words y.port.pool slot z many t.handles unused.handles fit.handles)
 
     abbrev in_line : List (Option PoolState) → HubTables
     in_line pools = record (with_lanes (delivers t.settings.response_overflow slot) lent (way_of y ∷ [])) { pools = pools }

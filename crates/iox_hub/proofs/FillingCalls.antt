@@ -134,7 +134,7 @@ module _ {h : HubState} {role : Role} {node n : ℕ} {all : Bool} {new : Control
   pub fill_full : is_full_loan k.kind ≡ true → (message_in h node n).filled ≡ (message_in h node n).elements
   fill_full e =
       subst (λ (s : StoredMessage). s.filled ≡ s.elements) (sym (loan_message role hub node n c.loan))
-      ((handle_is (SuitsHandle h.words) t.handles node n k hub.words.handles c.loan.there).full e)
+      ((handle_is (SuitsHandle (many_in h) h.words) t.handles node n k hub.words.handles c.loan.there).full e)
 
   -- ---- others
 
@@ -178,15 +178,19 @@ module _ {h : HubState} {role : Role} {node n : ℕ} {all : Bool} {new : Control
 
     -- the words fit
 
-    turned_suits : SuitsHandle (with_message h.words k.pool k.slot z) turned
+    turned_suits : SuitsHandle (many_in h) (with_message h.words k.pool k.slot z) turned
     turned_suits = record {
-      kind = requests_new h.words k.pool k.slot z k.pool ∙ (handle_is (SuitsHandle h.words) t.handles node n k hub.words.handles c.loan.there).kind
+      kind = requests_new h.words k.pool k.slot z k.pool ∙ (handle_is (SuitsHandle (many_in h) h.words) t.handles node n k hub.words.handles c.loan.there).kind
           ∙ sym (after_of_request all k.kind loan);
+      one = λ e few.
+          ap (λ (s : StoredMessage). s.elements) (stored_new h.words k.pool k.slot z (loan_within role hub node n c.loan)) ∙ same_elements
+          ∙ (handle_is (SuitsHandle (many_in h) h.words) t.handles node n k hub.words.handles c.loan.there).one loan
+          (ap (λ (b : Bool). if b then (many_in h).0 else (many_in h).1) (sym (after_of_request all k.kind loan)) ∙ few);
       full = λ e. subst (λ (s : StoredMessage). s.filled ≡ s.elements) (sym (stored_new h.words k.pool k.slot z (loan_within role hub node n c.loan))) (full e);
     }
 
-    each_else : (hs : List HandleState) → OfEachHandle (SuitsHandle h.words) hs
-        → OfEachHandle (λ j. has j ≡ false → SuitsHandle (with_message h.words k.pool k.slot z) j) hs
+    each_else : (hs : List HandleState) → OfEachHandle (SuitsHandle (many_in h) h.words) hs
+        → OfEachHandle (λ j. has j ≡ false → SuitsHandle (many_in h) (with_message h.words k.pool k.slot z) j) hs
     each_else [] so = tt
     each_else (j ∷ js) so = (λ other. suits_else h.words k.pool k.slot z j other so.0, each_else js so.1)
 
@@ -196,7 +200,7 @@ module _ {h : HubState} {role : Role} {node n : ℕ} {all : Bool} {new : Control
         (subst (λ (d : ControlState). WordsFit (many_in h) (with_message h.words k.pool k.slot z) d.tables) (sym left)
         (fits_message h.words k.pool k.slot z t (with_kind t k kind) hub.words (loan_within role hub node n c.loan) (λ place. refl)
         (same_elements ∙ loan_elements role hub node n c.loan) (λ p j other. refl) (pools_stay t.pools) (ports_stay t.ports)
-        (each_changed_alone has node n k itself (SuitsHandle (with_message h.words k.pool k.slot z)) turned named.0 named.1 turned_suits
+        (each_changed_alone has node n k itself (SuitsHandle (many_in h) (with_message h.words k.pool k.slot z)) turned named.0 named.1 turned_suits
         t.handles c.loan.there one.handles (each_else t.handles hub.words.handles))))
 
     -- the machine allows it

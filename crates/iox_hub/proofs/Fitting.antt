@@ -29,6 +29,7 @@ use Rattle.iox_tables.specs.HubStates.Steps.{places_on}
 use Rattle.iox_tables.specs.HubStates.Wirings.{IsPending, IsServer, handle_in}
 use Rattle.iox_tables.proofs.HubStates.Emptied.{has-append}
 use Rattle.iox_tables.specs.HubBooks.Counts.{how_often, lane_count}
+use Rattle.iox_tables.specs.HubBooks.Handles.{is_loan}
 use Rattle.iox_tables.specs.HubBooks.Hubs.{AreInOrder}
 use Rattle.iox_tables.specs.HubBooks.Keeps.{bare_pool, bare_pools, bare_slot}
 use Rattle.iox_tables.proofs.HubBooks.Frames.{AreAlike, bare_ports, map_append, port_before, states_on_bare, visits_bare}
@@ -76,7 +77,7 @@ pub one_as : (many : Bool × Bool) (q p : PortState) → q.role ≡ p.role → q
 one_as many q p role longest is e = sym longest ∙ is (ap (many_by many) role ∙ e)
 
 module _ {many : Bool × Bool} (words : List (Option Carried)) (t : HubTables) (fit : WordsFit many words t) where
-  pub fits_on : (t' : HubTables) → AreAlike t.ports t'.ports → bare_pools t.pools ≡ bare_pools t'.pools → OfEachHandle (SuitsHandle words) t'.handles → WordsFit many words t'
+  pub fits_on : (t' : HubTables) → AreAlike t.ports t'.ports → bare_pools t.pools ≡ bare_pools t'.pools → OfEachHandle (SuitsHandle many words) t'.handles → WordsFit many words t'
   fits_on t' alike same handles = record {
     pools = λ place. let old = fit.pools place in let count = same_count t.pools t'.pools same place in omega (arith, old, count);
     elements = λ place k low.
@@ -99,7 +100,7 @@ module _ {many : Bool × Bool} (words : List (Option Carried)) (t : HubTables) (
 
   -- a handle that was got, if one was
   abbrev IsSuited : ℕ → Role → ℕ → Visits → Type 0
-  IsSuited node role n (Got sender pool k) = SuitsHandle words (got_handle t node role n pool k)
+  IsSuited node role n (Got sender pool k) = SuitsHandle many words (got_handle t node role n pool k)
   IsSuited node role n AtLimit = ⊤
   IsSuited node role n Nothing = ⊤
 
@@ -107,9 +108,13 @@ module _ {many : Bool × Bool} (words : List (Option Carried)) (t : HubTables) (
   suits Client = refl
   suits Server = refl
 
-  no_loan : (r : Role) → is_full_loan (if is_client r then kinds.Response else kinds.ActiveRequest) ≡ false
+  no_loan : (r : Role) → is_loan (if is_client r then kinds.Response else kinds.ActiveRequest) ≡ false
   no_loan Client = refl
   no_loan Server = refl
+
+  no_full_loan : (r : Role) → is_full_loan (if is_client r then kinds.Response else kinds.ActiveRequest) ≡ false
+  no_full_loan Client = refl
+  no_full_loan Server = refl
 
   module _ (order : AreInOrder t) (node n lane : ℕ) (p : PortState) (there : port_in t.ports n ≡ Some p) (role : Role) (role_is : p.role ≡ role) (wanted : Wanted) where
     -- a message that was got is of the other role, whether its sender is connected or gone
@@ -165,7 +170,8 @@ module _ {many : Bool × Bool} (words : List (Option Carried)) (t : HubTables) (
     suited (Got s pool k) c =
         record {
           kind = words_suit s pool k c ∙ ap (λ r. is_client (other_role r)) role_is ∙ suits role;
-          full = λ e. absurd (true≢false (sym e ∙ no_loan role));
+          one = λ e. absurd (true≢false (sym e ∙ no_loan role));
+          full = λ e. absurd (true≢false (sym e ∙ no_full_loan role));
         }
     suited AtLimit c = tt
     suited Nothing c = tt
@@ -173,8 +179,8 @@ module _ {many : Bool × Bool} (words : List (Option Carried)) (t : HubTables) (
     abbrev left : Visits → HubTables
     left v = with_got (with_visited t n lane wanted) node role n v
 
-    left_handles : (v : Visits) → IsSuited node role n v → OfEachHandle (SuitsHandle words) (left v).handles
-    left_handles (Got s pool k) one = each_last (SuitsHandle words) t.handles (got_handle t node role n pool k) fit.handles one
+    left_handles : (v : Visits) → IsSuited node role n v → OfEachHandle (SuitsHandle many words) (left v).handles
+    left_handles (Got s pool k) one = each_last (SuitsHandle many words) t.handles (got_handle t node role n pool k) fit.handles one
     left_handles AtLimit one = fit.handles
     left_handles Nothing one = fit.handles
 
@@ -198,7 +204,7 @@ module _ {many : Bool × Bool} (words : List (Option Carried)) (t : HubTables) (
         let v : Visits = visits_at t n lane wanted in
         fits_on t' (ap (λ (u : HubTables). bare_ports u.ports) is.same ∙ ap bare_ports (left_ports v) ∙ visits_bare wanted (labels_of t.pools) lane t.ports n)
         (ap bare_pools (sym (left_pools v)) ∙ is.bare)
-        (subst (λ (u : HubTables). OfEachHandle (SuitsHandle words) u.handles) (sym is.same) (left_handles v (suited v came)))
+        (subst (λ (u : HubTables). OfEachHandle (SuitsHandle many words) u.handles) (sym is.same) (left_handles v (suited v came)))
 
 -- ---- the calls
 
@@ -225,14 +231,14 @@ fits_hint {many} words c d fit node n pending is =
 
 -- no pool, no port and no handle
 pub fits_none : {many : Bool × Bool} (t : HubTables) → t.pools ≡ [] → t.ports ≡ [] → t.handles ≡ [] → (words : List (Option Carried)) → WordsFit many words t
-fits_none t pools ports handles words = record {
+fits_none {many} t pools ports handles words = record {
   pools = λ place. subst (λ (ps : List (Option PoolState)). length (slots_of ps place) ≤ count_in words place) (sym pools) (omega arith);
   elements = λ place k low. absurd (none place k low);
   ports = λ n p at. absurd (missing n p at);
   gone = λ place q n p at there. absurd (missing n p there);
   longest = λ n p at. absurd (missing n p at);
   one = λ n p at. absurd (missing n p at);
-  handles = subst (λ (hs : List HandleState). OfEachHandle (SuitsHandle words) hs) (sym handles) tt;
+  handles = subst (λ (hs : List HandleState). OfEachHandle (SuitsHandle many words) hs) (sym handles) tt;
 }
   where
     none : (place k : ℕ) → k < length (slots_of t.pools place) → ⊥

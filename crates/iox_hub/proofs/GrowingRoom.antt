@@ -31,11 +31,11 @@ use Rattle.iox_hub.proofs.LendingNamed.{active_of_hub, client_of_hub}
 
 -- ---- tests
 
-both_none : (a b : Option Refusal) → or_else a b ≡ None → (a ≡ None) × (b ≡ None)
+pub both_none : (a b : Option Refusal) → or_else a b ≡ None → (a ≡ None) × (b ≡ None)
 both_none (Some r) b e = absurd (none-some r (sym e))
 both_none None b e = (refl, e)
 
-not_refused : (b : Bool) (r : Refusal) → refused_if b r ≡ None → b ≡ false
+pub not_refused : (b : Bool) (r : Refusal) → refused_if b r ≡ None → b ≡ false
 not_refused true r e = absurd (none-some r (sym e))
 not_refused false r e = refl
 

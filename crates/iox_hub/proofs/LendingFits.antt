@@ -10,7 +10,7 @@ use Rattle.iox_tables.specs.HubStates.Ends.{OfEachHandle}
 use Rattle.iox_tables.specs.HubStates.Tables.{HandleState, HubTables, PoolState, PortState, SlotState, pool_at, port_in, senders_of, slot_at, slots_of}
 use Rattle.iox_tables.specs.HubLoans.Slots.{is_place}
 use Rattle.iox_tables.proofs.HubLoans.Placed.{or_false}
-use Rattle.iox_hub.specs.Fits.{SuitsHandle, WordsFit, are_requests_in, count_in, is_full_loan, comes_with_request, longest_in}
+use Rattle.iox_hub.specs.Fits.{SuitsHandle, WordsFit, are_requests_in, count_in, longest_in}
 use Rattle.iox_hub.specs.Lending.{with_message}
 use Rattle.iox_hub.specs.Words.{Carried, stored_in}
 use Rattle.iox_hub.proofs.Fitting.{one_as}
@@ -43,47 +43,61 @@ module _ (words : List (Option Carried)) (pool k : ℕ) (z : StoredMessage) wher
   abbrev new : List (Option Carried)
   new = with_message words pool k z
 
+  -- ---- what messages carry
+
+  -- each carries what it did, but for the new one
+  each_stored : (P : StoredMessage → Type 0) → k < count_in words pool → P z → (p j : ℕ) → P (stored_in words p j) → P (stored_in new p j)
+  each_stored P low so p j old = step (p == pool) (j == k) refl refl
+    where
+      step : (a b : Bool) → (p == pool) ≡ a → (j == k) ≡ b → P (stored_in new p j)
+      step true true ea eb =
+          subst P (sym (ap (stored_in new p) (eqb-true j k eb) ∙ ap (λ q. stored_in new q k) (eqb-true p pool ea) ∙ stored_new words pool k z low)) so
+      step true false ea eb = subst P (sym (stored_else words pool k z p j (ap (λ a. a && (j == k)) ea ∙ eb))) old
+      step false b ea eb = subst P (sym (stored_else words pool k z p j (ap (λ a. a && (j == k)) ea))) old
+
   -- ---- handles
 
-  pub suits_else : (h : HandleState) → is_place pool k h.pool h.slot ≡ false → SuitsHandle words h → SuitsHandle new h
+  -- whatever is filled, in the handle's own slot or in another, the elements stay
+  elements_stay : k < count_in words pool → z.elements ≡ (stored_in words pool k).elements → (p j : ℕ)
+      → (stored_in new p j).elements ≡ (stored_in words p j).elements
+  elements_stay low same p j = step (p == pool) (j == k) refl refl
+    where
+      step : (a b : Bool) → (p == pool) ≡ a → (j == k) ≡ b → (stored_in new p j).elements ≡ (stored_in words p j).elements
+      step true true ea eb =
+          ap (λ (s : StoredMessage). s.elements)
+          (ap (stored_in new p) (eqb-true j k eb) ∙ ap (λ q. stored_in new q k) (eqb-true p pool ea) ∙ stored_new words pool k z low)
+          ∙ same
+          ∙ ap (λ (s : StoredMessage). s.elements) (sym (ap (stored_in words p) (eqb-true j k eb) ∙ ap (λ q. stored_in words q k) (eqb-true p pool ea)))
+      step true false ea eb = ap (λ (s : StoredMessage). s.elements) (stored_else words pool k z p j (ap (λ a. a && (j == k)) ea ∙ eb))
+      step false b ea eb = ap (λ (s : StoredMessage). s.elements) (stored_else words pool k z p j (ap (λ a. a && (j == k)) ea))
+
+  pub suits_else : {many : Bool × Bool} (h : HandleState) → is_place pool k h.pool h.slot ≡ false → SuitsHandle many words h → SuitsHandle many new h
   suits_else h other is = record {
     kind = requests_new words pool k z h.pool ∙ is.kind;
+    one = λ e one. subst (λ (s : StoredMessage). s.elements ≡ 1) (sym (stored_else words pool k z h.pool h.slot other)) (is.one e one);
     full = λ e. subst (λ (s : StoredMessage). s.filled ≡ s.elements) (sym (stored_else words pool k z h.pool h.slot other)) (is.full e);
   }
 
-  -- whatever is filled, in the handle's own slot or in another
-  pub suits_full : k < count_in words pool → z.filled ≡ z.elements → (h : HandleState) → are_requests_in words h.pool ≡ comes_with_request h.kind
-      → (is_full_loan h.kind ≡ true → (stored_in words h.pool h.slot).filled ≡ (stored_in words h.pool h.slot).elements) → SuitsHandle new h
-  suits_full low all h kind full = record {
-    kind = requests_new words pool k z h.pool ∙ kind;
-    full = λ e. step (h.pool == pool) (h.slot == k) refl refl (full e);
-  }
-    where
-      step : (a b : Bool) → (h.pool == pool) ≡ a → (h.slot == k) ≡ b → (stored_in words h.pool h.slot).filled ≡ (stored_in words h.pool h.slot).elements
-          → (stored_in new h.pool h.slot).filled ≡ (stored_in new h.pool h.slot).elements
-      step true true ea eb old =
-          subst (λ (s : StoredMessage). s.filled ≡ s.elements)
-          (sym (ap (stored_in new h.pool) (eqb-true h.slot k eb) ∙ ap (λ q. stored_in new q k) (eqb-true h.pool pool ea) ∙ stored_new words pool k z low)) all
-      step true false ea eb old =
-          subst (λ (s : StoredMessage). s.filled ≡ s.elements)
-          (sym (stored_else words pool k z h.pool h.slot (ap (λ a. a && (h.slot == k)) ea ∙ eb))) old
-      step false b ea eb old =
-          subst (λ (s : StoredMessage). s.filled ≡ s.elements)
-          (sym (stored_else words pool k z h.pool h.slot (ap (λ a. a && (h.slot == k)) ea))) old
-
   -- where nobody has the slot, each handle has what it had
-  pub each_suits_else : (hs : List HandleState) → list_any (λ h. is_place pool k h.pool h.slot) hs ≡ false → OfEachHandle (SuitsHandle words) hs
-      → OfEachHandle (SuitsHandle new) hs
-  each_suits_else [] none all = tt
-  each_suits_else (h ∷ hs) none all =
+  pub each_suits_else : (many : Bool × Bool) (hs : List HandleState) → list_any (λ h. is_place pool k h.pool h.slot) hs ≡ false
+      → OfEachHandle (SuitsHandle many words) hs → OfEachHandle (SuitsHandle many new) hs
+  each_suits_else many [] none all = tt
+  each_suits_else many (h ∷ hs) none all =
       let both = or_false (is_place pool k h.pool h.slot) (list_any (λ h. is_place pool k h.pool h.slot) hs) none in
-      (suits_else h both.0 all.0, each_suits_else hs both.1 all.1)
+      (suits_else h both.0 all.0, each_suits_else many hs both.1 all.1)
 
-  -- where all is filled, each handle still has what it asks
-  pub each_suits_full : k < count_in words pool → z.filled ≡ z.elements → (hs : List HandleState) → OfEachHandle (SuitsHandle words) hs
-      → OfEachHandle (SuitsHandle new) hs
-  each_suits_full low all [] each = tt
-  each_suits_full low all (h ∷ hs) each = (suits_full low all h each.0.kind each.0.full, each_suits_full low all hs each.1)
+  -- where as many are filled as there were, each handle still has what it asks
+  module _ (low : k < count_in words pool) (all : z.filled ≡ z.elements) (same : z.elements ≡ (stored_in words pool k).elements) where
+    suits_full : {many : Bool × Bool} (h : HandleState) → SuitsHandle many words h → SuitsHandle many new h
+    suits_full h is = record {
+      kind = requests_new words pool k z h.pool ∙ is.kind;
+      one = λ e one. elements_stay low same h.pool h.slot ∙ is.one e one;
+      full = λ e. each_stored (λ (s : StoredMessage). s.filled ≡ s.elements) low all h.pool h.slot (is.full e);
+    }
+
+    pub each_suits_full : (many : Bool × Bool) (hs : List HandleState) → OfEachHandle (SuitsHandle many words) hs → OfEachHandle (SuitsHandle many new) hs
+    each_suits_full many [] each = tt
+    each_suits_full many (h ∷ hs) each = (suits_full h each.0, each_suits_full many hs each.1)
 
   -- ---- all
 
@@ -91,7 +105,7 @@ module _ (words : List (Option Carried)) (pool k : ℕ) (z : StoredMessage) wher
     pub fits_message : ((place : ℕ) → length (slots_of t'.pools place) ≡ length (slots_of t.pools place))
         → z.elements ≡ (slot_at t'.pools pool k).elements
         → ((p j : ℕ) → is_place pool k p j ≡ false → (slot_at t'.pools p j).elements ≡ (slot_at t.pools p j).elements)
-        → PoolsWereThere t.pools t'.pools → PortsWereThere t.ports t'.ports → OfEachHandle (SuitsHandle new) t'.handles → WordsFit many new t'
+        → PoolsWereThere t.pools t'.pools → PortsWereThere t.ports t'.ports → OfEachHandle (SuitsHandle many new) t'.handles → WordsFit many new t'
     fits_message counts here others pools ports handles = record {
       pools = λ place.
           let fits = fit.pools place in

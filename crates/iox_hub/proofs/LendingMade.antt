@@ -33,7 +33,7 @@ use Rattle.iox_control.specs.Controls.{ControlState, IsControl}
 use Rattle.iox_control_request_copies.specs.Asked.{Asked}
 use Rattle.iox_control_request_copies.specs.Loaned.{Loaned}
 use Rattle.iox_control_request_copies.specs.Lends.{IsAskedOf, IsGotBack, IsLoaned, first_contents, on_lane}
-use Rattle.iox_hub.specs.Fits.{SuitsHandle, WordsFit, are_requests_in, count_in, is_full_loan, comes_with_request}
+use Rattle.iox_hub.specs.Fits.{SuitsHandle, WordsFit, are_requests_in, count_in, is_full_loan, comes_with_request, many_by}
 use Rattle.iox_hub.specs.Hubs.{HubState, IsHub, given_by, many_in, state_of_hub}
 use Rattle.iox_hub.specs.Lending.{IsFresh, first_stored, with_message}
 use Rattle.iox_hub.specs.Reads.{message_in}
@@ -43,6 +43,7 @@ use Rattle.iox_hub.proofs.LendingFits.{PoolsWereThere, PortsWereThere, each_suit
 use Rattle.iox_hub.proofs.LendingGiven.{IsNoUnfilled, contents_in, filled_unread, given_put, hub_is_left}
 use Rattle.iox_hub.proofs.LendingWords.{requests_new, stored_new}
 use Rattle.iox_hub.proofs.Named.{added_is_found, handle_is_value}
+use Rattle.iox_hub.proofs.OneElement.{loan_is_of_one}
 
 -- ---- kinds
 
@@ -163,10 +164,13 @@ module _ {many : Bool × Bool} (words : List (Option Carried)) (t : HubTables) (
       each_last (IsNoUnfilled y.port.pool slot) t.handles handle (no_others t.handles unused.handles)
       (λ here. ap (λ u. is_uninit (kind_of_loan y.port.role u)) e ∙ filled_is_no_uninit y.port.role)
 
-  module _ (z : StoredMessage) (elements : z.elements ≡ k) (filled : uninit ≡ false → z.filled ≡ z.elements) where
-    loan_suits : SuitsHandle (with_message words y.port.pool slot z) handle
+  module _ (z : StoredMessage) (elements : z.elements ≡ k) (filled : uninit ≡ false → z.filled ≡ z.elements) (one : many_by many y.port.role ≡ false → k ≡ 1) where
+    loan_suits : SuitsHandle many (with_message words y.port.pool slot z) handle
     loan_suits = record {
       kind = requests_new words y.port.pool slot z y.port.pool ∙ fit.ports n y.port there ∙ loan_of_role y.port.role uninit;
+      one = λ e few.
+          ap (λ (s : StoredMessage). s.elements) (stored_new words y.port.pool slot z slot_has_words) ∙ elements
+          ∙ one (ap (λ (b : Bool). if b then many.0 else many.1) (loan_of_role y.port.role uninit) ∙ few);
       full = λ e.
           subst (λ (s : StoredMessage). s.filled ≡ s.elements) (sym (stored_new words y.port.pool slot z slot_has_words))
           (filled (full_is_filled y.port.role uninit e));
@@ -180,8 +184,8 @@ module _ {many : Bool × Bool} (words : List (Option Carried)) (t : HubTables) (
         (λ p j other. ap (λ (s : SlotState). s.elements) (slot_stays t.pools y.port.pool slot (loaned_slot y k) p j other))
         (put_pools t.pools y.port.pool slot (loaned_slot y k))
         (lenders_were_there t.ports y.port.number)
-        (each_last (SuitsHandle (with_message words y.port.pool slot z)) t.handles handle
-        (each_suits_else words y.port.pool slot z t.handles unused.handles fit.handles) loan_suits)
+        (each_last (SuitsHandle many (with_message words y.port.pool slot z)) t.handles handle
+        (each_suits_else words y.port.pool slot z many t.handles unused.handles fit.handles) loan_suits)
 
 -- ---- the words of a new loan
 
@@ -253,7 +257,8 @@ module _ {h : HubState} (hub : IsHub h) (shape : Shape) (a : Asked) (y : Lender)
         (subst (λ p. WordsFit (many_in h) (with_message h.words p l.slot z) new.tables) (sym is.made.pool)
         (subst (WordsFit (many_in h) (with_message h.words y.port.pool l.slot z)) tables
         (loan_fits h.words mid.tables mid_fits mid_order n its mid_there a.uninit a.elements l.slot is.made.within is.made.free z
-        (elements_first shape a.uninit a.elements (stored_in h.words l.pool l.slot)) (filled_first shape a.uninit a.elements (stored_in h.words l.pool l.slot)))))
+        (elements_first shape a.uninit a.elements (stored_in h.words l.pool l.slot)) (filled_first shape a.uninit a.elements (stored_in h.words l.pool l.slot))
+        (loan_is_of_one hub shape y of a asked l new is))))
 
     lent_unfilled : a.uninit ≡ false → OfEachHandle (IsNoUnfilled l.pool l.slot) new.tables.handles
     lent_unfilled e =

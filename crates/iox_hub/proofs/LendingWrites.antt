@@ -192,7 +192,7 @@ module _ (role : Role) {h : HubState} (hub : IsHub h) (node n : ℕ) (loan : IsL
   }
 
   pub loan_of_role : are_requests_in h.words k.pool ≡ is_client role
-  loan_of_role = (handle_is (SuitsHandle h.words) t.handles node n k hub.words.handles loan.there).kind ∙ loan_of_request role k.kind loan.passes
+  loan_of_role = (handle_is (SuitsHandle (many_in h) h.words) t.handles node n k hub.words.handles loan.there).kind ∙ loan_of_request role k.kind loan.passes
 
   pub loan_low : k.slot < length (slots_of t.pools k.pool)
   loan_low = low_if_used t k.pool k.slot (used_by_handle t hub.control.order node n k loan.there)
@@ -216,10 +216,16 @@ module _ (role : Role) {h : HubState} (hub : IsHub h) (node n : ℕ) (loan : IsL
     abbrev h' : HubState
     h' = record h { control = new; words = words }
 
-    filled_suits : SuitsHandle (with_message h.words k.pool k.slot z) filled
+    filled_suits : SuitsHandle (many_in h) (with_message h.words k.pool k.slot z) filled
     filled_suits = record {
       kind = requests_new h.words k.pool k.slot z k.pool ∙ loan_of_role ∙ sym (filled_is_of role)
           ∙ ap comes_with_request (sym (filled_of_role role k.kind loan.passes));
+      one = λ e few.
+          ap (λ (s : StoredMessage). s.elements) (stored_new h.words k.pool k.slot z loan_within) ∙ elements
+          ∙ (handle_is (SuitsHandle (many_in h) h.words) t.handles node n k hub.words.handles loan.there).one (loan_is_one role k.kind loan.passes)
+          (ap (λ (b : Bool). if b then (many_in h).0 else (many_in h).1)
+          (loan_of_request role k.kind loan.passes ∙ sym (filled_is_of role) ∙ ap comes_with_request (sym (filled_of_role role k.kind loan.passes)))
+          ∙ few);
       full = λ e. subst (λ (s : StoredMessage). s.filled ≡ s.elements) (sym (stored_new h.words k.pool k.slot z loan_within)) all;
     }
 
@@ -229,8 +235,8 @@ module _ (role : Role) {h : HubState} (hub : IsHub h) (node n : ℕ) (loan : IsL
         (subst (λ (d : ControlState). WordsFit (many_in h) (with_message h.words k.pool k.slot z) d.tables) (sym left)
         (fits_message h.words k.pool k.slot z t (with_kind t k (filled_kind k.kind)) hub.words loan_within (λ place. refl)
         (elements ∙ loan_elements) (λ p j other. refl) (pools_stay t.pools) (ports_stay t.ports)
-        (each_changed (SuitsHandle (with_message h.words k.pool k.slot z)) filled t.handles
-        (each_suits_full h.words k.pool k.slot z loan_within all t.handles hub.words.handles) filled_suits)))
+        (each_changed (SuitsHandle (many_in h) (with_message h.words k.pool k.slot z)) filled t.handles
+        (each_suits_full h.words k.pool k.slot z loan_within all elements (many_in h) t.handles hub.words.handles) filled_suits)))
 
     pub filled_found : handle_in new.tables.handles node n ≡ Some filled
     filled_found =

@@ -30,6 +30,7 @@ pub mod LendingFits
 pub mod GrowingRoom
 pub mod GrowingWants
 pub mod GrowingFound
+pub mod OneElement
 pub mod LendingMade
 pub mod LendingWrites
 pub mod LendingNamed

@@ -18,7 +18,7 @@ use Rattle.iox_tables.proofs.HubStates.Fixing.{find_port}
 use Rattle.iox_handles.specs.declared.entry.Entry.{Entry}
 use Rattle.iox_control.specs.Entries.{handle_state}
 use Rattle.iox_hub.specs.Fits.{SuitsHandle, are_requests_in, count_in, comes_with_request}
-use Rattle.iox_hub.specs.Hubs.{HubState, IsHub, given_by, state_of_hub}
+use Rattle.iox_hub.specs.Hubs.{HubState, IsHub, given_by, many_in, state_of_hub}
 use Rattle.iox_hub.specs.Reads.{HasOf}
 use Rattle.iox_hub.proofs.Named.{handle_is_value}
 use Rattle.iox_hub.proofs.Reading.{low_if_used}
@@ -63,7 +63,7 @@ module _ {h : HubState} (hub : IsHub h) (now : HubState) (is : h ≡ now) (node 
       ∙ subst (λ (d : HubState). HasOf test d node n) (sym is) has
 
   suits : are_requests_in h.words e.pool ≡ comes_with_request e.kind
-  suits = (handle_is (SuitsHandle h.words) t.handles node n (handle_state e) hub.words.handles at).kind
+  suits = (handle_is (SuitsHandle (many_in h) h.words) t.handles node n (handle_state e) hub.words.handles at).kind
 
   pub loan_has_words : e.slot < count_in h.words e.pool
   loan_has_words =

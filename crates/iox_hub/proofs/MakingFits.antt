@@ -182,11 +182,12 @@ module _ (t : HubTables) (node : ℕ) (role : Role) (id : UniqueSystemId) (asked
             ∙ fit.elements q k (moved (ap (λ (o : Option PoolState). length (slots_in o)) (pool_put.others q e)) low)
             ∙ ap (λ (o : Option PoolState). elements_of k (slots_in o)) (pool_put.others q e)
 
-    suits_still : (k : HandleState) → SuitsHandle h.words k → (k.pool == place) ≡ false → SuitsHandle words k
+    suits_still : (k : HandleState) → SuitsHandle (many_in h) h.words k → (k.pool == place) ≡ false → SuitsHandle (many_in h) words k
     suits_still k s other =
         let same : stored_in words k.pool k.slot ≡ stored_in h.words k.pool k.slot = stored_else h.words place c words put k.pool k.slot other in
         record {
           kind = ap (λ (o : Option Carried). option_map_or (λ (d : Carried). d.requests) o false) (put.others k.pool other) ∙ s.kind;
+          one = λ e few. ap (λ (z : StoredMessage). z.elements) same ∙ s.one e few;
           full = λ e. ap (λ (z : StoredMessage). z.filled) same ∙ s.full e ∙ sym (ap (λ (z : StoredMessage). z.elements) same);
         }
 
@@ -219,6 +220,6 @@ module _ (t : HubTables) (node : ℕ) (role : Role) (id : UniqueSystemId) (asked
           (subst (λ l. asked.longest ≤ l) (sym (ap (λ (o : Option Carried). option_map_or (λ (d : Carried). d.contents.longest) o 0) put.there)) (omega arith));
       one = each_port {B = Role × ℕ} (λ p. (p.role, p.longest)) (λ p ps. refl)
           (λ s. many_by (many_in h) s.0 ≡ false → s.1 ≡ 1) fit.one one_of_one;
-      handles = both_each (SuitsHandle h.words) (λ k. (k.pool == place) ≡ false) (SuitsHandle words) suits_still t.handles fit.handles
+      handles = both_each (SuitsHandle (many_in h) h.words) (λ k. (k.pool == place) ≡ false) (SuitsHandle (many_in h) words) suits_still t.handles fit.handles
           ((places_become_free t place order).nobody free).handles;
     }

@@ -26,7 +26,7 @@ use Rattle.iox_control.proofs.WholeLemmas.{is_whole_of}
 use Rattle.iox_handles.specs.declared.entry.Entry.{Entry}
 use Rattle.iox_control.specs.Entries.{handle_state}
 use Rattle.iox_hub.specs.Fits.{SuitsHandle, are_requests_in, carried_in, count_in, comes_with_request}
-use Rattle.iox_hub.specs.Hubs.{HubState, IsHub, given_by, state_of_hub}
+use Rattle.iox_hub.specs.Hubs.{HubState, IsHub, given_by, many_in, state_of_hub}
 use Rattle.iox_hub.specs.Reads.{HasOf, has_request, has_response, message_in}
 use Rattle.iox_hub.specs.Words.{Carried, stored_in}
 use Rattle.iox_hub.proofs.Named.{found_is_handle}
@@ -156,7 +156,7 @@ module _ (test : Kind → Bool) (pass : ArePassed test) {h : HubState} (hub : Is
     passing = subst (λ (k : HandleState). test k.kind ≡ true) (same_Some named.handle (handle_state e) (sym named.there ∙ at)) named.passes
 
     pub suits_kind : are_requests_in h.words e.pool ≡ comes_with_request e.kind
-    suits_kind = (handle_is (SuitsHandle h.words) t.handles node n (handle_state e) hub.words.handles at).kind
+    suits_kind = (handle_is (SuitsHandle (many_in h) h.words) t.handles node n (handle_state e) hub.words.handles at).kind
 
     pub has_words : e.slot < count_in h.words e.pool
     has_words =

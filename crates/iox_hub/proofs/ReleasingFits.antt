@@ -122,7 +122,7 @@ abbrev slots_in : Option PoolState → List SlotState
 slots_in o = option_map_or (λ (p : PoolState). p.slots) o []
 
 module _ {many : Bool × Bool} (words : List (Option Carried)) (t : HubTables) (fit : WordsFit many words t) where
-  pub fits_left : (t' : HubTables) → AreLeft t.ports t'.ports → KeptPools t.pools t'.pools → GoneFit words t' → OfEachHandle (SuitsHandle words) t'.handles → WordsFit many words t'
+  pub fits_left : (t' : HubTables) → AreLeft t.ports t'.ports → KeptPools t.pools t'.pools → GoneFit words t' → OfEachHandle (SuitsHandle many words) t'.handles → WordsFit many words t'
   fits_left t' ports kept gone handles = record {
     pools = pools;
     elements = elements;
@@ -199,21 +199,21 @@ given_up_handles kinds.ResponseMut t h = refl
 
 module _ {many : Bool × Bool} (words : List (Option Carried)) (t t' : HubTables) (fit : WordsFit many words t) (order : AreInOrder t) (kept : KeptPools t.pools t'.pools) where
   -- then the port goes, if nothing of it is left
-  pub fits_gone : (u : HubTables) (n : ℕ) → AreAlike t.ports u.ports → OfEachHandle (SuitsHandle words) u.handles
+  pub fits_gone : (u : HubTables) (n : ℕ) → AreAlike t.ports u.ports → OfEachHandle (SuitsHandle many words) u.handles
       → t' ≡ record (with_released u n) { pools = t'.pools } → WordsFit many words t'
   fits_gone u n ports handles is =
       fits_left words t fit t'
       (subst (λ (z : HubTables). AreLeft t.ports z.ports) (sym is) (left_twice t.ports u.ports (with_released u n).ports (left_alike t.ports u.ports ports) (left_released u n)))
       kept
       (gone_fit_released words t t' fit.gone kept order fit.ports u n ports is)
-      (subst (λ (z : HubTables). OfEachHandle (SuitsHandle words) z.handles) (sym is)
-      (subst (λ hs. OfEachHandle (SuitsHandle words) hs) (sym (released_handles u n)) handles))
+      (subst (λ (z : HubTables). OfEachHandle (SuitsHandle many words) z.handles) (sym is)
+      (subst (λ hs. OfEachHandle (SuitsHandle many words) hs) (sym (released_handles u n)) handles))
 
   pub fits_released : (h : HandleState) → t' ≡ record (with_released (with_ended t h) h.port) { pools = t'.pools } → WordsFit many words t'
   fits_released h is =
       fits_gone (with_ended t h) h.port (given_up_alike h.kind t h)
-      (each_left (SuitsHandle words) h.node h.number (given_up_as h.kind t h).handles
-      (subst (λ hs. OfEachHandle (SuitsHandle words) hs) (sym (given_up_handles h.kind t h)) fit.handles))
+      (each_left (SuitsHandle many words) h.node h.number (given_up_as h.kind t h).handles
+      (subst (λ hs. OfEachHandle (SuitsHandle many words) hs) (sym (given_up_handles h.kind t h)) fit.handles))
       is
 
   pub fits_port_released : (n : ℕ) → t' ≡ record (with_released (with_value_released t n) n) { pools = t'.pools } → WordsFit many words t'

@@ -62,16 +62,17 @@ module _ (h : HubState) (place : ℕ) (order : AreInOrder h.control.tables) (gon
           subst (λ o. p.longest ≤ option_map_or (λ (c : Carried). c.contents.longest) (option_map_or (λ z. z) o None) 0) (sym (of_port n p at)) (fit.longest n p at);
       one = fit.one;
       handles =
-          each_handle_from (λ g. IsUsed t g.pool g.slot × SuitsHandle h.words g) (SuitsHandle less) (λ g both. suits g both.0 both.1) t.handles
-          (each_both (λ g. IsUsed t g.pool g.slot) (SuitsHandle h.words) t.handles (each_used t order) fit.handles);
+          each_handle_from (λ g. IsUsed t g.pool g.slot × SuitsHandle (many_in h) h.words g) (SuitsHandle (many_in h) less) (λ g both. suits g both.0 both.1) t.handles
+          (each_both (λ g. IsUsed t g.pool g.slot) (SuitsHandle (many_in h) h.words) t.handles (each_used t order) fit.handles);
     }
       where
         of_port : (n : ℕ) (p : PortState) → port_in t.ports n ≡ Some p → slice_get less p.pool ≡ slice_get h.words p.pool
         of_port n p at = same_at p.pool (free.ports n p at)
 
-        suits : (g : HandleState) → IsUsed t g.pool g.slot → SuitsHandle h.words g → SuitsHandle less g
+        suits : (g : HandleState) → IsUsed t g.pool g.slot → SuitsHandle (many_in h) h.words g → SuitsHandle (many_in h) less g
         suits g used is = record {
           kind = ap (λ o. option_map_or (λ (c : Carried). c.requests) (option_map_or (λ z. z) o None) false) (at_used g.pool g.slot used) ∙ is.kind;
+          one = λ e few. subst (λ o. (stored_of o g.slot).elements ≡ 1) (sym (at_used g.pool g.slot used)) (is.one e few);
           full = λ e.
               subst (λ o. (stored_of o g.slot).filled ≡ (stored_of o g.slot).elements) (sym (at_used g.pool g.slot used)) (is.full e);
         }

@@ -90,9 +90,11 @@ each_changed P new (k ∷ ks) a b = step ((k.node == new.node) && (k.number == n
     step false rest = (a.0, rest)
 
 -- a loaned request's words suit it as a pending response
-pending_suits : (words : List (Option Carried)) (h : HandleState) (count : ℕ) → h.kind ≡ kinds.RequestMut → SuitsHandle words h → SuitsHandle words (pending_of h count)
-pending_suits words h count kind is = record {
+pending_suits : (many : Bool × Bool) (words : List (Option Carried)) (h : HandleState) (count : ℕ) → h.kind ≡ kinds.RequestMut → SuitsHandle many words h
+    → SuitsHandle many words (pending_of h count)
+pending_suits many words h count kind is = record {
   kind = is.kind ∙ ap comes_with_request kind;
+  one = λ e. absurd (true≢false (sym e));
   full = λ e. absurd (true≢false (sym e));
 }
 
@@ -102,8 +104,8 @@ module _ {many : Bool × Bool} (words : List (Option Carried)) (t t' : HubTables
   pub fits_response_sent : (fails : Bool) → t' ≡ record (with_released (with_response_ended t node n h fails) h.port) { pools = t'.pools } → WordsFit many words t'
   fits_response_sent fails is =
       fits_gone words t t' fit order kept (with_response_ended t node n h fails) h.port (response_alike t h)
-      (each_left (SuitsHandle words) node n (with_response_sent t h).handles
-      (subst (λ hs. OfEachHandle (SuitsHandle words) hs) (sym (response_handles t h)) fit.handles))
+      (each_left (SuitsHandle many words) node n (with_response_sent t h).handles
+      (subst (λ hs. OfEachHandle (SuitsHandle many words) hs) (sym (response_handles t h)) fit.handles))
       is
 
   module _ (there : handle_in t.handles node n ≡ Some h) (kind : h.kind ≡ kinds.RequestMut) where
@@ -117,12 +119,12 @@ module _ {many : Bool × Bool} (words : List (Option Carried)) (t t' : HubTables
         kept
         (gone_fit_alike words t t' fit.gone kept
         (subst (λ (z : HubTables). AreAlike t.ports z.ports) (sym is) (request_alike back h t.settings.request_overflow ∙ back_alike t h)))
-        (subst (λ (z : HubTables). OfEachHandle (SuitsHandle words) z.handles) (sym is)
-        (each_changed (SuitsHandle words) (pending_of h (length (ways_of back h t.settings.request_overflow))) t.handles fit.handles
-        (pending_suits words h (length (ways_of back h t.settings.request_overflow)) kind
-        (handle_is (SuitsHandle words) t.handles node n h fit.handles there))))
+        (subst (λ (z : HubTables). OfEachHandle (SuitsHandle many words) z.handles) (sym is)
+        (each_changed (SuitsHandle many words) (pending_of h (length (ways_of back h t.settings.request_overflow))) t.handles fit.handles
+        (pending_suits many words h (length (ways_of back h t.settings.request_overflow)) kind
+        (handle_is (SuitsHandle many words) t.handles node n h fit.handles there))))
     fits_request_sent ExceedsMaxActiveRequests is =
-        fits_gone words t t' fit order kept (with_dropped t node n) h.port refl (each_left (SuitsHandle words) node n t.handles fit.handles) is
+        fits_gone words t t' fit order kept (with_dropped t node n) h.port refl (each_left (SuitsHandle many words) node n t.handles fit.handles) is
     fits_request_sent UnableToDeliver is =
         fits_gone words t t' fit order kept (with_dropped (with_requests_back t h) node n) h.port (back_alike t h)
-        (each_left (SuitsHandle words) node n t.handles fit.handles) is
+        (each_left (SuitsHandle many words) node n t.handles fit.handles) is

@@ -7,6 +7,7 @@ use Rattle.iox_model.specs.declared.kind.Role.{Role}
 use Rattle.iox_model.specs.Handles.{is_request_loan, same_kind}
 use Rattle.iox_model.specs.Maps.{has_number}
 use Rattle.iox_model.specs.Settings.{is_client, other_role}
+use Rattle.iox_tables.specs.HubBooks.Handles.{is_loan}
 use Rattle.iox_tables.specs.HubStates.Tables.{HandleState, HubTables, PoolState, PortState, pool_at, port_in, senders_of, slot_at, slots_of}
 use Rattle.iox_tables.specs.HubStates.Ends.{OfEachHandle}
 use Rattle.iox_hub.specs.Words.{Carried, stored_in}
@@ -36,18 +37,27 @@ comes_with_request kind =
 abbrev pub is_full_loan : Kind → Bool
 is_full_loan kind = same_kind kind RequestMut || same_kind kind ResponseMut
 
--- The handle's message is a request if the handle is of one. If it is a filled loan, each of its
--- elements is filled.
-pub record SuitsHandle (words : List (Option Carried)) (h : HandleState) : Type 0 where
-  pub kind : are_requests_in words h.pool ≡ comes_with_request h.kind
-  pub full :
-      is_full_loan h.kind ≡ true
-      → (stored_in words h.pool h.slot).filled ≡ (stored_in words h.pool h.slot).elements
-
 -- whether what a role sends may have any number of elements, where it is said of requests, and of
 -- responses
 abbrev pub many_by : Bool × Bool → Role → Bool
 many_by many role = if is_client role then many.0 else many.1
+
+-- whether the message of a handle of this kind may have any number of elements
+abbrev pub many_of : Bool × Bool → Kind → Bool
+many_of many kind = if comes_with_request kind then many.0 else many.1
+
+-- The handle's message is a request if the handle is of one. If it is a loan, it has one element
+-- where such messages have one. If it is a filled loan, each of its elements is filled.
+pub record SuitsHandle (many : Bool × Bool) (words : List (Option Carried)) (h : HandleState)
+    : Type 0
+  where
+    pub kind : are_requests_in words h.pool ≡ comes_with_request h.kind
+    pub one :
+        is_loan h.kind ≡ true → many_of many h.kind ≡ false
+        → (stored_in words h.pool h.slot).elements ≡ 1
+    pub full :
+        is_full_loan h.kind ≡ true
+        → (stored_in words h.pool h.slot).filled ≡ (stored_in words h.pool h.slot).elements
 
 -- Where the port's messages have one element, that is the greatest length: none of them grows.
 abbrev pub IsOneOfOne : Bool × Bool → PortState → Type 0
@@ -80,4 +90,4 @@ pub record WordsFit (many : Bool × Bool) (words : List (Option Carried)) (t : H
         (n : ℕ) (p : PortState) → port_in t.ports n ≡ Some p
         → p.longest ≤ longest_in words p.pool
     pub one : (n : ℕ) (p : PortState) → port_in t.ports n ≡ Some p → IsOneOfOne many p
-    pub handles : OfEachHandle (SuitsHandle words) t.handles
+    pub handles : OfEachHandle (SuitsHandle many words) t.handles

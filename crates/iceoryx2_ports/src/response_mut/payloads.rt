@@ -20,6 +20,7 @@ ghost use Rattle.iceoryx2_ports.specs.Payloads.{reply_of_put};
 ghost use Rattle.iceoryx2_ports.specs.Reaching.{KeepsRoom};
 
 use super::ResponseMut;
+use crate::loans::response_has_one;
 use iox_hub_laws::{Backpressure, Hub, Written};
 use iox_store::{One, Payload};
 use iox_words::Words;
@@ -62,7 +63,6 @@ impl<Q: Payload, QH: Words, E: Words, PH: Words> ResponseMut<Q, QH, One<E>, PH> 
     pub fn set_payload<H: Backpressure>(&self, hub: &mut Hub<Q, QH, One<E>, PH, H>, value: E)
         requires has { HasValue hub.old self.now.node self.now.number kinds.ResponseMut }
         requires small { FitsInMemory E.row }
-        requires one { (message_in hub.old self.now.node self.now.number).elements ≡ 1 }
         ensures whole { (x : Given) → IsWholeCall (state_of_hub x hub.old) self.now.node
             (Write self.now.number (payload_of roles.Server 1 (flat_map E.words (value ∷ []))))
             Done (state_of_hub x hub.new) }
@@ -77,6 +77,7 @@ impl<Q: Payload, QH: Words, E: Words, PH: Words> ResponseMut<Q, QH, One<E>, PH> 
         ensures room { KeepsRoom hub.old hub.new }
         ensures requests { KeepsRequests hub.old hub.new }
     {
+        response_has_one(hub, self.node, self.number);
         if !self.set_payload_from_slice(hub, &[value]) {
             unreachable!();
         }
