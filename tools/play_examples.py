@@ -1,12 +1,12 @@
 #!/usr/bin/env python3
-"""Plays each script of examples/ with the program, and cases that end in each of its exit statuses, and compares.
+"""Plays each script of examples/ and of crates/iox_run/tests/ with the program, and cases that no file shows, and compares.
 
     tools/play_examples.py [PROGRAM]
 
-PROGRAM is crates/iox_run/out/iox_run if left out, which `rt ci` builds. Beside examples/NAME.script stands
-NAME.script.stdout, what the program has to write, and NAME.script.status, its exit status (0 where there is no such
-file). The cases below end as docs/SCRIPT.md says: with 1 where standard input fails, with 2 where standard output
-fails, and with 3 where there is no memory. Exit 1 if one of them differs, 2 if there is no program or no script.
+PROGRAM is crates/iox_run/out/iox_run if left out, which `rt ci` builds. Beside NAME.script stands NAME.script.stdout, what
+the program has to write, and NAME.script.status, its exit status (0 where there is no such file). The cases below end as
+docs/SCRIPT.md says: with 1 where standard input fails, with 2 where standard output fails, and with 3 where there is no
+memory. Exit 1 if one of them differs, 2 if there is no program or a folder has no script.
 A script of more than 2^32 bytes, which ends with 1 too, is not tried.
 """
 import os
@@ -20,6 +20,7 @@ import tempfile
 import tty
 
 TOP = pathlib.Path(__file__).resolve().parent.parent
+FOLDERS = ("examples", "crates/iox_run/tests")
 SECONDS = 60
 # Lines that have ended, and the answers to them.
 LINES = b"set request-overflow 0\nset response-overflow 0\ncreate 612f62 1 0 0 0\nclient 0 50000\n"
@@ -141,11 +142,13 @@ def fault_of_case(case, program):
 
 def main():
     program = pathlib.Path(sys.argv[1]) if len(sys.argv) > 1 else TOP / "crates/iox_run/out/iox_run"
-    scripts = sorted((TOP / "examples").glob("*.script"))
-    if not program.is_file() or not scripts:
-        print(f"play_examples: there is no {program if scripts else 'script'}", file=sys.stderr)
+    scripts = {folder: sorted((TOP / folder).glob("*.script")) for folder in FOLDERS}
+    lacking = [f"{folder}/*.script" for folder, found in scripts.items() if not found]
+    lacking += [] if program.is_file() else [program]
+    if lacking:
+        print(f"play_examples: there is no {lacking[0]}", file=sys.stderr)
         return 2
-    faults = {script.name: fault_of(program, script) for script in scripts}
+    faults = {f"{folder}/{it.name}": fault_of(program, it) for folder, found in scripts.items() for it in found}
     faults |= {case.__name__.replace("_", " "): fault_of_case(case, program) for case in CASES}
     for name, fault in faults.items():
         print(f"{name}: {fault or 'as it should be'}")
