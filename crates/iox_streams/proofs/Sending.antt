@@ -3,9 +3,9 @@ use Rattle.std.proofs.Common.{◌≡◌, ℕ, ◌≤◌, List, take, drop, lengt
 use Rattle.std.proofs.lemmas.List.{take_all}
 use Rattle.std.proofs.KnownBytes.{Appends-kept}
 use Rattle.std.specs.Io.KnownBytes.{Appends, Keeps}
-use Rattle.iox_run.specs.declared.fault.Fault.{Fault}
-use Rattle.iox_run.specs.declared.fault.Fault.TheVariants.{Write}
-use Rattle.iox_run.specs.Standings.{Sends, SendsAll}
+use Rattle.iox_streams.specs.declared.fault.Fault.{Fault}
+use Rattle.iox_streams.specs.declared.fault.Fault.TheVariants.{Write}
+use Rattle.iox_streams.specs.Writes.{Sends, SendsAll}
 
 -- a writer that failed after it took the first n bytes
 pub Sends-failed : (a b c : Option (List ℕ)) (n : ℕ) (bytes : List ℕ) → Appends a b (take n bytes) → Keeps b c

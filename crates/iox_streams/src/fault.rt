@@ -1,6 +1,5 @@
 //! Why a run stops before its script's end.
 ghost use Rattle.std.specs.Prelude.{◌≡◌};
-ghost use Rattle.iox_run.specs.Statuses.{status_of};
 
 use std::alloc::AllocError;
 
@@ -17,23 +16,11 @@ pub enum Fault {
 }
 
 impl From<AllocError> for Fault {
-    ghost use Rattle.iox_run.specs.declared.fault.Fault.TheVariants.{WantOfMemory};
+    ghost use Rattle.iox_streams.specs.declared.fault.Fault.TheVariants.{WantOfMemory};
 
     ghost from_gives = { λ _ fault. fault ≡ WantOfMemory };
 
     fn from(_error: AllocError) -> Fault {
         Fault::WantOfMemory
-    }
-}
-
-/// The exit status of the program.
-pub fn status_of(ended: Result<(), Fault>) -> u8
-    ensures { result ≡ status_of ended }
-{
-    match ended {
-        Ok(()) => 0,
-        Err(Fault::Read) => 1,
-        Err(Fault::Write) => 2,
-        Err(Fault::WantOfMemory) => 3,
     }
 }

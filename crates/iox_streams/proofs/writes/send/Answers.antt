@@ -1,9 +1,9 @@
 use Rattle.std.proofs.Common.{◌≡◌, take, arith, rules, take-add, append-nil, length-drop}
 use Rattle.std.proofs.lemmas.List.{take_rest}
 use Rattle.std.proofs.KnownBytes.{Appends-kept, Appends-trans, Keeps-refl}
-use Rattle.iox_run.proofs.RunStreams.{Sends-failed, Sends-flushed}
-use Rattle.iox_run.proofs.run.streams.send.Goals as goal
-use Rattle.iox_run.proofs.run.streams.send.Goals.{in-Ok, in-Err+else-ne}
+use Rattle.iox_streams.proofs.Sending.{Sends-failed, Sends-flushed}
+use Rattle.iox_streams.proofs.writes.send.Goals as goal
+use Rattle.iox_streams.proofs.writes.send.Goals.{in-Ok, in-Err+else-ne}
 
 pub returns-then-sent-bytes : goal.returns-then-sent-bytes
 returns-then-sent-bytes g c = Sends-flushed _ _ _ _ _ c.flush.result c.writes.invariant.1 c.if-sent-bytes.true c.flush.ensures.bytes c.flush.ensures.fault
