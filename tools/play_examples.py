@@ -61,16 +61,18 @@ def fault_of(program, script):
 def played(program, script, size=CHUNK):
     """How the program ends and what it writes, where each of its reads gets the next bytes of the script, at most so many."""
     given, giver = socket.socketpair(socket.AF_UNIX, socket.SOCK_SEQPACKET)
-    with tempfile.TemporaryFile() as file, giver:
-        with subprocess.Popen([program], stdin=given, stdout=file) as running:
-            given.close()
-            giver.settimeout(SECONDS)
-            for at in range(0, len(script), size):
-                giver.send(script[at : at + size])
-            giver.close()
-            status = running.wait(SECONDS)
+    with tempfile.TemporaryFile() as file, subprocess.Popen([program], stdin=given, stdout=file) as running:
+        given.close()
+        try:
+            with giver:
+                giver.settimeout(SECONDS)
+                for at in range(0, len(script), size):
+                    giver.send(script[at : at + size])
+            running.wait(SECONDS)
+        finally:
+            running.kill()
         file.seek(0)
-        return status, file.read()
+        return running.returncode, file.read()
 
 
 def a_request_and_its_response_in_pieces_of_any_size(program):
