@@ -1,12 +1,13 @@
 #!/usr/bin/env python3
-"""Plays each script of examples/ with the program, and cases that end in each of its exit statuses, and compares.
+"""Plays each script of examples/ and of crates/iox_run/tests/ with the program, and cases that no file shows, and compares.
 
     tools/play_examples.py [PROGRAM]
 
-PROGRAM is crates/iox_run/out/iox_run if left out, which `rt ci` builds. Beside examples/NAME.script stands
-NAME.script.stdout, what the program has to write, and NAME.script.status, its exit status (0 where there is no such
-file). The cases below end as docs/SCRIPT.md says: with 1 where standard input fails, with 2 where standard output
-fails, and with 3 where there is no memory. Exit 1 if one of them differs, 2 if there is no program or no script.
+PROGRAM is crates/iox_run/out/iox_run if left out, which `rt ci` builds. Beside NAME.script stands NAME.script.stdout, what
+the program has to write, and NAME.script.status, its exit status (0 where there is no such file). The cases below end as
+docs/SCRIPT.md says: with 1 where standard input fails, with 2 where standard output fails, and with 3 where there is no
+memory. Others have lines as long as a line may be, or are read in small pieces. Exit 1 if one of them differs, 2 if there
+is no program or a folder has no script.
 A script of more than 2^32 bytes, which ends with 1 too, is not tried.
 """
 import os
@@ -14,13 +15,18 @@ import pathlib
 import resource
 import select
 import signal
+import socket
 import subprocess
 import sys
 import tempfile
 import tty
 
 TOP = pathlib.Path(__file__).resolve().parent.parent
+FOLDERS = ("examples", "crates/iox_run/tests")
 SECONDS = 60
+# The most bytes of a line, and of one read.
+MAX_LINE = 65_536
+CHUNK = 8_192
 # Lines that have ended, and the answers to them.
 LINES = b"set request-overflow 0\nset response-overflow 0\ncreate 612f62 1 0 0 0\nclient 0 50000\n"
 ANSWERS = b"ok\nok\nnode 0\nclient 0\n"
@@ -52,6 +58,56 @@ def fault_of(program, script):
     return fault_of_end(ran.returncode, ran.stdout, status, wanted)
 
 
+def played(program, script, size=CHUNK):
+    """How the program ends and what it writes, where each of its reads gets the next bytes of the script, at most so many."""
+    given, giver = socket.socketpair(socket.AF_UNIX, socket.SOCK_SEQPACKET)
+    with tempfile.TemporaryFile() as file, subprocess.Popen([program], stdin=given, stdout=file) as running:
+        given.close()
+        try:
+            with giver:
+                giver.settimeout(SECONDS)
+                for at in range(0, len(script), size):
+                    giver.send(script[at : at + size])
+            running.wait(SECONDS)
+        finally:
+            running.kill()
+        file.seek(0)
+        return running.returncode, file.read()
+
+
+def a_request_and_its_response_in_pieces_of_any_size(program):
+    """Each read gets so many bytes."""
+    script = TOP / "examples/request_response.script"
+    wanted = script.with_name(script.name + ".stdout").read_bytes()
+    faults = {size: fault_of_end(*played(program, script.read_bytes(), size), 0, wanted) for size in (1, 2, 7, CHUNK)}
+    return next((f"in pieces of {size}: {fault}" for size, fault in faults.items() if fault), None)
+
+
+def a_line_of_more_than_65536_bytes_is_too_long(program):
+    """Of as many bytes it says no command. The lines behind it are played in both cases."""
+    for size in (1_000, CHUNK):
+        for length, cause in ((MAX_LINE, b"unknown command"), (MAX_LINE + 1, b"too long")):
+            script = b"a" * length + b"\nset request-overflow 0\nread 0 1"
+            wanted = b"bad line 1: " + cause + b"\nok\nrefused NoService\n"
+            if fault := fault_of_end(*played(program, script, size), 0, wanted):
+                return f"a line of {length} bytes, in pieces of {size}: {fault}"
+    return None
+
+
+def the_longest_request_is_shown_whole(program):
+    """A line has room for 32,761 words of one digit."""
+    words = 32_761 * b" 7"
+    made = b"set request-overflow 0\nset response-overflow 0\ncreate 61 1 0 0 0\nclient 0 32761\n"
+    status, found = played(program, made + b"send-copy 0 0" + words + b"\nread 0 1\n")
+    return fault_of_end(status, found, 0, ANSWERS + b"handle 1\nwords" + words + b"\n")
+
+
+def the_longest_name_is_refused_for_its_length(program):
+    """A line has room for a name of 32,760 bytes."""
+    script = b"set request-overflow 0\nset response-overflow 0\ncreate " + 32_760 * b"61" + b" 1 0 0 0\n"
+    return fault_of_end(*played(program, script), 0, b"ok\nok\nrefused ExceedsMaximumLength\n")
+
+
 def a_read_that_fails_at_once(program):
     """Standard input is a folder: nothing is written."""
     given = os.open(TOP, os.O_RDONLY)
@@ -64,18 +120,22 @@ def a_read_that_fails_at_once(program):
 
 def a_read_that_fails_within_a_line(program):
     """Standard input is a terminal that goes away within a line: the lines before it are answered, and it is not."""
-    try:
-        given, terminal = os.openpty()
-    except OSError as error:
-        print(f"not tried, since no terminal can be opened here ({error}): a read that fails within a line")
-        return None
-    tty.setraw(terminal)
-    with subprocess.Popen([program], stdin=given, stdout=subprocess.PIPE) as running:
-        os.close(given)
-        os.write(terminal, LINES + b"server 0 1")
-        os.close(terminal)
-        found, _ = running.communicate(timeout=SECONDS)
-    return fault_of_end(running.returncode, found, 1, ANSWERS)
+    scripts = {LINES + b"server 0 1": ANSWERS, b"set request-overflow 0\nopen 2 0 0 0\nset response-overflow 0": b"ok\nrefused NoService\n"}
+    for script, wanted in scripts.items():
+        try:
+            given, terminal = os.openpty()
+        except OSError as error:
+            print(f"not tried, since no terminal can be opened here ({error}): a read that fails within a line")
+            return None
+        tty.setraw(terminal)
+        with subprocess.Popen([program], stdin=given, stdout=subprocess.PIPE) as running:
+            os.close(given)
+            os.write(terminal, script)
+            os.close(terminal)
+            found, _ = running.communicate(timeout=SECONDS)
+        if fault := fault_of_end(running.returncode, found, 1, wanted):
+            return fault
+    return None
 
 
 def a_write_that_fails_at_once(program):
@@ -123,6 +183,10 @@ def no_memory_for_a_message(program):
 
 
 CASES = (
+    a_request_and_its_response_in_pieces_of_any_size,
+    a_line_of_more_than_65536_bytes_is_too_long,
+    the_longest_request_is_shown_whole,
+    the_longest_name_is_refused_for_its_length,
     a_read_that_fails_at_once,
     a_read_that_fails_within_a_line,
     a_write_that_fails_at_once,
@@ -141,11 +205,13 @@ def fault_of_case(case, program):
 
 def main():
     program = pathlib.Path(sys.argv[1]) if len(sys.argv) > 1 else TOP / "crates/iox_run/out/iox_run"
-    scripts = sorted((TOP / "examples").glob("*.script"))
-    if not program.is_file() or not scripts:
-        print(f"play_examples: there is no {program if scripts else 'script'}", file=sys.stderr)
+    scripts = {folder: sorted((TOP / folder).glob("*.script")) for folder in FOLDERS}
+    lacking = [f"{folder}/*.script" for folder, found in scripts.items() if not found]
+    lacking += [] if program.is_file() else [program]
+    if lacking:
+        print(f"play_examples: there is no {lacking[0]}", file=sys.stderr)
         return 2
-    faults = {script.name: fault_of(program, script) for script in scripts}
+    faults = {f"{folder}/{it.name}": fault_of(program, it) for folder, found in scripts.items() for it in found}
     faults |= {case.__name__.replace("_", " "): fault_of_case(case, program) for case in CASES}
     for name, fault in faults.items():
         print(f"{name}: {fault or 'as it should be'}")

@@ -1,5 +1,6 @@
-//! Tests and callers of the descriptions of services, of what an opener is refused and of the
-//! script language, by what their crates make public. So the gate proves each of those crates once.
+//! Tests and callers of the descriptions of services, of what an opener is refused, of the script
+//! language and of reads and writes, by what their crates make public. So the gate proves each of
+//! those crates once.
 #![tactic(auto)]
 
 #[cfg(test)]
@@ -18,5 +19,7 @@ mod registry;
 mod script;
 #[cfg(test)]
 mod service;
+#[cfg(test)]
+mod streams;
 #[cfg(test)]
 mod types;

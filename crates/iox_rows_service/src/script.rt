@@ -1,7 +1,7 @@
 //! Lines and answers as they stand in scripts.
 mod replies;
 
-use crate::expected::{equal, holds};
+use crate::expected::equal;
 use iox_model::command::{Command, PortCommand};
 use iox_model::kind::Role;
 use iox_script::{LineCause, ParseError, ScriptCommand, parse};
@@ -9,13 +9,6 @@ use iox_types::identifiers::UniqueSystemId;
 use std::alloc::{AllocError, Global};
 use std::process::Abort;
 use std::test::Fail;
-
-fn cause_of(alloc: Global, line: &[u8]) -> Option<LineCause> {
-    match parse(alloc, line) {
-        Err(ParseError::Bad(cause)) => Some(cause),
-        _ => None,
-    }
-}
 
 /// Ends the test where a line is read as another command.
 fn is_read(rt: &impl Abort, alloc: Global, line: &[u8], command: &str) -> Result<(), Fail> {
@@ -124,75 +117,6 @@ fn the_name_of_a_service_is_read_from_digits_of_either_case(rt: HostRuntime) -> 
     Ok(())
 }
 
-/// Ends the test where a line is not bad for that cause.
-fn are_bad(rt: &impl Abort, alloc: Global, lines: &[(&[u8], LineCause)]) {
-    for (line, cause) in lines {
-        equal(rt, (*line, cause_of(alloc, line)), (*line, Some(*cause)));
-    }
-}
-
-#[test]
-fn a_bad_line_gives_its_first_cause(rt: HostRuntime) {
-    const LINES: &[(&[u8], LineCause)] = &[
-        (b"", LineCause::UnknownCommand),
-        (b" ", LineCause::UnknownCommand),
-        (b"sets request-overflow 0", LineCause::UnknownCommand),
-        (b"Set request-overflow 0", LineCause::UnknownCommand),
-        (b" read 0 0", LineCause::UnknownCommand),
-        (b"read\t0 0", LineCause::UnknownCommand),
-        (b"re\0ad 0 0", LineCause::UnknownCommand),
-        (b"set", LineCause::WrongCount),
-        (b"set nodes", LineCause::WrongCount),
-        (b"create 6 1 0 0", LineCause::WrongCount),
-        (b"open x 0 0 0 0", LineCause::WrongCount),
-        (b"client 0 8 ", LineCause::WrongCount),
-        (b"server 0  8", LineCause::WrongCount),
-        (b"send-copy 0", LineCause::WrongCount),
-        (b"receive 0 0 0", LineCause::WrongCount),
-        (b"read x", LineCause::WrongCount),
-        (b"set request-overflow 2", LineCause::BadNumber),
-        (b"set request-overflow ", LineCause::BadNumber),
-        (b"open 4294967296 0 0 0", LineCause::BadNumber),
-        (b"open 0 0 0 4294967296", LineCause::BadNumber),
-        (b"create 61 1 0 0 x", LineCause::BadNumber),
-        (b"client 0 18446744073709551616", LineCause::BadNumber),
-        (b"client +1 0", LineCause::BadNumber),
-        (b"receive 0 -0", LineCause::BadNumber),
-        (b"read 0 0\r", LineCause::BadNumber),
-        (b"read 0 \0", LineCause::BadNumber),
-        (b"read 0 \xc8", LineCause::BadNumber),
-        (b"send-copy 0 0 1  2", LineCause::BadNumber),
-        (b"send-copy 0 0 1 ", LineCause::BadNumber),
-        (b"send-copy 0 0 1 2 0x3 4", LineCause::BadNumber),
-        (b"set nodes 2", LineCause::BadText),
-        (b"create  1 0 0 0", LineCause::BadText),
-        (b"create 616 x 0 0 0", LineCause::BadText),
-        (b"create 6g 1 0 0 0", LineCause::BadText),
-    ];
-    are_bad(&rt, rt.alloc(), LINES);
-}
-
-#[test]
-fn a_line_of_more_than_65536_bytes_is_too_long(rt: HostRuntime) -> Result<(), Fail> {
-    let line = vec![in rt.alloc(); b'a'; 65537]?;
-    equal(&rt, cause_of(rt.alloc(), &line), Some(LineCause::TooLong));
-    equal(
-        &rt,
-        cause_of(rt.alloc(), &line[..65536]),
-        Some(LineCause::UnknownCommand),
-    );
-    Ok(())
-}
-
-/// The longest line that sends words, each of one digit: 32,761 of them.
-fn longest_send(alloc: Global) -> Result<Vec<u8>, AllocError> {
-    let mut line = Vec::from_slice(alloc, b"send-copy 0 0")?;
-    for _ in 0..32_761 {
-        line.extend_from_slice(b" 7")?;
-    }
-    Ok(line)
-}
-
 /// The longest line that creates a service: its name has 65,520 digits.
 fn longest_create(alloc: Global) -> Result<Vec<u8>, AllocError> {
     let mut line = Vec::from_slice(alloc, b"create ")?;
@@ -203,21 +127,8 @@ fn longest_create(alloc: Global) -> Result<Vec<u8>, AllocError> {
     Ok(line)
 }
 
-/// Ends the test where a line does not send these words.
-fn sends(rt: &impl Abort, alloc: Global, line: &[u8], words: &[u64]) -> Result<(), Fail> {
-    let said = parse(alloc, line)?;
-    let ScriptCommand::Service(Command::Port(PortCommand::SendCopy { payload, .. })) = &said else {
-        return Err(Fail::from("no words to send"));
-    };
-    holds(rt, payload.as_slice() == words);
-    Ok(())
-}
-
 #[test]
-fn the_longest_lines_are_read_whole(rt: HostRuntime) -> Result<(), Fail> {
-    let line = longest_send(rt.alloc())?;
-    let words = vec![in rt.alloc(); 7; 32_761]?;
-    sends(&rt, rt.alloc(), &line, &words)?;
+fn the_longest_name_is_read_whole(rt: HostRuntime) -> Result<(), Fail> {
     let line = longest_create(rt.alloc())?;
     let bytes = vec![in rt.alloc(); b'a'; 32_760]?;
     creates(&rt, rt.alloc(), &line, &bytes)

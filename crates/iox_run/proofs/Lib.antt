@@ -4,4 +4,3 @@ pub mod RunSteps
 pub mod RunFaults
 pub mod RunPlaying
 pub mod RunReads
-pub mod RunStreams

@@ -2,13 +2,14 @@
 use Rattle.std.proofs.Common.{◌≡◌, ◌≢◌, ℕ, List, [], ◌∷◌, ◌++◌, length, take, Result, Ok, Err, inr, refl, sym, ap, subst, ◌∙◌, append_assoc, append-nil, arith}
 use Rattle.iox_script.specs.Lines.{ended_lines, rest_of, line_of_rest, lines_of}
 use Rattle.iox_script.proofs.LineLemmas.{lines_of-ended, ended_lines-append_line}
-use Rattle.iox_run.specs.declared.fault.Fault.{Fault}
-use Rattle.iox_run.specs.declared.fault.Fault.TheVariants.{WantOfMemory, Write}
+use Rattle.iox_streams.specs.declared.fault.Fault.{Fault}
+use Rattle.iox_streams.specs.declared.fault.Fault.TheVariants.{WantOfMemory, Write}
 use Rattle.iox_run.specs.declared.run.player.Player.{Player}
 use Rattle.iox_session.specs.Shown.{session_of}
 use Rattle.iox_run.specs.Answers.{IsTextOfLines, IsTextOf}
 use Rattle.iox_run.specs.Runs.{IsBeginningOf, Stops}
-use Rattle.iox_run.specs.Standings.{kept, IsAsFar, Goes, SendsAll, Finishes}
+use Rattle.iox_streams.specs.Writes.{SendsAll}
+use Rattle.iox_run.specs.Standings.{kept, IsAsFar, Goes, Finishes}
 use Rattle.iox_run.proofs.RunAnswers.{ended_lines_are_first, nil_from_kept, kept-nil}
 
 -- bytes before a beginning of some more, and before some more of a beginning

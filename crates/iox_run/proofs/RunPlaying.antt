@@ -2,11 +2,12 @@
 use Rattle.std.proofs.Common.{◌≡◌, ℕ, ◌+◌, ◌≤◌, List, [], ◌++◌, length, Option, Result, Ok, Err, OnOk, refl, sym, ap, subst, ◌∙◌, append_assoc, append-nil, arith}
 use Rattle.std.proofs.KnownBytes.{Appends-nil, Appends-trans}
 use Rattle.std.specs.Io.KnownBytes.{Appends}
-use Rattle.iox_run.specs.declared.fault.Fault.{Fault}
-use Rattle.iox_run.specs.declared.fault.Fault.TheVariants.{WantOfMemory, Write}
+use Rattle.iox_streams.specs.declared.fault.Fault.{Fault}
+use Rattle.iox_streams.specs.declared.fault.Fault.TheVariants.{WantOfMemory, Write}
 use Rattle.iox_run.specs.declared.run.player.Player.{Player}
 use Rattle.iox_run.specs.Runs.{IsBeginningOf, Stops}
-use Rattle.iox_run.specs.Standings.{Goes, IsSent, TakesUpTo, Sends, SendsAll, Waits, PlaysOn}
+use Rattle.iox_streams.specs.Writes.{Sends, SendsAll}
+use Rattle.iox_run.specs.Standings.{Goes, IsSent, TakesUpTo, Waits, PlaysOn}
 use Rattle.iox_run.proofs.RunSteps.{Goes-nil, Goes-trans, Goes-sent}
 use Rattle.iox_run.proofs.RunFaults.{write_failed, memory_ran_out}
 

@@ -7,13 +7,15 @@ use Rattle.std.proofs.lemmas.List.Sums.{count_by-le-length}
 use Rattle.std.proofs.KnownBytes.{Appends-nil, Appends-trans, Consumes-nil, Consumes-trans}
 use Rattle.std.specs.Io.KnownBytes.{Appends, Consumes, IsAtEnd}
 use Rattle.iox_script.specs.Lines.{is_line_feed, pieces_of, ended_lines}
-use Rattle.iox_run.specs.declared.fault.Fault.{Fault}
-use Rattle.iox_run.specs.declared.fault.Fault.TheVariants.{WantOfMemory}
+use Rattle.iox_streams.specs.declared.fault.Fault.{Fault}
+use Rattle.iox_streams.specs.declared.fault.Fault.TheVariants.{WantOfMemory}
 use Rattle.iox_run.specs.declared.run.player.Player.{Player}
 use Rattle.iox_session.specs.SessionStates.{new_session}
 use Rattle.iox_run.specs.Answers.{IsTextOfLines}
 use Rattle.iox_run.specs.Runs.{Stops, Plays, max_script}
-use Rattle.iox_run.specs.Standings.{ReadsWithin, IsAsFar, IsSent, Sends, PlaysOn, Finishes}
+use Rattle.iox_streams.specs.Reads.{ReadsWithin}
+use Rattle.iox_streams.specs.Writes.{Sends}
+use Rattle.iox_run.specs.Standings.{IsAsFar, IsSent, PlaysOn, Finishes}
 use Rattle.iox_run.proofs.RunFaults.{ended_answered}
 
 -- A script was taken from the reader, which may give so many bytes more, and all its answers so far went to the writer.

@@ -3,8 +3,8 @@ use Rattle.std.specs.Prelude.{◌≡◌, ◌⊎◌, ℕ, ◌^◌, ◌≤◌, Lis
 use Rattle.std.specs.Io.KnownBytes.{Appends, Consumes, IsAtEnd}
 use Rattle.iox_script.specs.Lines.{lines_of, ended_lines}
 use Rattle.iox_run.specs.Answers.{IsTextOf, IsTextOfLines}
-use Rattle.iox_run.specs.declared.fault.Fault.{Fault}
-use Rattle.iox_run.specs.declared.fault.Fault.TheVariants.{Read, Write, WantOfMemory}
+use Rattle.iox_streams.specs.declared.fault.Fault.{Fault}
+use Rattle.iox_streams.specs.declared.fault.Fault.TheVariants.{Read, Write, WantOfMemory}
 
 -- the most bytes of a script
 abbrev pub max_script : ℕ

@@ -1,41 +1,17 @@
 -- Only for proofs of this crate: how far a player is in a script, and what each of its calls does.
 use Rattle.std.specs.Prelude.{◌≡◌, ℕ, ◌+◌, ◌≤◌, List, [], ◌++◌, length, take, map, Option, Result, Ok, Err}
-use Rattle.std.specs.Io.KnownBytes.{Appends, Consumes, IsAtEnd}
+use Rattle.std.specs.Io.KnownBytes.{IsAtEnd}
 use Rattle.iox_script.specs.declared.command.LineCause.{LineCause}
 use Rattle.iox_script.specs.declared.command.ScriptCommand.{ScriptCommand}
 use Rattle.iox_script.specs.declared.reply.ScriptReply.{ScriptReply}
 use Rattle.iox_script.specs.Lines.{ended_lines, rest_of}
 use Rattle.iox_script.specs.Grammar.{max_line, meaning}
-use Rattle.iox_run.specs.declared.fault.Fault.{Fault}
-use Rattle.iox_run.specs.declared.fault.Fault.TheVariants.{Read, Write}
+use Rattle.iox_streams.specs.declared.fault.Fault.{Fault}
 use Rattle.iox_run.specs.declared.run.player.Player.{Player}
 use Rattle.iox_session.specs.SessionStates.{SessionState, new_session}
 use Rattle.iox_session.specs.Shown.{session_of}
 use Rattle.iox_run.specs.Answers.{IsLineAnswered, AreReplies, answer_text, answer_texts}
-use Rattle.iox_run.specs.Runs.{IsBeginningOf, Stops, AnswersScript, max_script}
-
--- A read gave `n` bytes: at most as many as there was room for, and none only at the end.
-pub record Comes (room : ℕ) (reader reader' : Option (List ℕ)) (n : ℕ) (chunk : List ℕ) : Type 0 where
-  pub within : n ≤ length chunk
-  pub room_left : n ≤ room
-  pub bytes : Consumes reader reader' (take n chunk)
-  pub end : n ≡ 0 → IsAtEnd reader'
-
--- One read of at most `room` bytes; if it failed, or one byte too many came, none of its bytes
--- count.
-abbrev pub ReadsWithin : ℕ → (reader reader' : Option (List ℕ)) → Result ℕ Fault → List ℕ → Type 0
-ReadsWithin room reader reader' (Ok n) chunk = Comes room reader reader' n chunk
-ReadsWithin room reader reader' (Err fault) chunk =
-    (fault ≡ Read) × ((more : List ℕ) × Consumes reader reader' more × (take room more ≡ []))
-
--- what a call sent to the writer, and what is true of that
-abbrev pub Sends : (writer writer' : Option (List ℕ)) → (List ℕ → Type 0) → Type 0
-Sends writer writer' P = (more : List ℕ) × Appends writer writer' more × P more
-
--- all the bytes were written, or a beginning of them
-abbrev pub SendsAll : List ℕ → Result (Unit {0}) Fault → List ℕ → Type 0
-SendsAll bytes (Ok _) more = more ≡ bytes
-SendsAll bytes (Err fault) more = (fault ≡ Write) × IsBeginningOf more bytes
+use Rattle.iox_run.specs.Runs.{Stops, AnswersScript, max_script}
 
 -- The line of that number was answered: from m it left m', and its answer stands behind the text.
 abbrev pub AnswersLine : ℕ → Result ScriptCommand LineCause → (m m' : SessionState)

@@ -1,7 +1,7 @@
 -- The exit status of the program.
 use Rattle.std.specs.Prelude.{ℕ, Result, Ok, Err}
-use Rattle.iox_run.specs.declared.fault.Fault.{Fault}
-use Rattle.iox_run.specs.declared.fault.Fault.TheVariants.{Read, Write, WantOfMemory}
+use Rattle.iox_streams.specs.declared.fault.Fault.{Fault}
+use Rattle.iox_streams.specs.declared.fault.Fault.TheVariants.{Read, Write, WantOfMemory}
 
 -- the exit status: 0 at the script's end, 1 after a failed read or a script too long, 2 after a
 -- failed write, 3 without memory

@@ -1,10 +1,10 @@
 //! Plays the script on standard input, and writes the answers to standard output.
 #![tactic(auto)]
 
-mod fault;
 mod run;
+mod status;
 
-use fault::status_of;
+use status::status_of;
 use std::process::ExitCode;
 
 fn main(rt: HostRuntime) -> ExitCode {

@@ -5,15 +5,11 @@ ghost use Rattle.iox_run.specs.Runs.{Plays};
 
 mod cuts;
 mod player;
-mod streams;
-#[cfg(test)]
-mod tests;
 
-use crate::fault::Fault;
+use iox_streams::{Fault, read_within};
 use player::Player;
 use std::alloc::Global;
 use std::io::{Read, Write};
-use streams::read_within;
 
 /// The most bytes of a script.
 const MAX_SCRIPT: u64 = 1 << 32;

@@ -10,9 +10,6 @@ use iox_types::identifiers::UniqueSystemId;
 use std::alloc::{AllocError, Global};
 use std::marker::Model;
 
-#[cfg(test)]
-mod tests;
-
 /// Whether memory was wanted for a service.
 fn is_wanting(made: &Result<Service, ServiceRefusal>) -> bool
     ensures { result ≡ is_wanting made.now }

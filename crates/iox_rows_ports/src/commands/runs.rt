@@ -7,28 +7,6 @@ use iox_types::BackpressureStrategy;
 use std::test::Fail;
 
 #[test]
-fn two_responses_come_in_order_and_then_none(rt: HostRuntime) -> Result<(), Fail> {
-    plays_with(
-        &rt,
-        rt.alloc(),
-        FIRST,
-        &[
-            (0, Asked::Client(Given::Nothing), Told::Client(0)),
-            (1, Asked::Server, Told::Server(1)),
-            (0, Asked::Request(0, 123, 1), Told::Handle(2)),
-            (1, Asked::Receive(1), Told::Handle(3)),
-            (1, Asked::Response(3, 456), Told::Done),
-            (1, Asked::Response(3, 789), Told::Done),
-            (0, Asked::Receive(2), Told::Handle(4)),
-            (0, Asked::Receive(2), Told::Handle(5)),
-            (0, Asked::Receive(2), Told::Nothing),
-            (0, Asked::Read(4), Told::Words(1, 456)),
-            (0, Asked::Read(5), Told::Words(1, 789)),
-        ],
-    )
-}
-
-#[test]
 fn a_request_pushes_out_one_that_was_given_up(rt: HostRuntime) -> Result<(), Fail> {
     let settings = Settings {
         active_requests: 1,

@@ -5,10 +5,9 @@ ghost use Rattle.iox_session.specs.Shown.{session_of};
 ghost use Rattle.iox_run.specs.Standings.{AnswersLine};
 
 use super::cuts::first_line;
-use super::streams::send;
-use crate::fault::Fault;
 use iox_script::{ParseError, parse, push_bad_line, push_reply};
 use iox_session::Session;
+use iox_streams::{Fault, send};
 use std::alloc::{AllocError, Global};
 use std::io::Write;
 
@@ -33,7 +32,8 @@ pub(super) struct Player {
 impl Player {
     ghost use Rattle.std.specs.Prelude.{◌≡◌, ◌+◌, ◌*◌, ◌^◌, ◌<◌, ◌≤◌, [], ◌∷◌, ◌++◌, length, IfOk, OnOk, OnErr};
     ghost use Rattle.iox_run.specs.Cuts.{HasNoLineFeed};
-    ghost use Rattle.iox_run.specs.Standings.{IsAsFar, Goes, IsSent, TakesUpTo, Sends, SendsAll, Waits, PlaysOn, Finishes};
+    ghost use Rattle.iox_streams.specs.Writes.{Sends, SendsAll};
+    ghost use Rattle.iox_run.specs.Standings.{IsAsFar, Goes, IsSent, TakesUpTo, Waits, PlaysOn, Finishes};
 
     /// A player before the script's first byte.
     pub(super) fn new(alloc: Global) -> Result<Player, AllocError>

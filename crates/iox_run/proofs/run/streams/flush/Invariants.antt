@@ -1,5 +1,0 @@
-use Rattle.std.specs.Io.KnownBytes.{Keeps}
-use Rattle.iox_run.proofs.run.streams.flush.Given as goal
-
-abbrev pub invariant-flushes : goal.invariant-flushes
-invariant-flushes g l = Keeps (g.W.Write.contents l.fn.writer) (g.W.Write.contents l.writer)
