@@ -224,6 +224,13 @@ pub fn refused_begin(wire: &mut Wire, node: u64, number: u64) -> Result<(), Wire
     wire.begin_has_requests(node, number)
 }
 
+/// No begin wants memory, whatever the call is.
+pub fn begin_takes_no_memory(wire: &mut Wire, node: u64, call: NodeCall<'_>) -> bool
+    ensures { IsTrue result }
+{
+    !matches!(wire.begin(node, call), Err(WireRefusal::WantOfMemory))
+}
+
 /// A client begins to copy a request, or nothing changes.
 pub fn client_asks(
     wire: &mut Wire,

@@ -1,5 +1,5 @@
 -- The room that a node has, from its making on: for handles, and for what its calls keep.
-use Rattle.std.specs.Prelude.{◌≡◌, ◌+◌, ◌<◌, ◌≤◌, ℕ, length}
+use Rattle.std.specs.Prelude.{◌≡◌, ◌+◌, ◌≤◌, ℕ, length}
 use Rattle.iox_wire_begins.specs.WirePlan.{WirePlan}
 use Rattle.iox_wire_begins.specs.Plans.{most_ways}
 use Rattle.iox_wire_begins.specs.Aims.{HasSameRooms}
@@ -11,17 +11,6 @@ use Rattle.iox_wire_nodes.specs.Nodes.{NodeView}
 -- the handles that it has, and those for which it has room, are so many together
 abbrev pub HasItsRoom : ℕ → NodeView → Type 0
 HasItsRoom most n = n.seat.room + length n.seat.seat.table ≡ most
-
--- Where room for handles is neither made nor lost, it stays so.
-abbrev pub RoomStays : Type 0
-RoomStays =
-    (most : ℕ) (old new : NodeView)
-    → new.seat.room + length new.seat.seat.table ≡ old.seat.room + length old.seat.seat.table
-    → HasItsRoom most old → HasItsRoom most new
-
--- A node that has fewer handles has room for one more.
-abbrev pub RoomIsLeft : Type 0
-RoomIsLeft = (most : ℕ) (n : NodeView) → HasItsRoom most n → length n.seat.seat.table < most → 0 < n.seat.room
 
 -- There is room for whatever a call keeps on the wire of that plan.
 pub record HasRoomToBegin (plan : WirePlan) (n : NodeView) : Type 0 where

@@ -17,10 +17,7 @@ pub use iox_wire_begins::{
     RespondReply, ResponseCopyReply, SeatReply, Stop, StoredDesk, StoredSeat, WayIndex, WirePlan,
     WireTerms, WordMap, WordMapNewError, begin_request_receive, is_plan,
 };
-pub use laws::{
-    begins_keep_ports, nodes_keep_their_room, nodes_with_as_much_room_begin,
-    nodes_with_fewer_handles_have_room, steps_keep_ports,
-};
+pub use laws::{begins_keep_ports, nodes_with_as_much_room_begin, steps_keep_ports};
 pub use node::StoredNode;
 pub use node_call::{NodeCall, NodePayload};
 pub use node_error::NodeError;

@@ -4,7 +4,6 @@ ghost use Rattle.iox_model.specs.declared.call.WireCall.TheVariants.{Port};
 ghost use Rattle.iox_wire_begins.specs.ListRooms.{ListsHaveRoom};
 ghost use Rattle.iox_wire_begins.specs.Plans.{number_at, port_of};
 ghost use Rattle.iox_wire_begins.specs.WirePlans.{IsWirePlan};
-ghost use Rattle.iox_wire_begins.specs.HandleCalls.{refusal_in};
 ghost use Rattle.iox_wire_begins.specs.Terms.{IsSettingWith};
 ghost use Rattle.iox_wire_begins.specs.Begins.{is_busy, refusal_at};
 ghost use Rattle.iox_wire_begins.specs.Tables.{Setting};
@@ -182,38 +181,5 @@ impl StoredNode {
             }
         }
         Ok(())
-    }
-
-    /// Why its own tables refuse the call, if they do.
-    pub fn refusal(
-        &self,
-        map: &WordMap,
-        terms: &WireTerms,
-        call: NodeCall<'_>,
-        port: Option<usize>,
-    ) -> Option<BeginError>
-        requires within { IfSome port (λ place. place < length map.now.ports.items) }
-        requires there { IfSome port (λ place. number_at map.now place ≡ number_in call) }
-        requires none { port ≡ None → port_of map.now (number_in call) ≡ None }
-        ensures refused { (p : Setting) → IsSettingWith map.now terms.now p → IfSome result
-            (λ error. refusal_at p (seat_in self.now)
-            (Port (call_in p (seat_in self.now) call.entry))
-            ≡ refusal_in error) }
-        ensures allowed { (p : Setting) → IsSettingWith map.now terms.now p → result ≡ None
-            → refusal_at p (seat_in self.now)
-            (Port (call_in p (seat_in self.now) call.entry)) ≡ None }
-    {
-        let asked = call.asked();
-        let number = call.number();
-        match port {
-            Some(port) => match self.name_at_port(map, terms, asked, number, port) {
-                Err(error) => Some(error),
-                Ok(()) => None,
-            },
-            None => match self.name_handle(map, asked, number) {
-                Err(error) => Some(error),
-                Ok(_entry) => None,
-            },
-        }
     }
 }
