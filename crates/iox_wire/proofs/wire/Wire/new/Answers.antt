@@ -42,6 +42,7 @@ invariant_of-result c = (
     longest = ap (λ (d : FinishedCalls). d.longest) c.new-3.ensures ∙ c.longest_message-longest.ensures ∙ ap most_words c.plan-2.ensures.value;
     events = omega (arith, c.new-4.result.ok.0, ap length c.new-4.ensures.items);
   },
+  ?,
 )
 
 pub returns-clause-opened : goal.returns-clause-opened
