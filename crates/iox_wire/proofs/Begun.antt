@@ -45,13 +45,13 @@ use Rattle.iox_wire_weaves.proofs.BeginsShown.{begins_show, refusals_are_shown}
 use Rattle.iox_wire_weaves.proofs.CallsSaid.{calls_are_said}
 use Rattle.iox_wire_weaves.proofs.HandleSums.{nodes_have_few_handles}
 use Rattle.iox_wire_weaves.proofs.HandlesStanding.{handles_stand}
-use Rattle.iox_wire_weaves.proofs.Lookups.{first_none, not_refused, seat_there}
+use Rattle.iox_wire_weaves.proofs.Lookups.{first_none, not_refused, same_living, seat_there}
 use Rattle.iox_wire.specs.Begun.{HasBegun, IsRefusedBy}
 use Rattle.iox_wire.specs.Kept.{IsAtItsCall, IsShown}
 use Rattle.iox_wire.specs.Replies.{words_call}
 use Rattle.iox_wire.proofs.Accesses.{tells_of_pools}
 use Rattle.iox_wire.proofs.Keeping.{each_still, kept_begun, kept_still}
-use Rattle.iox_wire.proofs.OwnCalls.{own_begun}
+use Rattle.iox_wire.proofs.OwnCalls.{busy_begun, own_begun}
 use Rattle.iox_wire.proofs.Roomy.{room_left, roomy_still}
 use Rattle.iox_wire_weaves.specs.Rooms.{KeepsRooms}
 use Rattle.iox_wire.proofs.MayLend.{may_lend}
@@ -251,6 +251,10 @@ module _ (w : WireData) (n i : ℕ) (d : WireNode) (at : position (λ x. x.numbe
   shown_begun call y events count shown alive has =
       let p : Setting = shown.shows.0 in
       let b = begun p shown.shows.1 shown.shows.2 call y events count alive (shown.kept n d there).few has in
+      let puts = replaced n w.nodes i d y at read has.number in
+      let begins : is_busy (seat_in y.node).local ≡ true
+      = busy_begun p (Now y) shown.shows.1 b.2 n y (asked_of shown.shows.1 n call) b.1 b.4
+      (same_living w.nodes n d y (Now y).nodes puts has.lives.alive n ∙ alive) puts.here b.3 in
       record {
         shows = (p, b.2, b.4);
         whole = shown.whole;
@@ -258,7 +262,7 @@ module _ (w : WireData) (n i : ℕ) (d : WireNode) (at : position (λ x. x.numbe
         kept = kept_still w.nodes n d y (slice_set w.nodes i y) (replaced n w.nodes i d y at read has.number) shown.kept
             (kept_begun p d.node y.node (Port (call_in p (seat_in d.node) call)) (shown.kept n d there) (has.begun p shown.shows.2.setting).begun has.ready);
         own = each_still IsAtItsCall w.nodes n d y (slice_set w.nodes i y) (replaced n w.nodes i d y at read has.number) shown.own
-            (own_begun d y call events has.kept has.at);
+            (own_begun d y call events begins has.kept has.at);
         rooms = roomy_still w.plan w.nodes n d y (slice_set w.nodes i y) (replaced n w.nodes i d y at read has.number) shown.rooms has.rooms has.number
             (has.begun p shown.shows.2.setting).ready.room.handles;
       }

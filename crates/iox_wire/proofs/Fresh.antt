@@ -1,8 +1,9 @@
 -- A wire that is made from a plan is fresh.
-use Rattle.std.specs.Prelude.{filter, replicate}
-use Rattle.std.proofs.Common.{◌≡◌, ℕ, ◌+◌, ◌<◌, ◌≤◌, ◌==◌, ◌^◌, List, [], ◌∷◌, length, map, Some, ◌∙◌, ap, arith, inl, inr, refl, subst, sym, true≢false}
+use Rattle.std.specs.Prelude.{IfSome, filter, is_some, replicate}
+use Rattle.std.proofs.Common.{◌≡◌, ℕ, ◌+◌, ◌<◌, ◌≤◌, ◌==◌, ◌^◌, List, [], ◌∷◌, length, map, Option, Some, ◌∙◌, ap, arith, inl, inr, refl, subst, sym, true≢false}
 use Rattle.std.proofs.lemmas.List.{length-map}
 use Rattle.iox_model.specs.Maps.{AreDistinct}
+use Rattle.iox_model.specs.Schedules.{UnderWay}
 use Rattle.iox_laws.proofs.WeaveLedger.Lists.{IsAmong}
 use Rattle.iox_wire_weaves.specs.Begins.{is_busy}
 use Rattle.iox_wire_weaves.specs.Copying.{CopyGoesOn}
@@ -10,7 +11,7 @@ use Rattle.iox_wire_weaves.specs.ReadWords.{TellsNoWords}
 use Rattle.iox_wire_weaves.specs.Counts.{IsTidy}
 use Rattle.iox_wire_weaves.specs.PlanPort.{PlanPort}
 use Rattle.iox_wire_weaves.specs.Seat.{Seat}
-use Rattle.iox_wire_weaves.specs.Steps.{most_accesses}
+use Rattle.iox_wire_weaves.specs.Steps.{IsWireCallAt, most_accesses}
 use Rattle.iox_wire_weaves.specs.Uses.{HaveFewWays}
 use Rattle.iox_model.specs.States.{State}
 use Rattle.iox_word_map.specs.WordMaps.{total_words}
@@ -104,7 +105,12 @@ module _ (plan : WirePlan) (terms : WireTerms) (ns : List ℕ) (wire : WireData)
         whole = subst (λ q. IsWirePlan q wire.terms) (sym plan_is) (subst (IsWirePlan plan) (sym terms_are) (wire_plan o.0 o.2.told whole low));
         numbers = subst (λ (t : WireTerms). t.first_number + most_accesses < 2 ^ 64) (sym terms_are) (omega (arith, first));
         kept = λ n x at. kept_first plan is.numbers low n x (opened_node plan ns wire.nodes n x nodes at);
-        own = λ n x at busy.
-            absurd (true≢false (sym busy ∙ ap (λ (s : Seat). is_busy s.local) (opened_node plan ns wire.nodes n x nodes at).seat));
+        own = λ n x at. (
+            let opened : IsOpenedNode plan n x = opened_node plan ns wire.nodes n x nodes at in
+            record {
+              busy = ap (λ (s : Seat). is_busy s.local) opened.seat ∙ ap is_some (sym opened.rests);
+              there = subst (λ (o : Option UnderWay). IfSome o (λ u. IsWireCallAt u.call x.node.at)) (sym opened.rests) tt;
+            }
+            );
         rooms = λ n x at. subst (λ q. IsRoomy q x.number x.node) (sym plan_is) (roomy_first plan n x (opened_node plan ns wire.nodes n x nodes at));
       }

@@ -1,4 +1,5 @@
 pub mod Places
+pub mod InOrder
 pub mod Owners
 pub mod OpenedSeats
 pub mod Members

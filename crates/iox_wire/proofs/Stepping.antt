@@ -101,7 +101,7 @@ module _ (w : WireData) (n i : ℕ) (m d : WireNode) (first : position (λ x. x.
         → IfSome (node_at n w.nodes) (λ x. IfSome reply (λ r. (answered_at r ≡ x.node.at) × IfSome x.call (λ u. IsWireCallAt u.call (answered_at r))))
     owned reply z gone =
         subst (λ (o : Option WireNode). IfSome o (λ x. IfSome reply (λ r. (answered_at r ≡ x.node.at) × IfSome x.call (λ u. IsWireCallAt u.call (answered_at r))))) (sym at_d)
-        (own_answer d reply (shown.own n d at_d) (steps_on w n d at_d goes).1
+        (own_answer d reply (shown.own n d at_d)
         (gone shown.shows.0 w.words (may_d shown.shows.0 shown.shows.1 shown.shows.2) (saw_d shown.shows.0 (may_d shown.shows.0 shown.shows.1 shown.shows.2))).own)
 
     -- what the node read before stays, unless its read is over

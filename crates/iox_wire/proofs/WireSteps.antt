@@ -1,5 +1,5 @@
 -- What a step, and a death, leave of a wire.
-use Rattle.std.specs.Prelude.{not, option_map, position}
+use Rattle.std.specs.Prelude.{is_none, not, option_map, position}
 use Rattle.iox_wire_weaves.specs.Begins.{is_busy}
 use Rattle.iox_wire_weaves.specs.Nodes.{seat_in}
 use Rattle.std.specs.Option.{option_map_or}
@@ -24,14 +24,14 @@ use Rattle.iox_steps.specs.declared.access.Progress.{Progress}
 use Rattle.iox_wire_weaves.specs.Steps.{GoesOnByStep, MakesItsAccess, MakesOneAccess, StepIsWoven, access_of, answer_of, call_after, finished_by, recorded, rest_refusal, step_refusal}
 use Rattle.iox_wire_weaves.specs.Wires.{Shows, WireData, WireNode, living_refusal, node_at}
 use Rattle.iox_wire_weaves.proofs.DeathsShown.{deaths_show}
-use Rattle.iox_wire_weaves.proofs.Lookups.{living_by, seat_there, steps_on}
+use Rattle.iox_wire_weaves.proofs.Lookups.{living_by, same_living, seat_there, steps_on}
 use Rattle.iox_wire_weaves.proofs.StepsShown.{steps_show}
 use Rattle.iox_wire.specs.Kept.{HasGoneOn, IsAtItsCall, IsKept, IsRoomy, IsShown, Loses, MayAccess, access_in}
 use Rattle.iox_wire.proofs.GoingOn.{goes_on}
 use Rattle.iox_wire_weaves.specs.Rooms.{KeepsRooms}
 use Rattle.iox_wire.proofs.Keeping.{each_still, kept_on, kept_still}
 use Rattle.iox_wire.proofs.Roomy.{roomy_still}
-use Rattle.iox_wire.proofs.OwnCalls.{own_stepped}
+use Rattle.iox_wire.proofs.OwnCalls.{busy_still, own_stepped}
 use Rattle.iox_wire.proofs.ToldByLaws.{may, told, within}
 use Rattle.iox_wire.proofs.Places.{read_there, replaced}
 
@@ -131,6 +131,10 @@ module _ (w : WireData) (n i : ℕ) (d : WireNode) (at : position (λ x. x.numbe
       let made : Made p reply words event y = access p (may_access p r shows goes kept) in
       let s = stepped p r y reply words event replies events room shows goes made is told noted in
       let rests = steps_on w n d there goes in
+      let puts : Replaces w.nodes n d y (slice_set w.nodes i y) = replaced n w.nodes i d y at read is.number in
+      let new : WireData = record { plan = w.plan; terms = w.terms; words = words; nodes = slice_set w.nodes i y; replies = replies; events = events; room = room } in
+      let later : GoesOnByStep p r n (answer_of n new.nodes (progress_of reply)) new → is_busy (seat_in y.node).local ≡ is_none reply
+      = busy_still p w new r n d y reply shows rests.0 there rests.1 (same_living w.nodes n d y new.nodes puts is.lives.alive n ∙ rests.0) puts.here in
       record {
         shows = (p, s.1.after, s.1.shows);
         whole = shown.whole;
@@ -138,7 +142,7 @@ module _ (w : WireData) (n i : ℕ) (d : WireNode) (at : position (λ x. x.numbe
         kept = kept_still w.nodes n d y (slice_set w.nodes i y) (replaced n w.nodes i d y at read is.number) shown.kept
             (kept_on p d.node y.node (seen_at (access_in p d.node) w.words) reply kept rests.1 rests.2 made.gone.went made.gone.ready);
         own = each_still IsAtItsCall w.nodes n d y (slice_set w.nodes i y) (replaced n w.nodes i d y at read is.number) shown.own
-            (own_stepped d y reply (shown.own n d there) rests.1 made.gone.went.call is.call);
+            (own_stepped d y reply (shown.own n d there) rests.1 (later s.1) made.gone.went.call is.call);
         rooms = roomy_still w.plan w.nodes n d y (slice_set w.nodes i y) (replaced n w.nodes i d y at read is.number) shown.rooms is.rooms is.number made.gone.went.room;
       }
 
@@ -163,7 +167,7 @@ module _ (w : WireData) (n i : ℕ) (d : WireNode) (at : position (λ x. x.numbe
         kept = kept_still w.nodes n d y (slice_set w.nodes i y) (replaced n w.nodes i d y at read (ap (λ (z : WireNode). z.number) dead)) shown.kept
             (subst (λ (z : WireNode). IsKept z.node) (sym dead) (shown.kept n d there));
         own = each_still IsAtItsCall w.nodes n d y (slice_set w.nodes i y) (replaced n w.nodes i d y at read (ap (λ (z : WireNode). z.number) dead)) shown.own
-            (subst IsAtItsCall (sym dead) (shown.own n d there));
+            (subst IsAtItsCall (sym dead) (record { busy = (shown.own n d there).busy; there = (shown.own n d there).there }));
         rooms = each_still (λ z. IsRoomy w.plan z.number z.node) w.nodes n d y (slice_set w.nodes i y) (replaced n w.nodes i d y at read (ap (λ (z : WireNode). z.number) dead)) shown.rooms
             (subst (λ (z : WireNode). IsRoomy w.plan z.number z.node) (sym dead) (shown.rooms n d there));
       }

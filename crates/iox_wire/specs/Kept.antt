@@ -1,5 +1,5 @@
 -- What a wire keeps to, and what a node's access does.
-use Rattle.std.specs.Prelude.{◌+◌, ◌<◌, ◌≤◌, ◌^◌, ◌≡◌, ◌==◌, ℕ, false, List, [], ◌∷◌, Option, None, Some, IfSome, length, true}
+use Rattle.std.specs.Prelude.{◌+◌, ◌<◌, ◌≤◌, ◌^◌, ◌≡◌, ◌==◌, ℕ, false, List, [], ◌∷◌, Option, None, Some, IfSome, is_some, length, position, true}
 use Rattle.iox_steps.specs.declared.access.Access.{Access}
 use Rattle.iox_steps.specs.Accesses.{IsWithin, seen_at}
 use Rattle.iox_wire_weaves.specs.Programs.{program_access}
@@ -48,10 +48,14 @@ pub record IsKept (x : NodeView) : Type 0 where
 abbrev pub AreKept : List WireNode → Type 0
 AreKept nodes = (n : ℕ) (x : WireNode) → node_at n nodes ≡ Some x → IsKept x.node
 
--- a node with a call under way is where that call is kept
-abbrev pub IsAtItsCall : WireNode → Type 0
-IsAtItsCall x =
-    is_busy (seat_in x.node).local ≡ true → IfSome x.call (λ u. IsWireCallAt u.call x.node.at)
+-- A node is busy where it has a call under way, and is where that call is kept.
+pub record IsAtItsCall (x : WireNode) : Type 0 where
+  pub busy : is_busy (seat_in x.node).local ≡ is_some x.call
+  pub there : IfSome x.call (λ u. IsWireCallAt u.call x.node.at)
+
+-- so many of the first nodes stand at the places of their numbers
+abbrev pub StandInOrder : ℕ → List WireNode → Type 0
+StandInOrder count nodes = (n : ℕ) → n < count → position (λ x. x.number == n) nodes ≡ Some n
 
 -- On the wire of that plan the node of that number has room for whatever a call keeps, and for more
 -- handles than its ports may have.

@@ -18,7 +18,7 @@ pub struct WireEvent {
 }
 
 /// Where the node of that number stands among these.
-fn place_of(members: &[Member], node: u64) -> Option<usize>
+pub(crate) fn place_of(members: &[Member], node: u64) -> Option<usize>
     ensures first { result ≡ position (λ x. x.number == node) members.now }
     ensures within { IfSome result (λ place. place < length members.now) }
 {

@@ -62,7 +62,8 @@ impl Model for Member {
 }
 
 impl Member {
-    ghost use Rattle.std.specs.Prelude.{◌≡◌, ◌<◌, ℕ, [], IfOk, List, None, Some, false, nat_le, true};
+    ghost use Rattle.std.specs.Prelude.{◌≡◌, ◌<◌, ℕ, [], IfOk, List, None, Some, false, is_some};
+    ghost use Rattle.std.specs.Prelude.{nat_le, true};
     ghost use Rattle.iox_wire_weaves.specs.Begins.{is_busy};
     ghost use Rattle.iox_wire_weaves.specs.Rooms.{KeepsRooms};
     ghost use Rattle.iox_wire_weaves.specs.Tables.{Setting};
@@ -149,12 +150,13 @@ impl Member {
         &self.read
     }
 
-    /// Why it makes no step, if it lives.
+    /// Why it makes no step, if it lives. It is busy where it has a call under way.
     #[inline(always)]
     pub(crate) fn rest_refusal(&self) -> Option<WireRefusal>
+        requires { is_busy (seat_in self.now.node).local ≡ is_some self.now.call }
         ensures { result ≡ rest_refusal self.now }
     {
-        if !self.node.is_busy() {
+        if self.call.is_none() {
             return Some(WireRefusal::AtRest);
         }
         if self.node.accesses() >= MOST_ACCESSES {

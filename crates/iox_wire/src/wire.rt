@@ -1,8 +1,9 @@
 //! A wire: the words that nodes share, and the nodes.
 ghost use Rattle.std.specs.Prelude.{◌≡◌, IfOk, Ok, replicate};
 ghost use Rattle.iox_steps.specs.declared.access.Progress.TheVariants.{Done, Going};
+ghost use Rattle.iox_wire.specs.Kept.{StandInOrder};
 
-use crate::events::{WireEvent, note};
+use crate::events::{WireEvent, note, place_of};
 use crate::finished::Replies;
 use crate::member::Member;
 use crate::new_error::WireNewError;
@@ -24,6 +25,8 @@ pub struct Wire {
     events: Vec<WireEvent>,
     // how many more steps find room for what they record
     room: usize,
+    // how many of the first nodes stand at the places of their numbers
+    in_order: usize,
     // what a begin lists, for which there is room; of no use later
     pub(crate) lists: Lists,
 }
@@ -32,7 +35,7 @@ impl Model for Wire {
     ghost use Rattle.std.specs.Prelude.{map, vec_capacity, vec_len};
     ghost use Rattle.iox_wire_weaves.specs.ListRooms.{ListsHaveRoom};
     ghost use Rattle.iox_wire_weaves.specs.Wires.{WireData};
-    ghost use Rattle.iox_wire.specs.Kept.{HasRoomToRecord, IsShown};
+    ghost use Rattle.iox_wire.specs.Kept.{HasRoomToRecord, IsShown, StandInOrder};
 
     ghost Value = { WireData };
 
@@ -54,7 +57,8 @@ impl Model for Wire {
       replies = w.replies.finished;
       events = map (λ e. (e.node, e.event)) w.events.items;
       room = w.room;
-    }) × HasRoomToRecord w.places w.room w.replies (vec_len w.events) (vec_capacity w.events) };
+    }) × HasRoomToRecord w.places w.room w.replies (vec_len w.events) (vec_capacity w.events)
+        × StandInOrder w.in_order w.members.items };
 }
 
 impl Wire {
@@ -108,6 +112,7 @@ impl Wire {
         let members = open_members(alloc, places.plan(), nodes, ways)?;
         let lists = Lists::new(alloc, &places)?;
         let longest = longest_message(places.plan());
+        let in_order = count_in_order(&members);
         Ok(Wire {
             places,
             terms,
@@ -116,6 +121,7 @@ impl Wire {
             replies: Replies::new(alloc, longest),
             events: Vec::new(alloc),
             room: 0,
+            in_order,
             lists,
         })
     }
@@ -142,13 +148,26 @@ impl Wire {
     }
 
     /// Where the node of that number stands.
+    #[inline(always)]
     pub(crate) fn place(&self, node: u64) -> Option<usize>
         ensures first { result ≡ position (λ x. x.number == node) self.now.nodes }
         ensures within { IfSome result (λ place. place < length self.now.nodes) }
     {
-        self.members
-            .iter()
-            .position(|member| member.number() == node)
+        let own = node as usize;
+        if own < self.in_order {
+            return Some(own);
+        }
+        self.search(node)
+    }
+
+    /// The same, by looking at one node after another.
+    #[cold]
+    #[inline(never)]
+    fn search(&self, node: u64) -> Option<usize>
+        ensures first { result ≡ position (λ x. x.number == node) self.now.nodes }
+        ensures within { IfSome result (λ place. place < length self.now.nodes) }
+    {
+        place_of(&self.members, node)
     }
 
     /// Where the living node of that number stands.
@@ -268,6 +287,21 @@ fn done(reply: NodeReply) -> Result<Progress<NodeReply>, WireRefusal>
     ensures { result ≡ Ok (Done reply) }
 {
     Ok(Progress::Done(reply))
+}
+
+/// How many of the first nodes stand at the places of their numbers.
+fn count_in_order(members: &[Member]) -> usize
+    ensures { StandInOrder result members.now }
+{
+    for place in 0..members.len() {
+        let Some(first) = place_of(members, place as u64) else {
+            return place;
+        };
+        if first != place {
+            return place;
+        }
+    }
+    members.len()
 }
 
 /// So many zeros.

@@ -1,5 +1,5 @@
 -- What is so of a node of a wire that shows a run.
-use Rattle.std.specs.Prelude.{IfSome, Option, option_map}
+use Rattle.std.specs.Prelude.{IfSome, Option, is_some, option_map}
 use Rattle.std.proofs.Common.{◌≡◌, ℕ, true, false, ◌==◌, Some, None, refl, ap, sym, subst, ◌∙◌, eqb-true, true≢false}
 use Rattle.iox_model.specs.declared.kind.Kind.{Kind}
 use Rattle.iox_model.specs.declared.kind.Kind.TheVariants as kinds
@@ -7,7 +7,10 @@ use Rattle.iox_model.specs.declared.kind.Role.{Role}
 use Rattle.iox_model.specs.declared.kind.Role.TheVariants.{Client, Server}
 use Rattle.iox_model.specs.Joins.{not_living}
 use Rattle.iox_model.specs.Names.{is_port}
+use Rattle.iox_model.specs.States.{Fixed}
 use Rattle.iox_laws.proofs.WeaveLedger.Lists.{find-among}
+use Rattle.iox_wire_locals.specs.Doings.{doing_of}
+use Rattle.iox_wire_moments.specs.MomentsOf.{Pools}
 use Rattle.iox_wire_nodes.specs.Entry.{Entry}
 use Rattle.iox_wire_nodes.specs.Local.{Local}
 use Rattle.iox_wire_needs.specs.Local.TheVariants.{Idle, ReleaseExchanges, ReleaseLooks}
@@ -52,6 +55,16 @@ pub at_rest : (local : Local) → is_busy local ≡ false → local ≡ Idle
 at_rest Idle rests = refl
 at_rest local rests = absurd (true≢false rests)
 
+-- a node is busy where its call has something to do, also as it is shown
+busy_is : (p : Setting) (f : Fixed) (held : Pools) (node : ℕ) (local : Local) → is_some (doing_of p f held node local) ≡ is_busy local
+busy_is p f held node Idle = refl
+busy_is p f held node local = refl
+
+shown_busy : (p : Setting) (s : Seat) (local : Local) → s.local ≡ local → is_busy (shown_at p s local).local ≡ is_busy local
+shown_busy p s (ReleaseLooks e) is = refl
+shown_busy p s (ReleaseExchanges e old) is = refl
+shown_busy p s local is = ap is_busy is
+
 -- no kind of a handle is a port's
 pub handle_kind : (role : Role) (kind : Kind) → is_kind_of role kind ≡ true → is_port kind ≡ false
 handle_kind Client kinds.RequestMut is = refl
@@ -69,6 +82,17 @@ if_some P (Some a) each = each a refl
 module _ (p : Setting) (wire : WireData) (r : Run) (n : ℕ) (x : WireNode) (shows : Shows p wire r) (there : node_at n wire.nodes ≡ Some x) where
   pub here : seat_of p wire.nodes n ≡ seat_in x.node
   here = seat_there p wire.nodes n x there
+
+  -- a living node is busy where the machine has something to do for it
+  pub works : living_refusal wire.nodes n ≡ None → is_busy (seat_in x.node).local ≡ is_some (r.last.doing n)
+  works alive =
+      let own : Seat = seat_of p wire.nodes n in
+      let seat : Seat = seats_of p (players_of p wire.nodes r) n in
+      let does : r.last.doing seat.node ≡ doing_of p r.last.state.fixed shows.stands.stands.held seat.node seat.local
+      = shows.stands.stands.shows.doing n (shows.living n ∙ ap (option_map refusal_in) alive) in
+      sym (ap (λ (s : Seat). is_busy s.local) here) ∙ sym (shown_busy p own own.local refl)
+      ∙ sym (busy_is p r.last.state.fixed shows.stands.stands.held seat.node seat.local)
+      ∙ sym (ap is_some does) ∙ ap (λ k. is_some (r.last.doing k)) (shows.stands.stands.shows.node n)
 
   -- ---- between calls
 

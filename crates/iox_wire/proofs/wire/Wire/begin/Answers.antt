@@ -1,8 +1,9 @@
 use Rattle.std.specs.Prelude.{position}
 use Rattle.std.proofs.Common.{◌≡◌, ◌==◌, None, ap, length, subst, sym, ◌∙◌, slice_set}
 use Rattle.iox_wire_weaves.specs.Asking.{BeginsCall, IsBeginRefusal, asked_of}
-use Rattle.iox_wire_weaves.specs.Wires.{Shows, WireData, living_refusal, read_of}
+use Rattle.iox_wire_weaves.specs.Wires.{Shows, WireData, WireNode, living_refusal, read_of}
 use Rattle.iox_wire.specs.Kept.{IsShown}
+use Rattle.iox_wire.proofs.InOrder.{in_order_still}
 use Rattle.iox_wire.proofs.Begun.{as_it_was, begun, may_begin, may_lend_there, reads_stay, refused, set_there, shown_begun}
 use Rattle.iox_wire.proofs.Recorded.{count, events_by}
 use Rattle.iox_wire.proofs.WireSteps.{there}
@@ -41,6 +42,8 @@ invariant_of-self c = (
       let w : WireData = record { plan = c.self.inside.places; terms = c.self.inside.terms; words = c.self.inside.words.items; nodes = c.self.inside.members.items; replies = c.self.inside.replies.finished; events = events_by c.self.inside.events.items; room = c.self.inside.room } in
       subst IsShown (sym (as_it_was w c.args.node c.in_ok-place.place c.index_mut-member.result.now first c.index_mut-member.ensures.value c.begin-told.new.self c.in-Err.ensures.unchanged)) c.self.invariant.1,
   c.self.invariant.2,
+  in_order_still c.self.inside.in_order c.self.inside.members.items c.in_ok-place.place c.index_mut-member.result.now c.begin-told.new.self c.index_mut-member.ensures.value
+      (ap (λ (x : WireNode). x.number) c.in-Err.ensures.unchanged) c.self.invariant.3,
 )
 
 pub returns-in-Err-clause-refused : goal.returns-in-Err-clause-refused
@@ -72,6 +75,8 @@ invariant_of-self-2 c = (
       let alive : living_refusal w.nodes c.args.node ≡ None = ap (λ (v : WireData). living_refusal v.nodes c.args.node) c.self.view_is ∙ c.in_ok-place.ensures.alive in
       shown_begun w c.args.node c.in_ok-place.place c.index_mut-member.result.now first c.index_mut-member.ensures.value c.args.call c.begin-told.new.self (length c.events-begun.result.now) (count c.events-begun.result.now c.self.inside.events.items (c.events-begun.ensures ∙ ap (λ (v : WireData). v.events) (sym c.self.view_is))) c.self.invariant.1 alive c.in_default.ensures.begun,
   c.self.invariant.2,
+  in_order_still c.self.inside.in_order c.self.inside.members.items c.in_ok-place.place c.index_mut-member.result.now c.begin-told.new.self c.index_mut-member.ensures.value
+      c.in_default.ensures.begun.number c.self.invariant.3,
 )
 
 pub returns-clause-begun : goal.returns-clause-begun

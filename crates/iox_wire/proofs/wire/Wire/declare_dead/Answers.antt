@@ -2,8 +2,9 @@ use Rattle.std.specs.Prelude.{position}
 use Rattle.std.proofs.Common.{◌==◌, Some, ap, false, subst, sym, ◌∙◌, slice_set}
 use Rattle.std.proofs.lemmas.List.{length-map}
 use Rattle.iox_wire.specs.declared.events.WireEvent.{WireEvent}
-use Rattle.iox_wire_weaves.specs.Wires.{Shows, WireData, living_refusal}
+use Rattle.iox_wire_weaves.specs.Wires.{Shows, WireData, WireNode, living_refusal}
 use Rattle.iox_wire.specs.Kept.{Loses}
+use Rattle.iox_wire.proofs.InOrder.{in_order_still}
 use Rattle.iox_wire.proofs.Recorded.{events_by}
 use Rattle.iox_wire.proofs.WireSteps.{died, lost, shown_dead}
 use Rattle.iox_wire.proofs.wire.Wire.declare_dead.Goals as goal
@@ -16,6 +17,8 @@ invariant_of-self c = (
       (ap (λ (v : WireData). position (λ x. x.number == c.args.node) v.nodes) c.self.view_is ∙ c.in_ok-place.ensures.first) c.index_mut.ensures.value
       c.die.new.self c.self.invariant.1 (ap (λ (v : WireData). living_refusal v.nodes c.args.node) c.self.view_is ∙ c.in_ok-place.ensures.alive) (c.die.ensures ∙ ap (λ k. record (c.index_mut.result.now) { alive = false; died = Some k }) (c.len-before.ensures ∙ c.self.inside.events.ok.0 ∙ sym (length-map c.self.inside.events.items (λ (e : WireEvent). (e.node, e.event))))),
   c.self.invariant.2,
+  in_order_still c.self.inside.in_order c.self.inside.members.items c.in_ok-place.place c.index_mut.result.now c.die.new.self c.index_mut.ensures.value
+      (ap (λ (x : WireNode). x.number) c.die.ensures) c.self.invariant.3,
 )
 
 pub returns-clause-weave : goal.returns-clause-weave

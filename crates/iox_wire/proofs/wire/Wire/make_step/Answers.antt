@@ -8,6 +8,7 @@ use Rattle.iox_wire_weaves.specs.Steps.{IsWireCallAt, MakesOneAccess, finished_b
 use Rattle.iox_wire_weaves.specs.Wires.{Shows, WireData, WireNode, node_at}
 use Rattle.iox_wire_weaves.proofs.Lookups.{steps_on}
 use Rattle.iox_wire.specs.declared.events.WireEvent.{WireEvent}
+use Rattle.iox_wire.proofs.InOrder.{in_order_still}
 use Rattle.iox_wire.proofs.Recorded.{events_by}
 use Rattle.iox_wire.proofs.Stepping as stepping
 use Rattle.iox_wire.proofs.Stepping.{goes_on, is_over, nothing_replied}
@@ -103,6 +104,8 @@ invariant_of-self c = (
         longest = fit.longest;
         events = room_after (vec_len c.self.inside.events) (vec_len c.note.new.events) c.self.inside.room (vec_capacity c.self.inside.events) (vec_capacity c.note.new.events) some fit.events c.note.ensures.few c.note.ensures.capacity;
       },
+  in_order_still c.self.inside.in_order c.self.inside.members.items c.args.place c.index_mut-member.result.now c.go_on.new.self c.index_mut-member.ensures.value
+      c.in_default.ensures.number c.self.invariant.3,
 )
 
 pub returns-in_default-clause-one_access : goal.returns-in_default-clause-one_access
@@ -163,6 +166,8 @@ invariant_of-self-2 c = (
         longest = c.tell.ensures.longest ∙ fit.longest;
         events = room_after (vec_len c.self.inside.events) (vec_len c.note.new.events) c.self.inside.room (vec_capacity c.self.inside.events) (vec_capacity c.note.new.events) some fit.events c.note.ensures.few c.note.ensures.capacity;
       },
+  in_order_still c.self.inside.in_order c.self.inside.members.items c.args.place c.index_mut-member.result.now c.tell.new.self c.index_mut-member.ensures.value
+      (ap (λ (m : WireNode). m.number) c.tell.ensures.over ∙ c.in-Some.ensures.number) c.self.invariant.3,
 )
 
 pub returns-clause-one_access : goal.returns-clause-one_access

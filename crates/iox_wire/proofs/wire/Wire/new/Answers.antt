@@ -1,13 +1,13 @@
 use Rattle.std.specs.Prelude.{replicate}
-use Rattle.std.proofs.Common.{arith, ap, length, refl, subst, sym, ◌<◌, ◌^◌, ◌∙◌}
+use Rattle.std.proofs.Common.{arith, ap, length, List, refl, subst, sym, ◌<◌, ◌^◌, ◌∙◌}
 use Rattle.iox_word_map.specs.WordMaps.{total_words}
 use Rattle.iox_wire_weaves.specs.HandleBounds.{handle_room}
 use Rattle.iox_wire_weaves.specs.WirePlan.{WirePlan}
 use Rattle.iox_wire_weaves.specs.Plans.{most_ways, sizes_of}
 use Rattle.iox_wire_weaves.specs.Replies.{most_words}
-use Rattle.iox_wire_weaves.specs.Wires.{WireData}
+use Rattle.iox_wire_weaves.specs.Wires.{WireData, WireNode}
 use Rattle.iox_wire.specs.Replies.{FinishedCalls}
-use Rattle.iox_wire.specs.Kept.{AreOpened}
+use Rattle.iox_wire.specs.Kept.{AreOpened, StandInOrder}
 use Rattle.iox_wire.proofs.Members.{opened_node}
 use Rattle.iox_wire.proofs.Fresh.{fresh, shown_opened, shows_opened}
 use Rattle.iox_wire.proofs.NewRefusals.{few_of_both, has_header, ways_are_counted, ways_are_told}
@@ -42,6 +42,7 @@ invariant_of-result c = (
     longest = ap (λ (d : FinishedCalls). d.longest) c.new-3.ensures ∙ c.longest_message-longest.ensures ∙ ap most_words c.plan-2.ensures.value;
     events = omega (arith, c.new-4.result.ok.0, ap length c.new-4.ensures.items);
   },
+  subst (λ (ms : List WireNode). StandInOrder c.count_in_order-in_order.result ms) c.deref.ensures.value c.count_in_order-in_order.ensures,
 )
 
 pub returns-clause-opened : goal.returns-clause-opened

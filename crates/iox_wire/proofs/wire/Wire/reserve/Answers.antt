@@ -25,4 +25,5 @@ invariant_of-self-2 c =
         longest = ap (λ (d : FinishedCalls). d.longest) told ∙ c.self.invariant.2.longest;
         events = c.in_ok-reserve-2.ensures.ok;
       },
+      c.self.invariant.3,
     )

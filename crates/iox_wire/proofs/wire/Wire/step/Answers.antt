@@ -17,6 +17,12 @@ none_left : (room : ℕ) → (1 ≤ room → false ≡ true) → room ≡ 0
 none_left zero none = refl
 none_left (suc n) none = absurd (true≢false (sym (none (omega arith))))
 
+pub rest_refusal-requires : goal.rest_refusal-requires
+rest_refusal-requires c =
+    let first = ap (λ (v : WireData). position (λ x. x.number == c.args.node) v.nodes) c.self.view_is ∙ c.in_ok-place.ensures.first in
+    let w : WireData = record { plan = c.self.inside.places; terms = c.self.inside.terms; words = c.self.inside.words.items; nodes = c.self.inside.members.items; replies = c.self.inside.replies.finished; events = events_by c.self.inside.events.items; room = c.self.inside.room } in
+    (c.self.invariant.1.own c.args.node c.index.result.now (there w c.args.node c.in_ok-place.place c.index.result.now first c.index.ensures)).busy
+
 pub returns-in-Some-clause-refused : goal.returns-in-Some-clause-refused
 returns-in-Some-clause-refused c =
     let first = ap (λ (v : WireData). position (λ x. x.number == c.args.node) v.nodes) c.self.view_is ∙ c.in_ok-place.ensures.first in
