@@ -10,3 +10,4 @@ pub mod AnyLemmas
 pub mod NodeListLemmas
 pub mod WholeLemmas
 pub mod TallyLemmas
+pub mod KindLemmas

@@ -182,6 +182,18 @@ tallied-change counts less more ps j h n t at first second =
     (subst (λ cs. IsTallied cs (slice_set (slice_set ps j None) j (Some n))) (sym second)
     (tallied-put less (slice_set ps j None) j n took (vacant_after ps j (Some h) None at)))
 
+-- one that is counted where the old one was
+pub tallied-alike : (counts : List ℕ) (ps : List (Option Entry)) (j : ℕ) (h n : Entry) → IsTallied counts ps → slice_get ps j ≡ Some (Some h)
+    → tally_place n.port n.kind ≡ tally_place h.port h.kind → IsTallied counts (slice_set ps j (Some n))
+tallied-alike counts ps j h n t at same = record { size = t.size; each = each }
+  where
+    each : (i : ℕ) → i < 256 → slice_index_or counts i 0 ≡ count_by (passes (is_counted_at i)) (slice_set ps j (Some n))
+    each i low =
+        let set = set_count ps j (Some h) (Some n) at i in
+        let equal : one_if (tally_place n.port n.kind == i) ≡ one_if (tally_place h.port h.kind == i) = ap (λ m. one_if (m == i)) same in
+        let was = t.each i low in
+        omega (arith, set, equal, was)
+
 -- the same where it is not known yet that there is a handle
 abbrev IsLess : List ℕ → List ℕ → Option Entry → Type 0
 IsLess counts less o = (h : Entry) → o ≡ Some h → less ≡ slice_set counts (tally_place h.port h.kind) (at_place counts h - 1)

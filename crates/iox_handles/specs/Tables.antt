@@ -1,7 +1,7 @@
 -- The handles of a hub, as callers see them: a list by number, which is oldest first.
 use Rattle.std.specs.Prelude.{◌≡◌, ℕ, ◌+◌, ◌-◌, ◌≤◌, ◌==◌, ◌&&◌, Bool, not, if◌then◌else◌, List, [], ◌∷◌, ◌++◌, Option, Some, None, filter, find, length, map}
 use Rattle.std.specs.List.{list_any}
-use Rattle.std.specs.Option.{option_and_then}
+use Rattle.std.specs.Option.{option_and_then, option_map}
 use Rattle.iox_model.specs.declared.kind.Kind.{Kind}
 use Rattle.iox_model.specs.declared.kind.Kind.TheVariants.{PendingResponse}
 use Rattle.iox_model.specs.Handles.{is_request_loan, is_response_loan, same_kind}
@@ -94,6 +94,14 @@ with_handle h (k ∷ ks) = if has_that h.number k then h ∷ ks else k ∷ with_
 -- one handle is as it is now
 abbrev pub changed : Contents → Entry → Contents
 changed table h = record table { handles = with_handle h table.handles }
+
+-- the handle, of another kind
+abbrev pub of_kind : Kind → Entry → Entry
+of_kind kind h = record h { kind = kind }
+
+-- the handle with the kind that it is to have, if it is to change
+abbrev pub with_kind : (Entry → Option Kind) → Entry → Option Entry
+with_kind becomes h = option_map (λ kind. of_kind kind h) (becomes h)
 
 -- What is so of each table: a number is one handle's, and is below the next.
 pub record IsSound (table : Contents) : Type 0 where

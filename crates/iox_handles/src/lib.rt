@@ -4,6 +4,7 @@
 
 mod entry;
 mod entry_test;
+mod kind_change;
 mod least;
 mod node_list;
 mod numbered;
@@ -13,6 +14,7 @@ mod tally;
 
 pub use entry::Entry;
 pub use entry_test::EntryTest;
+pub use kind_change::KindChange;
 pub use least::lesser;
 pub use numbered::Numbered;
 pub use table::Table;

@@ -1,8 +1,9 @@
 //! How a table is searched.
 ghost use Rattle.std.specs.List.{list_any};
+ghost use Rattle.std.specs.Option.{option_map};
 ghost use Rattle.std.specs.Prelude.{◌≡◌, IfSome, None, count_by, is_some, position, true};
 ghost use Rattle.iox_handles.specs.Places.{has_at, in_places, is_numbered, passes};
-ghost use Rattle.iox_handles.specs.Tables.{has_port, is_of};
+ghost use Rattle.iox_handles.specs.Tables.{has_port, is_of, of_kind};
 ghost use Rattle.iox_model.specs.Handles.{kind_code, same_kind};
 
 use crate::entry::Entry;
@@ -97,6 +98,17 @@ pub fn place_of_port(places: &[Option<Entry>], port: u64, hint: usize) -> Option
         return Some(place);
     }
     first_of_port(places, port)
+}
+
+/// The handle that is there is of that kind now.
+#[inline(always)]
+pub fn set_kind(place: &mut Option<Entry>, kind: Kind)
+    ensures { place.new ≡ option_map (of_kind kind) place.old }
+{
+    match place {
+        Some(entry) => entry.kind = kind,
+        None => {}
+    }
 }
 
 /// Whether two kinds are one.

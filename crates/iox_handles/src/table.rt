@@ -1,16 +1,17 @@
 //! The table of a hub's handles.
-ghost use Rattle.std.specs.Option.{option_map};
-ghost use Rattle.std.specs.Prelude.{◌≡◌, ◌<◌, ◌≤◌, ◌+◌, ◌-◌, ◌%◌, ◌^◌, ◌==◌, if◌then◌else◌, IfOk, IsSome, None, OnErr, OnOk, Some, filter, length, map};
+ghost use Rattle.std.specs.Option.{option_and_then, option_map};
+ghost use Rattle.std.specs.Prelude.{◌≡◌, ◌<◌, ◌≤◌, ◌+◌, ◌-◌, ◌%◌, ◌^◌, ◌==◌, if◌then◌else◌, IfOk, IfSome, IsSome, None, OnErr, OnOk, Some, filter, length, map};
 ghost use Rattle.iox_handles.specs.Least.{least};
 ghost use Rattle.iox_handles.specs.Tallies.{is_counted_at, tally_place};
-ghost use Rattle.iox_handles.specs.Tables.{IsSound, added, changed, count_like, count_of, handle_at, handle_of, handles_of, has_any, new_contents, removed};
+ghost use Rattle.iox_handles.specs.Tables.{IsSound, added, changed, count_like, count_of, handle_at, handle_of, handles_of, has_any, new_contents, removed, with_kind};
 
 use crate::entry::Entry;
 use crate::entry_test::EntryTest;
+use crate::kind_change::KindChange;
 use crate::least::least_in;
 use crate::node_list::NodeList;
 use crate::numbered::Numbered;
-use crate::places::{count_if_in, count_in, place_of, place_of_port};
+use crate::places::{count_if_in, count_in, place_of, place_of_port, set_kind};
 use crate::tally::Tally;
 use iox_model::kind::Kind;
 use std::alloc::{AllocError, Global};
@@ -259,6 +260,32 @@ impl Table {
         self.tally.count(entry.port, entry.kind);
         self.places[at] = Some(entry);
         Some(old)
+    }
+
+    /// Changes the kind of the node's handle of that number, where it is to change, and tells the
+    /// handle as it is now. It is looked for in its likely place and at the hint first.
+    #[inline(always)]
+    pub fn change_kind<C: KindChange>(
+        &mut self,
+        node: u64,
+        number: u64,
+        hint: usize,
+        change: &C,
+    ) -> Option<Entry>
+        ensures told { result ≡ option_and_then (with_kind (C.becomes change.now))
+            (handle_of self.old node number) }
+        ensures changed { IfSome result (λ h. self.new ≡ changed self.old h) }
+        ensures unchanged { result ≡ None → self.new ≡ self.old }
+        ensures sound { IsSound self.old }
+    {
+        let here = place_of(&self.places, number, self.guess(number), hint)?;
+        let old = self.places[here]?;
+        if old.node != node {
+            return None;
+        }
+        let kind = change.becomes(old)?;
+        set_kind(&mut self.places[here], kind);
+        Some(Entry { kind, ..old })
     }
 
     /// The port has at most so many handles of that kind, and of those that are counted with it:
