@@ -10,3 +10,4 @@ pub mod ResponseReceived
 pub mod HintKept
 pub mod ChangeLemmas
 pub mod RoomLemmas
+pub mod FittingLemmas

@@ -2,3 +2,4 @@ pub mod Settings
 pub mod Entries
 pub mod Controls
 pub mod Replies
+pub mod Fittings

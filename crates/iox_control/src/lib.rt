@@ -2,6 +2,7 @@
 #![tactic(auto)]
 
 mod control;
+mod fitting;
 mod lanes;
 mod making;
 mod parts;
