@@ -16,3 +16,4 @@ pub mod Foretold
 pub mod MayLemmas
 pub mod Wanting
 pub mod WantingCopies
+pub mod FitLemmas

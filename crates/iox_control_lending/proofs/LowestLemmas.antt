@@ -91,6 +91,16 @@ held_numbers ss =
     there : (k : ℕ) → k < length ss → get_or ss k no_slot ≡ in_slots ss k
     there k low = sym (ap (λ o. option_map_or (λ s. s) o no_slot) (slice_get-get_or ss k no_slot low))
 
+-- where none is counted nobody has a message of the lane
+none_held : (ss : List SlotState) (i : ℕ) → held_count ss ≡ 0 → is_lane_held ss i ≡ false
+none_held [] i none = refl
+none_held (s ∷ ss) i none = step (has_holder s) none (none_held ss i)
+  where
+    step : (b : Bool) → length (if b then s ∷ filter has_holder ss else filter has_holder ss) ≡ 0
+        → (held_count ss ≡ 0 → is_lane_held ss i ≡ false) → ((b && (s.lane == i)) || is_lane_held ss i) ≡ false
+    step true none rest = absurd (omega (arith, none))
+    step false none rest = rest none
+
 request_is_own : (a b c : Bool) → (a || c) ≡ true → (a || (b || c)) ≡ true
 request_is_own true b c e = refl
 request_is_own false true c e = refl
@@ -143,6 +153,14 @@ module _ (t : HubTables) (n : ℕ) (p : PortState) (order : AreInOrder t) (there
       let lane : s.0.lane ≡ i
       = ap (λ (x : SlotState). x.lane) (sym here) ∙ ap (λ q. (slot_at t.pools q r.0.slot).lane) (sym (its_pool r.0 r.1 its)) ∙ eqb-true (lane_of t r.0) i on.1 in
       passes_from (λ x. has_holder x && (x.lane == i)) slots r.0.slot s.0 s.1 (both (has_holder s.0) (s.0.lane == i) held (eq-eqb s.0.lane i lane))
+
+  -- where nobody has a message of the client, its first lane is free
+  pub first_is : (size : ℕ) → held_count slots ≡ 0 → 0 < size → Some 0 ≡ find (λ i. not (is_lane_taken t n i)) (range_with_len 0 size)
+  first_is size none some =
+      sym (first_found (λ i. not (is_lane_taken t n i)) 0 size 0 (omega arith) (omega (arith, some)) (λ i less. absurd (omega (arith, less))) (ap not free))
+    where
+      free : is_lane_taken t n 0 ≡ false
+      free = not_true (is_lane_taken t n 0) (λ taken. true≢false (sym (taken_is_held 0 taken) ∙ none_held slots 0 none))
 
   module _ (same : requests_of t n ≡ held_count slots) where
     -- somebody has the slot of that number

@@ -1,9 +1,10 @@
 -- A lender, by what is known about its port.
-use Rattle.std.specs.Prelude.{◌≡◌, ℕ, ◌%◌, ◌^◌, Some}
+use Rattle.std.specs.Prelude.{◌≡◌, ℕ, ◌%◌, ◌^◌, List, None, Option, Some, refl}
 use Rattle.std.specs.Option.{option_map}
-use Rattle.std.proofs.Common.{ap, subst, ◌∙◌}
-use Rattle.std.proofs.lemmas.Option.{same_Some}
+use Rattle.std.proofs.Common.{ap, subst, sym, ◌∙◌}
+use Rattle.std.proofs.lemmas.Option.{none-some, same_Some}
 use Rattle.iox_handles.specs.declared.entry.Entry.{Entry}
+use Rattle.iox_model.specs.declared.kind.Role.{Role}
 use Rattle.iox_lanes.specs.declared.wanted.Label.{Label}
 use Rattle.iox_tables.specs.HubStates.Tables.{HandleState, HubTables, PortState, labels_of, port_in}
 use Rattle.iox_tables.specs.HubStates.Wirings.{handle_in}
@@ -28,6 +29,15 @@ module _ (t : HubTables) (n : ℕ) (info : PortInfo) (p : PortState) (order : Ar
 
   pub port_found : (client lane request : ℕ) → IsPortOf t (record { port = info; client = client; lane = lane; request = request })
   port_found client lane request = record { port = p; there = there_by; info = info_is }
+
+-- a port of that role, by what is known about it
+pub role_is : (ports : List PortState) (n : ℕ) (info : PortInfo) (role : Role) → Some info ≡ info_in ports n
+    → ((p : PortState) → port_in ports n ≡ Some p → p.role ≡ role) → info.role ≡ role
+role_is ports n info role found of = step (port_in ports n) refl found
+  where
+    step : (o : Option PortState) → port_in ports n ≡ o → Some info ≡ option_map info_of o → info.role ≡ role
+    step None at said = absurd (none-some info (sym said))
+    step (Some p) at said = ap (λ (i : PortInfo). i.role) (same_Some info (info_of p) said) ∙ of p at
 
 -- what a client's loan is for
 abbrev pub request_of_port : PortInfo → Lending

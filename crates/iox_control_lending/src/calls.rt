@@ -6,6 +6,7 @@ ghost use Rattle.iox_tables.specs.HubStates.States.{Given, state_shown};
 ghost use Rattle.iox_tables.specs.HubStates.Wirings.{handle_in};
 ghost use Rattle.iox_tables.specs.HubLoans.Lenders.{IsActive, IsClient, lender_of_request, lender_of_response};
 ghost use Rattle.iox_tables.specs.HubLoans.Loans.{loan_call};
+ghost use Rattle.iox_hub_ports.specs.Ports.{info_in};
 ghost use Rattle.iox_control.specs.Controls.{IsControl};
 ghost use Rattle.iox_control_lending.specs.Lends.{IsAskedOf, IsPortOf, Lends, given_after, lender_of, reply_of_loan};
 
@@ -14,8 +15,22 @@ use crate::lend::lend_free;
 use crate::refusals::loan_refusal;
 use iox_control::Control;
 use iox_control_retrieving::retrieve_all_of;
+use iox_hub_ports::info::PortInfo;
+use iox_model::kind::Role;
+
+/// The port of that number, if there is one: it has that role. Where the role is said here, all
+/// that is inlined knows it.
+#[inline(always)]
+fn port_as(control: &Control, number: u64, role: Role) -> Option<PortInfo>
+    requires { (p : PortState) → port_in control.now.tables.ports number ≡ Some p → p.role ≡ role }
+    ensures { result ≡ info_in control.now.tables.ports number }
+{
+    let port = control.ports().find(number)?;
+    Some(PortInfo { role, ..port })
+}
 
 /// Lends for that lender.
+#[inline(always)]
 fn lend(control: &mut Control, lender: &Lending, asked: Asked) -> Lent
     requires port { IsPortOf control.old.tables lender.now }
     requires order { IsControl control.old }
@@ -38,6 +53,7 @@ fn lend(control: &mut Control, lender: &Lending, asked: Asked) -> Lent
 /// the client is got back first.
 ///
 /// The new loan holds no elements or the default of each.
+#[inline(always)]
 pub fn lend_request(control: &mut Control, node: u64, client: u64, asked: Asked) -> Lent
     requires client { IsClient control.old.tables node client }
     requires order { IsControl control.old }
@@ -49,7 +65,7 @@ pub fn lend_request(control: &mut Control, node: u64, client: u64, asked: Asked)
         (loan_call asked.uninit client asked.elements) (reply_of_loan result)
         (state_shown (given_after x x.request asked result) control.new.tables) }
 {
-    let Some(port) = control.ports().find(client) else {
+    let Some(port) = port_as(control, client, Role::Client) else {
         unreachable!();
     };
     let lender = Lending {
@@ -63,6 +79,7 @@ pub fn lend_request(control: &mut Control, node: u64, client: u64, asked: Asked)
 
 /// Lends a response to that active request, whose handle is looked for at the hint first. All that
 /// clients gave back to the server is got back first.
+#[inline(always)]
 pub fn lend_response(
     control: &mut Control,
     node: u64,
@@ -85,7 +102,7 @@ pub fn lend_response(
     let Some(entry) = control.entry(node, number, hint) else {
         unreachable!();
     };
-    let Some(port) = control.ports().find(entry.port) else {
+    let Some(port) = port_as(control, entry.port, Role::Server) else {
         unreachable!();
     };
     let label = control.label(entry.pool, entry.slot);

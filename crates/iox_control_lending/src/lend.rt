@@ -18,6 +18,7 @@ use iox_handles::Entry;
 use iox_model::kind::{Kind, Role};
 
 /// The kind of a loan by a port of that role.
+#[inline(always)]
 fn loan_kind(role: Role, uninit: bool) -> Kind
     ensures { result ≡ kind_of_loan role uninit }
 {
@@ -38,6 +39,7 @@ fn loan_kind(role: Role, uninit: bool) -> Kind
 }
 
 /// The handle of a loan in that slot.
+#[inline(always)]
 fn loan_entry(control: &Control, lender: &Lending, uninit: bool, slot: u64) -> Entry
     ensures number { result.number ≡ control.now.tables.next_number }
     ensures handle { (p : PortState) → lender.now.port ≡ info_of p → handle_state result
@@ -56,6 +58,7 @@ fn loan_entry(control: &Control, lender: &Lending, uninit: bool, slot: u64) -> E
 }
 
 /// The lane of a loan: of a client the lowest that is free, if there is one.
+#[inline(always)]
 fn lane_for(control: &Control, lender: &Lending) -> Option<u64>
     requires port { IsPortOf control.now.tables lender.now }
     requires order { IsControl control.now }
@@ -75,6 +78,7 @@ fn lane_for(control: &Control, lender: &Lending) -> Option<u64>
 
 /// The loan is written to that slot, on that lane, and handed out; it answers the number of its
 /// handle.
+#[inline(always)]
 fn hand_out(control: &mut Control, lender: &Lending, lane: u64, asked: Asked, slot: u64) -> u64
     requires room { 0 < control.old.room }
     requires number { control.old.tables.next_number + 1 < 2 ^ 64 }
@@ -102,6 +106,7 @@ fn hand_out(control: &mut Control, lender: &Lending, lane: u64, asked: Asked, sl
 
 /// The loan is made in a slot that nobody has. It is `None` where there is none, and then nothing
 /// changes.
+#[inline(always)]
 pub(crate) fn lend_free(control: &mut Control, lender: &Lending, asked: Asked) -> Option<Loaned>
     requires port { IsPortOf control.old.tables lender.now }
     requires order { IsControl control.old }

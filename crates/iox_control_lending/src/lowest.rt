@@ -77,19 +77,25 @@ fn lanes_held(pools: &Pools, pool: usize, held: usize) -> u64
     mask
 }
 
-/// The lowest lane of the client that no loaned request or pending response has, if there is one:
-/// the client's pool lies in that place.
+/// The same, where so many slots of the client's pool are had by somebody.
 ///
-/// Where each message that somebody has is one of those, their lanes are looked at once.
-pub(crate) fn lowest_lane(control: &Control, client: u64, pool: usize, size: usize) -> Option<u64>
+/// Where each message that somebody has is a loaned request or has a pending response, their lanes
+/// are looked at once.
+fn lowest_beside(
+    control: &Control,
+    client: u64,
+    pool: usize,
+    size: usize,
+    held: usize,
+) -> Option<u64>
     requires order { IsControl control.now }
     requires port { (p : PortState) × (port_in control.now.tables.ports client ≡ Some p)
         × (p.pool ≡ pool) }
+    requires held { held ≡ held_count (slots_of control.now.tables.pools pool) }
     ensures { result ≡ find (λ lane. not (is_lane_taken control.now.tables client lane))
         (range_with_len 0 size) }
 {
     let pools = control.pools();
-    let held = held_len(pools, pool);
     if requests_of(control, client) == held {
         let mask = lanes_held(pools, pool, held);
         if mask != u64::MAX {
@@ -100,4 +106,21 @@ pub(crate) fn lowest_lane(control: &Control, client: u64, pool: usize, size: usi
         }
     }
     free_lane(control, client, size)
+}
+
+/// The lowest lane of the client that no loaned request or pending response has, if there is one:
+/// the client's pool lies in that place. Where nobody has a message of it, that is the first.
+#[inline(always)]
+pub(crate) fn lowest_lane(control: &Control, client: u64, pool: usize, size: usize) -> Option<u64>
+    requires order { IsControl control.now }
+    requires port { (p : PortState) × (port_in control.now.tables.ports client ≡ Some p)
+        × (p.pool ≡ pool) }
+    ensures { result ≡ find (λ lane. not (is_lane_taken control.now.tables client lane))
+        (range_with_len 0 size) }
+{
+    let held = held_len(control.pools(), pool);
+    if held == 0 && size > 0 {
+        return Some(0);
+    }
+    lowest_beside(control, client, pool, size, held)
 }

@@ -33,6 +33,7 @@ fn reaches(many: u64, a: u64, b: u64, c: u64) -> bool
 }
 
 /// Why the port lends nothing of that length.
+#[inline(always)]
 fn size_refusal(port: &PortInfo, asked: Asked) -> Option<LoanRefusal>
     ensures { (p : PortState) (shape : Shape) → port.now ≡ info_of p → IsAskedOf shape asked
         → option_map refusal_of result ≡ size_refusal p shape asked.elements }
@@ -47,6 +48,7 @@ fn size_refusal(port: &PortInfo, asked: Asked) -> Option<LoanRefusal>
 }
 
 /// Whether the client has as many loans as it may.
+#[inline(always)]
 fn has_all_requests(control: &Control, client: u64) -> bool
     ensures { result ≡ nat_le control.now.tables.settings.loaned_requests
         (requests_on_loan control.now.tables client) }
@@ -71,6 +73,7 @@ fn has_all_to_one(control: &Control, lender: &Lending, in_all: u64) -> bool
 }
 
 /// Whether the server has as many loans as it may, to that request or in all.
+#[inline(always)]
 fn has_all_responses(control: &Control, lender: &Lending) -> bool
     ensures { result ≡ (nat_le lender.now.port.loaned_responses
         (responses_to control.now.tables lender.now.port.number lender.now.client
@@ -92,6 +95,7 @@ fn has_all_responses(control: &Control, lender: &Lending) -> bool
 }
 
 /// Whether the lender has as many loans as it may.
+#[inline(always)]
 fn has_all_loans(control: &Control, lender: &Lending) -> bool
     ensures { (p : PortState) → lender.now.port ≡ info_of p
         → refused_if result ExceedsMaxLoans
@@ -104,6 +108,7 @@ fn has_all_loans(control: &Control, lender: &Lending) -> bool
 }
 
 /// Why no such loan is made, but for the pool.
+#[inline(always)]
 pub fn loan_refusal(control: &Control, lender: Lending, asked: Asked) -> Option<LoanRefusal>
     ensures few { result ≡ None → control.now.tables.calls < 2 ^ 56 }
     ensures told { (p : PortState) → lender.port ≡ info_of p

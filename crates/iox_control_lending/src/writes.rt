@@ -15,7 +15,7 @@ ghost use Rattle.iox_tables.specs.HubLoans.Slots.{with_contents};
 ghost use Rattle.iox_tables.specs.HubLending.Filling.{with_kind};
 ghost use Rattle.iox_control.specs.Controls.{IsControl, with_tables};
 ghost use Rattle.iox_control.specs.Entries.{handle_state};
-ghost use Rattle.iox_control_lending.specs.Fills.{IsLoan, Writes, fits_loan, given_written, kind_after, words_place, reply_of_write};
+ghost use Rattle.iox_control_lending.specs.Fills.{IsLoan, Writes, given_written, kind_after, words_place, reply_of_write};
 
 use crate::asked::{Place, Written};
 use crate::counts::is_request_loan;
@@ -61,21 +61,9 @@ fn set_kind(control: &mut Control, entry: Entry, kind: Kind, hint: usize)
     control.change_handle(changed, hint);
 }
 
-/// Whether the handle's message has so many elements.
-fn has_elements(control: &Control, entry: Entry, elements: Option<u64>) -> bool
-    ensures { result ≡ fits_loan control.now.tables (handle_state entry) elements }
-{
-    let Some(count) = elements else {
-        return false;
-    };
-    match control.pools().slot(entry.pool, entry.slot) {
-        Some(slot) => count == slot.elements(),
-        None => count == 0,
-    }
-}
-
 /// Fills a loan with a payload of so many whole elements, or of no whole elements. Its handle is
 /// looked for at the hint first.
+#[inline(always)]
 pub fn write(
     control: &mut Control,
     node: u64,
@@ -95,13 +83,9 @@ pub fn write(
         (reply_of_write result)
         (state_shown (given_written x control.old.tables h p.words result) control.new.tables) }
 {
-    let Some(entry) = control.entry(node, number, hint) else {
-        unreachable!();
-    };
-    if !has_elements(control, entry, elements) {
+    let Some(entry) = control.fill_handle(node, number, hint, elements) else {
         return Written::WrongLength;
-    }
-    set_kind(control, entry, filled_kind(entry.kind), hint);
+    };
     Written::Done(Place {
         pool: entry.pool,
         slot: entry.slot,

@@ -11,6 +11,7 @@ use iox_hub_ports::info::PortInfo;
 use iox_hub_ports::walks::is_same_role;
 
 /// Gets back all that the one port gave back to the other, which is in that place.
+#[inline(always)]
 fn retrieve_from(control: &mut Control, sender: &PortInfo, at: usize, to: &PortInfo)
     requires order { IsControl control.old }
     requires from { info_in control.old.tables.ports sender.now.number ≡ Some sender.now }
@@ -31,6 +32,7 @@ fn retrieve_from(control: &mut Control, sender: &PortInfo, at: usize, to: &PortI
 }
 
 /// Gets back all that was given back to a port of which that is said.
+#[inline(always)]
 pub fn retrieve_all_of(control: &mut Control, sender: &PortInfo)
     requires order { IsControl control.old }
     requires said { info_in control.old.tables.ports sender.now.number ≡ Some sender.now }
