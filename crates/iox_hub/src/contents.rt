@@ -13,6 +13,7 @@ use iox_words::Words;
 
 /// Lends the message in that slot for so many elements: unfilled, or each filled with its default.
 /// Where it has no room for them, it takes the room that is given.
+#[inline(always)]
 fn lend_in<E: Words, H: Words>(
     store: &mut Store<E, H>,
     slot: usize,
@@ -41,6 +42,7 @@ fn lend_in<E: Words, H: Words>(
 
 /// Lends the request in that slot of the pool in this place. Where it has no room for so many
 /// elements, it takes the room that is given.
+#[inline(always)]
 pub(crate) fn lend_request_in<QE: Words, QH: Words, PE: Words, PH: Words>(
     words: &mut Vec<Option<PoolWords<QE, QH, PE, PH>>>,
     pool: usize,
@@ -67,6 +69,7 @@ pub(crate) fn lend_request_in<QE: Words, QH: Words, PE: Words, PH: Words>(
 
 /// Lends the response in that slot of the pool in this place. Where it has no room for so many
 /// elements, it takes the room that is given.
+#[inline(always)]
 pub(crate) fn lend_response_in<QE: Words, QH: Words, PE: Words, PH: Words>(
     words: &mut Vec<Option<PoolWords<QE, QH, PE, PH>>>,
     pool: usize,

@@ -26,17 +26,15 @@ fn is_small(part: Part) -> bool
 }
 
 /// Whether a message of so many elements has fewer than 2^63 bytes, wherever its parts have to
-/// stand.
+/// stand, by all its bytes.
 #[tactic(auto, using(crate::proofs::LayoutLemmas::small_fits))]
-pub(crate) fn has_layout(header: Part, user: Part, element: Part, elements: u64) -> bool
+#[inline(never)]
+fn can_be_addressed(header: Part, user: Part, element: Part, elements: u64) -> bool
     ensures { result
         ≡ nat_lt (size_of_parts (part_of header) (part_of user) (part_of element) elements)
         (2 ^ 63) }
 {
-    let payload = elements as u128 * element.size as u128;
-    if payload < 1 << 60 && is_small(header) && is_small(user) && is_small(element) {
-        return true;
-    }
+    let payload = element.size as u128 * elements as u128;
     let alignment = header.alignment as u128;
     if alignment == 0 {
         return true;
@@ -47,4 +45,19 @@ pub(crate) fn has_layout(header: Part, user: Part, element: Part, elements: u64)
     let bytes = bytes_with(header, user, element, payload) + (alignment - 1);
     // Rounded down it is no more, so that most need no division.
     bytes < 1 << 63 || bytes / alignment * alignment < 1 << 63
+}
+
+/// The same. Most parts are so small that this is known at once.
+#[tactic(auto, using(crate::proofs::LayoutLemmas::small_fits))]
+#[inline(always)]
+pub(crate) fn has_layout(header: Part, user: Part, element: Part, elements: u64) -> bool
+    ensures { result
+        ≡ nat_lt (size_of_parts (part_of header) (part_of user) (part_of element) elements)
+        (2 ^ 63) }
+{
+    let payload = elements as u128 * element.size as u128;
+    if payload < 1 << 60 && is_small(header) && is_small(user) && is_small(element) {
+        return true;
+    }
+    can_be_addressed(header, user, element, elements)
 }

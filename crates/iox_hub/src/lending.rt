@@ -1,5 +1,6 @@
 //! Loans of clients and of active requests.
-ghost use Rattle.std.specs.Prelude.{◌≡◌, IsSome, Some, false};
+ghost use Rattle.std.specs.Bool.{OnTrue};
+ghost use Rattle.std.specs.Prelude.{◌≡◌, IsSome, None, Some, false};
 ghost use Rattle.iox_model.specs.declared.kind.Kind.TheVariants.{ActiveRequest, Client};
 ghost use Rattle.iox_model.specs.declared.kind.Role.TheVariants as roles;
 ghost use Rattle.iox_model.specs.WholeCalls.{IsWholeCall};
@@ -27,6 +28,7 @@ use iox_store::{Payload, Spare, is_length};
 use iox_words::Words;
 
 /// What is asked of a loan of such messages.
+#[inline(always)]
 pub(crate) fn asked_of<Q: Payload, H: Words>(
     shape: &MessageShape<Q::Element, H>,
     elements: usize,
@@ -51,6 +53,7 @@ pub(crate) fn asked_of<Q: Payload, H: Words>(
 impl<Q: Payload, QH: Words, P: Payload, PH: Words, H: Backpressure> Hub<Q, QH, P, PH, H> {
     /// Lends a request of that client for so many elements, where its message has room for them:
     /// its own, or that which is given.
+    #[inline(always)]
     fn lend_request_in_room(
         &mut self,
         node: u64,
@@ -92,6 +95,7 @@ impl<Q: Payload, QH: Words, P: Payload, PH: Words, H: Backpressure> Hub<Q, QH, P
 
     /// Lends a response to that active request for so many elements, where its message has room for
     /// them: its own, or that which is given.
+    #[inline(always)]
     fn lend_response_in_room(
         &mut self,
         node: u64,
@@ -135,9 +139,36 @@ impl<Q: Payload, QH: Words, P: Payload, PH: Words, H: Backpressure> Hub<Q, QH, P
         lent
     }
 
-    /// Lends a request of that client for so many elements, unfilled or each with its default. Past
-    /// the greatest length the message grows, where the client's do, and that takes memory.
-    pub fn lend_request(&mut self, node: u64, client: u64, elements: usize, uninit: bool) -> Lent
+    /// Whether a request of that client for so many elements needs no room: its message has it, or
+    /// never grows.
+    #[inline(always)]
+    fn needs_no_request_room(&self, _node: u64, client: u64, elements: usize) -> bool
+        requires has { HasValue self.now _node client Client }
+        ensures { OnTrue result ((p : PortState)
+            → port_in self.now.control.tables.ports client ≡ Some p
+            → LoanHasRoom self.now (lender_of_request p 0) self.now.request elements None) }
+    {
+        let Some(port) = self.control.ports().find(client) else {
+            unreachable!();
+        };
+        if !port.grows {
+            return true;
+        }
+        if elements as u64 <= port.longest {
+            return true;
+        }
+        false
+    }
+
+    /// Lends a request of that client for so many elements, for which its message may have to grow.
+    #[inline(never)]
+    fn lend_request_growing(
+        &mut self,
+        node: u64,
+        client: u64,
+        elements: usize,
+        uninit: bool,
+    ) -> Lent
         requires has { HasValue self.old node client Client }
         requires default { uninit ≡ false → IsSome self.old.request.default }
         ensures left { LeavesLent self.old self.old.request uninit elements result self.new }
@@ -157,10 +188,59 @@ impl<Q: Payload, QH: Words, P: Payload, PH: Words, H: Backpressure> Hub<Q, QH, P
         }
     }
 
-    /// Lends a response to that active request for so many elements, unfilled or each with its
-    /// default. The handle of the request is looked for at the hint first. Past the greatest length
-    /// the message grows, where the server's do, and that takes memory.
-    pub fn lend_response(
+    /// Lends a request of that client for so many elements, unfilled or each with its default. Past
+    /// the greatest length the message grows, where the client's do, and that takes memory.
+    #[inline(always)]
+    pub fn lend_request(&mut self, node: u64, client: u64, elements: usize, uninit: bool) -> Lent
+        requires has { HasValue self.old node client Client }
+        requires default { uninit ≡ false → IsSome self.old.request.default }
+        ensures left { LeavesLent self.old self.old.request uninit elements result self.new }
+        ensures whole { (x : Given) → IsWholeCall (state_of_hub x self.old) node
+            (loan_call uninit client elements) (reply_of_loan result) (state_of_hub x self.new) }
+        ensures has { HasLent self.new node roles.Client self.old.request uninit elements result }
+        ensures new { IsNewLoan self.old node result }
+        ensures keeps { KeepsAll self.old self.new }
+        ensures memory { result ≡ Refused WantOfMemory → (p : PortState)
+            → port_in self.old.control.tables.ports client ≡ Some p
+            → WantsRoom self.old (lender_of_request p 0) self.old.request elements }
+    {
+        self.is_in_order();
+        if self.needs_no_request_room(node, client, elements) {
+            return self.lend_request_in_room(node, client, elements, uninit, None);
+        }
+        self.lend_request_growing(node, client, elements, uninit)
+    }
+
+    /// Whether a response to that active request for so many elements needs no room: its message
+    /// has it, or never grows. The handle of the request is looked for at the hint first.
+    #[inline(always)]
+    fn needs_no_response_room(&self, node: u64, number: u64, hint: usize, elements: usize) -> bool
+        requires has { HasValue self.now node number ActiveRequest }
+        ensures { OnTrue result ((h : HandleState) (p : PortState)
+            → handle_in self.now.control.tables.handles node number ≡ Some h
+            → port_in self.now.control.tables.ports h.port ≡ Some p
+            → LoanHasRoom self.now (lender_of_response self.now.control.tables h p)
+            self.now.response elements None) }
+    {
+        let Some(entry) = self.control.entry(node, number, hint) else {
+            unreachable!();
+        };
+        let Some(port) = self.control.ports().find(entry.port) else {
+            unreachable!();
+        };
+        if !port.grows {
+            return true;
+        }
+        if port.longest >= elements as u64 {
+            return true;
+        }
+        false
+    }
+
+    /// Lends a response to that active request for so many elements, for which its message may have
+    /// to grow. The handle of the request is looked for at the hint first.
+    #[inline(never)]
+    fn lend_response_growing(
         &mut self,
         node: u64,
         number: u64,
@@ -187,5 +267,38 @@ impl<Q: Payload, QH: Words, P: Payload, PH: Words, H: Backpressure> Hub<Q, QH, P
             Ok(spare) => { self.lend_response_in_room(node, number, hint, elements, uninit, spare) }
             Err(_) => Lent::Refused(LoanRefusal::WantOfMemory),
         }
+    }
+
+    /// Lends a response to that active request for so many elements, unfilled or each with its
+    /// default. The handle of the request is looked for at the hint first. Past the greatest length
+    /// the message grows, where the server's do, and that takes memory.
+    #[inline(always)]
+    pub fn lend_response(
+        &mut self,
+        node: u64,
+        number: u64,
+        hint: usize,
+        elements: usize,
+        uninit: bool,
+    ) -> Lent
+        requires has { HasValue self.old node number ActiveRequest }
+        requires default { uninit ≡ false → IsSome self.old.response.default }
+        ensures left { LeavesLent self.old self.old.response uninit elements result self.new }
+        ensures whole { (x : Given) → IsWholeCall (state_of_hub x self.old) node
+            (loan_call uninit number elements) (reply_of_loan result) (state_of_hub x self.new) }
+        ensures has { HasLent self.new node roles.Server self.old.response uninit elements result }
+        ensures new { IsNewLoan self.old node result }
+        ensures keeps { KeepsAll self.old self.new }
+        ensures memory { result ≡ Refused WantOfMemory → (h : HandleState) (p : PortState)
+            → handle_in self.old.control.tables.handles node number ≡ Some h
+            → port_in self.old.control.tables.ports h.port ≡ Some p
+            → WantsRoom self.old (lender_of_response self.old.control.tables h p)
+            self.old.response elements }
+    {
+        self.is_in_order();
+        if self.needs_no_response_room(node, number, hint, elements) {
+            return self.lend_response_in_room(node, number, hint, elements, uninit, None);
+        }
+        self.lend_response_growing(node, number, hint, elements, uninit)
     }
 }

@@ -22,6 +22,7 @@ use iox_store::Payload;
 use iox_words::Words;
 
 /// So many elements are written to the node's loan. Its handle is looked for at the hint first.
+#[inline(always)]
 fn write_loan(control: &mut Control, node: u64, number: u64, hint: usize, count: usize) -> Written
     requires loan { IsLoan control.old.tables node number }
     requires order { IsControl control.old }

@@ -1,0 +1,27 @@
+use Rattle.std.proofs.Common.{ap, sym, ◌∙◌}
+use Rattle.iox_control.specs.Entries.{handle_state}
+use Rattle.iox_hub_ports.specs.Ports.{info_in}
+use Rattle.iox_hub.proofs.GrowingFound.{active_port_is_there, found_in, short_active, still_active}
+use Rattle.iox_hub.proofs.hub.Hub.needs_no_response_room.Goals as goal
+
+pub unreachable-requires-in_default-find : goal.unreachable-requires-in_default-find
+unreachable-requires-in_default-find g c =
+    active_port_is_there c.self.invariant c.args.self.now c.self.view_is c.args.node c.args.number c.requires.has (handle_state c.in-Some.entry)
+    c.in-Some.ensures
+    (ap (λ ps. info_in ps c.in-Some.entry.port) (sym c.ports.ensures.ports) ∙ sym c.find.ensures ∙ c.in_default-find.is)
+
+pub returns-then-not-port : goal.returns-then-not-port
+returns-then-not-port g c =
+    still_active c.args.self.now c.self.view_is c.self.invariant c.args.node c.args.number c.args.elements c.requires.has (handle_state c.in-Some.entry)
+    c.in-Some.ensures c.in-Some-find.port
+    (found_in c.ports.result.now.ports c.self.inside.control.tables.ports c.ports.ensures.ports c.in-Some.entry.port c.find.result c.find.ensures
+    c.in-Some-find.port c.in-Some-find.is)
+    c.if-not-port.true
+
+pub returns-then-port-elements : goal.returns-then-port-elements
+returns-then-port-elements g c =
+    short_active c.args.self.now c.self.view_is c.self.invariant c.args.node c.args.number c.args.elements c.requires.has (handle_state c.in-Some.entry)
+    c.in-Some.ensures c.in-Some-find.port
+    (found_in c.ports.result.now.ports c.self.inside.control.tables.ports c.ports.ensures.ports c.in-Some.entry.port c.find.result c.find.ensures
+    c.in-Some-find.port c.in-Some-find.is)
+    c.if-port-elements.true
