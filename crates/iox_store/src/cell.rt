@@ -103,6 +103,7 @@ impl<E: Words, H: Words> Cell<E, H> {
 
     /// Lends it for so many elements, none of which is filled. Where its own room is too small, it
     /// takes the room that is given. It hands back the room that it does not use.
+    #[inline(always)]
     pub fn lend_uninit(
         &mut self,
         elements: usize,
