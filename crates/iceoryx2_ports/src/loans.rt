@@ -32,6 +32,7 @@ use iox_store::{One, Payload};
 use iox_words::Words;
 
 /// Loans a request of that client, and tells its number.
+#[inline(always)]
 pub(crate) fn lend_request<Q: Payload, QH: Words, P: Payload, PH: Words, H: Backpressure>(
     hub: &mut Hub<Q, QH, P, PH, H>,
     node: u64,
@@ -79,6 +80,7 @@ pub(crate) fn lend_request<Q: Payload, QH: Words, P: Payload, PH: Words, H: Back
 }
 
 /// Loans a response to that active request, and tells its number.
+#[inline(always)]
 pub(crate) fn lend_response<Q: Payload, QH: Words, P: Payload, PH: Words, H: Backpressure>(
     hub: &mut Hub<Q, QH, P, PH, H>,
     node: u64,
