@@ -84,7 +84,7 @@ module _ (c : ControlState) (node n : ℕ) (order : IsControl c) (few : c.tables
       pub reply : r ≡ request_outcome fails t h
       pub is : left ≡ record (with_request_ended t node n h r) { pools = left.pools }
       pub whole :
-          (x : Given) → AreFailures x t h fails → (u : HubTables) → state_shown x (with_lost_released r left h.port) ≡ state_shown x u
+          (x : Given) → (t.settings.request_overflow ≡ false → AreFailures x t h fails) → (u : HubTables) → state_shown x (with_lost_released r left h.port) ≡ state_shown x u
           → IsWholeCall (state_shown x t) node (Send n) (reply_of_send r) (state_shown x u)
 
     -- the same, by the handle that is found
@@ -96,11 +96,11 @@ module _ (c : ControlState) (node n : ℕ) (order : IsControl c) (few : c.tables
     left_for r left all k there = all.is ∙ ap (λ (i : HandleState). record (with_request_ended t node n i r) { pools = left.pools }) (same_Some h k (found ∙ there))
 
     pub whole_for : (r : Requested) (left : HubTables) → IsOffered r left → (k : HandleState) → handle_in t.handles node n ≡ Some k
-        → (x : Given) → AreFailures x t k fails → (u : HubTables) → state_shown x (with_lost_released r left k.port) ≡ state_shown x u
+        → (x : Given) → (t.settings.request_overflow ≡ false → AreFailures x t k fails) → (u : HubTables) → state_shown x (with_lost_released r left k.port) ≡ state_shown x u
         → IsWholeCall (state_shown x t) node (Send n) (reply_of_send r) (state_shown x u)
     whole_for r left all k there x failure u shown =
         let same : h ≡ k = same_Some h k (found ∙ there) in
-        all.whole x (subst (λ (i : HandleState). AreFailures x t i fails) (sym same) failure) u
+        all.whole x (λ off. subst (λ (i : HandleState). AreFailures x t i fails) (sym same) (failure off)) u
         (ap (λ (i : HandleState). state_shown x (with_lost_released r left i.port)) same ∙ shown)
 
     module _ (d left : HubTables) (pools : d.pools ≡ t.pools) (same : bare_pools t.pools ≡ bare_pools left.pools) (is : left ≡ record d { pools = left.pools }) (x : Given) (u : HubTables) where
@@ -159,11 +159,11 @@ module _ (c : ControlState) (node n : ℕ) (order : IsControl c) (few : c.tables
             its : new ≡ record (with_request_sent back h t.settings.request_overflow) { pools = new.pools }
             its = sent ∙ ap (λ b. record (with_request_sent back h b) { pools = new.pools }) over
 
-            model : (b : Bool) → t.settings.request_overflow ≡ b → (x : Given) → AreFailures x t h fails
+            model : (b : Bool) → t.settings.request_overflow ≡ b → (x : Given) → (t.settings.request_overflow ≡ false → AreFailures x t h fails)
                 → loan_sent_by (state_shown x t) node n ≡ (replies.Sent (length (ways_of back h b)), state_shown x (with_request_sent back h b))
             model true on x failure = goes_over t order.order node n h named kind few x free on
             model false on x failure =
-                goes_plain t order.order node n h named kind few x free on fails failure
+                goes_plain t order.order node n h named kind few x free on fails (failure on)
                 (ap (λ b. is_failing fails b back.ports h.port) (sym on) ∙ failing (Some count) some)
 
         pub is_lost_so : r ≡ None → new ≡ record (with_dropped back e.node e.number) { pools = new.pools } → IsOffered UnableToDeliver new
@@ -172,7 +172,7 @@ module _ (c : ControlState) (node n : ℕ) (order : IsControl c) (few : c.tables
           is = its;
           whole = λ x failure u shown.
               is_whole_sent t order.order node n h named kind few x (λ on. absurd (true≢false (sym on ∙ plain))) (replies.Refused refusals.UnableToDeliver) (state_shown x u)
-              (is_lost t order.order node n h named kind few x free plain fails failure
+              (is_lost t order.order node n h named kind few x free plain fails (failure plain)
               (ap (λ b. is_failing fails b back.ports h.port) (sym plain) ∙ failing None none)
               ∙ ap (λ v. (replies.Refused refusals.UnableToDeliver, v)) (shows_lost (with_dropped back node n) new refl same its x u shown));
         }

@@ -1,11 +1,12 @@
 //! The send of a request.
-ghost use Rattle.std.specs.Prelude.{◌≡◌, ◌<◌, ◌^◌, Some};
+ghost use Rattle.std.specs.Prelude.{◌≡◌, ◌<◌, ◌^◌, Some, false};
 ghost use Rattle.iox_model.specs.WholeCalls.{IsWholeCall};
 ghost use Rattle.iox_model.specs.declared.call.Call.TheVariants.{Send};
 ghost use Rattle.iox_tables.specs.HubStates.States.{Given, state_shown};
 ghost use Rattle.iox_tables.specs.HubStates.Tables.{HandleState};
 ghost use Rattle.iox_tables.specs.HubStates.Wirings.{handle_in};
 ghost use Rattle.iox_control.specs.Controls.{IsControl};
+ghost use Rattle.iox_control.specs.Entries.{handle_state};
 ghost use Rattle.iox_control_releasing.specs.Goings.{KeptPools, StaysTidy};
 ghost use Rattle.iox_control_requests.specs.Sendings.{AreFailures, IsRequest, reply_of_send, request_outcome, with_lost_released, with_request_ended};
 
@@ -14,18 +15,22 @@ use crate::offering::offer_request;
 use crate::requested::Requested;
 use iox_control::Control;
 use iox_control_releasing::disconnect_if_unused;
+use iox_handles::Entry;
 
 /// Sends a loaned request, whose handle is looked for at the hint first, to all servers, and says
 /// to how many. Where it is lost, the client goes with it, if nothing else of that is left. Whether
-/// the send fails where a server is full, the caller says.
+/// the send fails where a server is full, the caller says: that counts only where requests do not
+/// overflow.
 pub fn send_request<B: WhenFull>(
     control: &mut Control,
     node: u64,
     number: u64,
     hint: usize,
+    entry: Entry,
     backpressure: &B,
 ) -> Requested
     requires request { IsRequest control.old.tables node number }
+    requires entry { Some (handle_state entry) ≡ handle_in control.old.tables.handles node number }
     requires order { IsControl control.old }
     requires calls { control.old.tables.calls < 2 ^ 56 }
     ensures reply { (h : HandleState) → handle_in control.old.tables.handles node number ≡ Some h
@@ -39,14 +44,12 @@ pub fn send_request<B: WhenFull>(
     ensures pools { KeptPools control.old.tables.pools control.new.tables.pools }
     ensures tidy { StaysTidy control.old.tables control.new.tables }
     ensures whole { (h : HandleState) → handle_in control.old.tables.handles node number ≡ Some h
-        → (x : Given) → AreFailures x control.old.tables h (B.fails backpressure.now)
+        → (x : Given) → (control.old.tables.settings.request_overflow ≡ false
+            → AreFailures x control.old.tables h (B.fails backpressure.now))
         → IsWholeCall (state_shown x control.old.tables) node (Send number)
         (reply_of_send result) (state_shown x control.new.tables) }
 {
-    let Some(entry) = control.entry(node, number, hint) else {
-        unreachable!();
-    };
-    let requested = offer_request(control, node, number, hint, backpressure);
+    let requested = offer_request(control, node, number, hint, entry, backpressure);
     match requested {
         Requested::To(_) => {}
         Requested::ExceedsMaxActiveRequests => disconnect_if_unused(control, entry.port),

@@ -108,7 +108,7 @@ module _ (c : ControlState) (node n : ℕ) (order : IsControl c) (few : c.tables
       pub is : left ≡ record (with_response_ended t node n h fails) { pools = left.pools }
       pub same : bare_pools t.pools ≡ bare_pools left.pools
       pub whole :
-          (x : Given) → IsFailure x t h fails → (u : HubTables) → state_shown x (with_released left h.port) ≡ state_shown x u
+          (x : Given) → (t.settings.response_overflow ≡ false → IsFailure x t h fails) → (u : HubTables) → state_shown x (with_released left h.port) ≡ state_shown x u
           → IsWholeCall (state_shown x t) node (Send n) (reply_of_send r) (state_shown x u)
 
     -- the same, by the handle that is found
@@ -117,11 +117,11 @@ module _ (c : ControlState) (node n : ℕ) (order : IsControl c) (few : c.tables
     left_for r left all k there = all.is ∙ ap (λ (i : HandleState). record (with_response_ended t node n i fails) { pools = left.pools }) (same_Some h k (found ∙ there))
 
     pub whole_for : (r : Responded) (left : HubTables) → IsOffered r left → (k : HandleState) → handle_in t.handles node n ≡ Some k
-        → (x : Given) → IsFailure x t k fails → (u : HubTables) → state_shown x (with_released left k.port) ≡ state_shown x u
+        → (x : Given) → (t.settings.response_overflow ≡ false → IsFailure x t k fails) → (u : HubTables) → state_shown x (with_released left k.port) ≡ state_shown x u
         → IsWholeCall (state_shown x t) node (Send n) (reply_of_send r) (state_shown x u)
     whole_for r left all k there x failure u shown =
         let same : h ≡ k = same_Some h k (found ∙ there) in
-        all.whole x (subst (λ (i : HandleState). IsFailure x t i fails) (sym same) failure) u
+        all.whole x (λ off. subst (λ (i : HandleState). IsFailure x t i fails) (sym same) (failure off)) u
         (ap (λ (i : HandleState). state_shown x (with_released left i.port)) same ∙ shown)
 
     abbrev gone : HubTables → HubTables
@@ -132,7 +132,7 @@ module _ (c : ControlState) (node n : ℕ) (order : IsControl c) (few : c.tables
 
     offered : (r : Responded) (u : HubTables) (b : Bool) (left : HubTables) → with_response_sent t h ≡ u → u.pools ≡ t.pools → is_undelivered t h fails ≡ b
         → reply_of_send r ≡ (if b then replies.Refused UnableToDeliver else replies.Done)
-        → ((x : Given) → IsFailure x t h fails → loan_sent_by (state_shown x t) node n ≡ (reply_of_send r, state_shown x (record (gone u) { calls = if b then t.calls else t.calls + 1 })))
+        → ((x : Given) → (t.settings.response_overflow ≡ false → IsFailure x t h fails) → loan_sent_by (state_shown x t) node n ≡ (reply_of_send r, state_shown x (record (gone u) { calls = if b then t.calls else t.calls + 1 })))
         → left ≡ record (with_dropped u node n) { calls = if b then t.calls else t.calls + 1; pools = left.pools }
         → bare_pools t.pools ≡ bare_pools left.pools → IsOffered r left
     offered r u b left sent pools undelivered reply model is same = record {
@@ -232,7 +232,7 @@ module _ (c : ControlState) (node n : ℕ) (order : IsControl c) (few : c.tables
         fails_to_send is failing new ends =
             offered Undelivered em true new.tables (emptied_sent is) refl (undelivered_is ∙ ap₂ (λ (a b : Bool). a && b) is failing) refl
             (λ x failure.
-            is_lost t order.order node n h named kind few x awaits (full_and_plain is).0 (full_and_plain is).1 (failure ∙ failing)
+            is_lost t order.order node n h named kind few x awaits (full_and_plain is).0 (full_and_plain is).1 (failure (full_and_plain is).1 ∙ failing)
             ∙ ap (λ u. (replies.Refused UnableToDeliver, state_shown x u)) (as_is em refl))
             (ended em t.calls d.tables.pools d new tables_then ends) (ended_bare d new same ends)
 
@@ -240,7 +240,7 @@ module _ (c : ControlState) (node n : ℕ) (order : IsControl c) (few : c.tables
         goes_to_nobody is failing k new counted ends =
             offered Done em false new.tables (emptied_sent is) refl (undelivered_is ∙ ap₂ (λ (a b : Bool). a && b) is failing) refl
             (λ x failure.
-            is_skipped t order.order node n h named kind few x awaits (full_and_plain is).0 (full_and_plain is).1 (failure ∙ failing)
+            is_skipped t order.order node n h named kind few x awaits (full_and_plain is).0 (full_and_plain is).1 (failure (full_and_plain is).1 ∙ failing)
             ∙ ap (λ u. (replies.Done, state_shown x u)) (as_counted em refl))
             (ended em (t.calls + 1) d.tables.pools k new (ap (λ (x : ControlState). x.tables) counted ∙ ap with_call tables_then) ends)
             (ended_bare k new (same ∙ ap (λ (x : ControlState). bare_pools x.tables.pools) (sym counted)) ends)

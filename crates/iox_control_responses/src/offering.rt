@@ -1,5 +1,5 @@
 //! A response that is offered to its client.
-ghost use Rattle.std.specs.Prelude.{◌≡◌, ◌<◌, ◌^◌, ◌&&◌, Some, not, true};
+ghost use Rattle.std.specs.Prelude.{◌≡◌, ◌<◌, ◌^◌, ◌&&◌, Some, false, not, true};
 ghost use Rattle.iox_lanes.specs.Lanes.{IsSound, LaneState, is_full};
 ghost use Rattle.iox_model.specs.WholeCalls.{IsWholeCall};
 ghost use Rattle.iox_model.specs.declared.call.Call.TheVariants.{Send};
@@ -11,14 +11,16 @@ ghost use Rattle.iox_tables.specs.HubBooks.Keeps.{bare_pools};
 ghost use Rattle.iox_tables.specs.HubMaking.Disconnections.{with_released};
 ghost use Rattle.iox_hub_ports.specs.Ports.{on_way};
 ghost use Rattle.iox_control.specs.Controls.{IsControl};
+ghost use Rattle.iox_control.specs.Entries.{handle_state};
 ghost use Rattle.iox_control_responses.specs.Responses.{IsFailure, IsResponse, reply_of_send, response_reply, with_response_ended};
 
-use crate::awaited::is_awaited;
+use crate::awaited::is_awaited_under;
 use crate::handing::hand_over;
 use crate::responded::Responded;
 use iox_control::Control;
 use iox_control_ending::{count, end_loan};
 use iox_control_retrieving::retrieve;
+use iox_handles::Entry;
 use iox_model::way::Way;
 
 /// Whether a response may not wait on the way: as many wait as may, and none of them is pushed out.
@@ -35,15 +37,17 @@ fn is_shut(control: &Control, way: Way) -> bool
 /// Offers a loaned response to its client, and ends its handle, which is looked for at the hint
 /// first: all of its send but the disconnection of the server, where nothing else of that is left.
 /// Whether the send fails where the client is full, the caller says, by the server's handler or its
-/// strategy.
+/// strategy. That counts only where responses do not overflow.
 pub fn offer_response(
     control: &mut Control,
     node: u64,
     number: u64,
     hint: usize,
+    entry: Entry,
     fails: bool,
 ) -> Responded
     requires response { IsResponse control.old.tables node number }
+    requires entry { Some (handle_state entry) ≡ handle_in control.old.tables.handles node number }
     requires order { IsControl control.old }
     requires calls { control.old.tables.calls < 2 ^ 56 }
     ensures reply { (h : HandleState) → handle_in control.old.tables.handles node number ≡ Some h
@@ -55,14 +59,12 @@ pub fn offer_response(
     ensures pools { bare_pools control.old.tables.pools ≡ bare_pools control.new.tables.pools }
     ensures order { IsControl control.new }
     ensures whole { (h : HandleState) → handle_in control.old.tables.handles node number ≡ Some h
-        → (x : Given) → IsFailure x control.old.tables h fails → (t : HubTables)
+        → (x : Given) → (control.old.tables.settings.response_overflow ≡ false
+            → IsFailure x control.old.tables h fails) → (t : HubTables)
         → state_shown x (with_released control.new.tables h.port) ≡ state_shown x t
         → IsWholeCall (state_shown x control.old.tables) node (Send number)
         (reply_of_send result) (state_shown x t) }
 {
-    let Some(entry) = control.entry(node, number, hint) else {
-        unreachable!();
-    };
     let label = control.label(entry.pool, entry.slot);
     let way = Way {
         sender: entry.port,
@@ -70,7 +72,7 @@ pub fn offer_response(
         lane: label.lane,
     };
     let shut = is_shut(control, way);
-    if !is_awaited(control, entry) {
+    if !is_awaited_under(control, entry, label) {
         count(control);
         end_loan(control, node, number, hint);
         return Responded::Done;

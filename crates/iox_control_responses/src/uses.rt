@@ -13,6 +13,9 @@ pub fn sends_by_strategy(control: &mut Control, node: u64, number: u64, server: 
     requires calls { control.old.tables.calls < 2 ^ 56 }
     ensures { IsControl control.new }
 {
+    let Some(entry) = control.entry(node, number, 0) else {
+        unreachable!();
+    };
     let fails = fails_when_full(control, server);
-    send_response(control, node, number, 0, fails)
+    send_response(control, node, number, 0, entry, fails)
 }

@@ -24,6 +24,7 @@ pub mod SendingFits
 pub mod SendingNames
 pub mod SendingHubs
 pub mod Handling
+pub mod Overflowing
 pub mod LendingWords
 pub mod LendingGiven
 pub mod LendingFits

@@ -1,5 +1,5 @@
 //! What full receivers mean for the sends of a hub's ports.
-ghost use Rattle.std.specs.Prelude.{◌≡◌, Some};
+ghost use Rattle.std.specs.Prelude.{◌≡◌, Some, false};
 ghost use Rattle.std.specs.Option.{option_map};
 ghost use Rattle.iox_tables.specs.HubStates.Tables.{PortState, port_in};
 ghost use Rattle.iox_backpressure.specs.Answers.{shown_by};
@@ -46,4 +46,53 @@ pub(crate) fn fails_at_client<H: Backpressure>(
     };
     let handler = handlers.find(entry.port);
     fails(handler, port.strategy, entry.port, entry.client)
+}
+
+/// Whether the send of a response fails where its client is full. Where responses overflow no send
+/// does, so the server is not asked.
+pub(crate) fn fails_without_overflow<H: Backpressure>(
+    control: &Control,
+    handlers: &Handlers<H>,
+    entry: Entry,
+) -> bool
+    ensures { control.now.tables.settings.response_overflow ≡ false
+        → (p : PortState) → port_in control.now.tables.ports entry.port ≡ Some p
+        → result ≡ fails_with (handler_in handlers.now.list entry.port) p.strategy entry.port
+        entry.client }
+{
+    if control.settings().response_overflow {
+        return false;
+    }
+    fails_at_client(control, handlers, entry)
+}
+
+/// What full servers mean for the send of a request: the client's handler decides, if it has one,
+/// and else its strategy. Where requests overflow no send fails, so the client is not asked.
+pub(crate) fn asked_of_client<H: Backpressure>(
+    control: &Control,
+    handlers: &Handlers<H>,
+    client: u64,
+) -> ByHandler<H>
+    ensures handler { control.now.tables.settings.request_overflow ≡ false
+        → (p : PortState) → port_in control.now.tables.ports client ≡ Some p
+        → option_map (shown_by H.action) result.handler ≡ handler_in handlers.now.list client }
+    ensures strategy { control.now.tables.settings.request_overflow ≡ false
+        → (p : PortState) → port_in control.now.tables.ports client ≡ Some p
+        → result.strategy ≡ p.strategy }
+{
+    let nothing = ByHandler {
+        handler: None,
+        strategy: BackpressureStrategy::DiscardData,
+    };
+    if control.settings().request_overflow {
+        return nothing;
+    }
+    let Some(port) = control.ports().find(client) else {
+        return nothing;
+    };
+    let handler = handlers.find(client);
+    ByHandler {
+        handler,
+        strategy: port.strategy,
+    }
 }

@@ -15,7 +15,7 @@ ghost use Rattle.iox_hub.specs.Hubs.{HasValue, fails_of, state_of_hub, with_cont
 ghost use Rattle.iox_hub.specs.Keeping.{KeepsOthers};
 ghost use Rattle.iox_hub.specs.Sending.{HasNothing, HasSent, with_words_left};
 
-use crate::backpressure::{ByHandler, fails_at_client};
+use crate::backpressure::{asked_of_client, fails_without_overflow};
 use crate::hub::Hub;
 use iox_backpressure::Backpressure;
 use iox_control_request_copies::{Requested, Responded};
@@ -46,12 +46,13 @@ impl<Q: Payload, QH: Words, P: Payload, PH: Words, H: Backpressure> Hub<Q, QH, P
         let Some(entry) = self.control.entry(node, number, hint) else {
             unreachable!();
         };
-        let fails = fails_at_client(&self.control, &self.handlers, entry);
+        let fails = fails_without_overflow(&self.control, &self.handlers, entry);
         let responded = iox_control_request_copies::send_response(
             &mut self.control,
             node,
             number,
             hint,
+            entry,
             fails,
         );
         self.drop_words(entry.pool);
@@ -80,19 +81,13 @@ impl<Q: Payload, QH: Words, P: Payload, PH: Words, H: Backpressure> Hub<Q, QH, P
         let Some(entry) = self.control.entry(node, number, hint) else {
             unreachable!();
         };
-        let Some(port) = self.control.ports().find(entry.port) else {
-            unreachable!();
-        };
-        let handler = self.handlers.find(entry.port);
-        let by = ByHandler {
-            handler,
-            strategy: port.strategy,
-        };
+        let by = asked_of_client(&self.control, &self.handlers, entry.port);
         let requested = iox_control_request_copies::send_request(
             &mut self.control,
             node,
             number,
             hint,
+            entry,
             &by,
         );
         self.drop_words(entry.pool);

@@ -17,14 +17,14 @@ pub returns-in-ExceedsMaxActiveRequests-clause-whole : goal.returns-in-ExceedsMa
 returns-in-ExceedsMaxActiveRequests-clause-whole g c h there x failure =
     c.offer_request-requested.ensures.whole h there x failure c.disconnect_if_unused.new.control.tables
     (ap (λ r. state_shown x (with_lost_released r c.offer_request-requested.new.control.tables h.port)) c.in-ExceedsMaxActiveRequests.is
-    ∙ lost_shown c.args.control.now.tables c.args.node c.args.number c.in-Some.entry c.in-Some.ensures h there ExceedsMaxActiveRequests c.offer_request-requested.new.control.tables
+    ∙ lost_shown c.args.control.now.tables c.args.node c.args.number c.args.entry c.requires.entry h there ExceedsMaxActiveRequests c.offer_request-requested.new.control.tables
     c.disconnect_if_unused.new.control.tables x (c.disconnect_if_unused.ensures.shown x))
 
 pub returns-in-UnableToDeliver-clause-whole : goal.returns-in-UnableToDeliver-clause-whole
 returns-in-UnableToDeliver-clause-whole g c h there x failure =
     c.offer_request-requested.ensures.whole h there x failure c.disconnect_if_unused-in-UnableToDeliver.new.control.tables
     (ap (λ r. state_shown x (with_lost_released r c.offer_request-requested.new.control.tables h.port)) c.in-UnableToDeliver.is
-    ∙ lost_shown c.args.control.now.tables c.args.node c.args.number c.in-Some.entry c.in-Some.ensures h there UnableToDeliver c.offer_request-requested.new.control.tables
+    ∙ lost_shown c.args.control.now.tables c.args.node c.args.number c.args.entry c.requires.entry h there UnableToDeliver c.offer_request-requested.new.control.tables
     c.disconnect_if_unused-in-UnableToDeliver.new.control.tables x (c.disconnect_if_unused-in-UnableToDeliver.ensures.shown x))
 
 pub returns-in-To-clause-pools : goal.returns-in-To-clause-pools
@@ -42,20 +42,20 @@ returns-in-UnableToDeliver-clause-pools g c =
 
 pub returns-in-To-clause-tidy : goal.returns-in-To-clause-tidy
 returns-in-To-clause-tidy g c =
-    offered_tidies c.args.control.now.tables c.offer_request-requested.new.control.tables c.args.node c.args.number (handle_state c.in-Some.entry)
-    c.requires.order.order c.offer_request-requested.ensures.order.order c.requires.request c.in-Some.ensures c.offer_request-requested.ensures.pools c.offer_request-requested.result
-    (c.offer_request-requested.ensures.left (handle_state c.in-Some.entry) (sym c.in-Some.ensures))
+    offered_tidies c.args.control.now.tables c.offer_request-requested.new.control.tables c.args.node c.args.number (handle_state c.args.entry)
+    c.requires.order.order c.offer_request-requested.ensures.order.order c.requires.request c.requires.entry c.offer_request-requested.ensures.pools c.offer_request-requested.result
+    (c.offer_request-requested.ensures.left (handle_state c.args.entry) (sym c.requires.entry))
 
 pub returns-in-ExceedsMaxActiveRequests-clause-tidy : goal.returns-in-ExceedsMaxActiveRequests-clause-tidy
 returns-in-ExceedsMaxActiveRequests-clause-tidy g c place none =
     c.disconnect_if_unused.ensures.tidy place
-    (offered_tidies c.args.control.now.tables c.offer_request-requested.new.control.tables c.args.node c.args.number (handle_state c.in-Some.entry)
-    c.requires.order.order c.offer_request-requested.ensures.order.order c.requires.request c.in-Some.ensures c.offer_request-requested.ensures.pools c.offer_request-requested.result
-    (c.offer_request-requested.ensures.left (handle_state c.in-Some.entry) (sym c.in-Some.ensures)) place none)
+    (offered_tidies c.args.control.now.tables c.offer_request-requested.new.control.tables c.args.node c.args.number (handle_state c.args.entry)
+    c.requires.order.order c.offer_request-requested.ensures.order.order c.requires.request c.requires.entry c.offer_request-requested.ensures.pools c.offer_request-requested.result
+    (c.offer_request-requested.ensures.left (handle_state c.args.entry) (sym c.requires.entry)) place none)
 
 pub returns-in-UnableToDeliver-clause-tidy : goal.returns-in-UnableToDeliver-clause-tidy
 returns-in-UnableToDeliver-clause-tidy g c place none =
     c.disconnect_if_unused-in-UnableToDeliver.ensures.tidy place
-    (offered_tidies c.args.control.now.tables c.offer_request-requested.new.control.tables c.args.node c.args.number (handle_state c.in-Some.entry)
-    c.requires.order.order c.offer_request-requested.ensures.order.order c.requires.request c.in-Some.ensures c.offer_request-requested.ensures.pools c.offer_request-requested.result
-    (c.offer_request-requested.ensures.left (handle_state c.in-Some.entry) (sym c.in-Some.ensures)) place none)
+    (offered_tidies c.args.control.now.tables c.offer_request-requested.new.control.tables c.args.node c.args.number (handle_state c.args.entry)
+    c.requires.order.order c.offer_request-requested.ensures.order.order c.requires.request c.requires.entry c.offer_request-requested.ensures.pools c.offer_request-requested.result
+    (c.offer_request-requested.ensures.left (handle_state c.args.entry) (sym c.requires.entry)) place none)

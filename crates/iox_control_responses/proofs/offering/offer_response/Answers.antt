@@ -6,167 +6,167 @@ use Rattle.iox_control_responses.specs.declared.responded.Responded.TheVariants.
 use Rattle.iox_control_responses.proofs.Offered.{fails_to_send, found_then, goes_to_nobody, in_line_keeps, is_in_line, left_for, loan_counted, loan_then, nobody_waits, of_pool, whole_for}
 use Rattle.iox_control_responses.proofs.offering.offer_response.Goals as goal
 
-pub returns-then-not-is_awaited-clause-pools : goal.returns-then-not-is_awaited-clause-pools
-returns-then-not-is_awaited-clause-pools c =
-    (nobody_waits c.args.control.now c.args.node c.args.number c.requires.order c.requires.calls c.requires.response c.requires.order.buffers.responses c.in-Some.entry c.in-Some.ensures c.args.fails
-    (response_way c.in-Some.entry.client c.label-label.result.lane c.in-Some.entry.port)
-    (ap (λ (l : Label). response_way c.in-Some.entry.client l.lane c.in-Some.entry.port) c.label-label.ensures)
+pub returns-then-not-is_awaited_under-clause-pools : goal.returns-then-not-is_awaited_under-clause-pools
+returns-then-not-is_awaited_under-clause-pools c =
+    (nobody_waits c.args.control.now c.args.node c.args.number c.requires.order c.requires.calls c.requires.response c.requires.order.buffers.responses c.args.entry c.requires.entry c.args.fails
+    (response_way c.args.entry.client c.label-label.result.lane c.args.entry.port)
+    (ap (λ (l : Label). response_way c.args.entry.client l.lane c.args.entry.port) c.label-label.ensures)
     c.is_shut-shut.result c.is_shut-shut.ensures.shut c.is_shut-shut.ensures.sound
-    (sym c.is_awaited.ensures ∙ c.if-not-is_awaited.true) c.count.new.control c.end_loan.new.control c.count.ensures.counted
-    (c.end_loan.ensures.ended _ (found_then c.args.control.now c.args.node c.args.number c.requires.order c.requires.calls c.requires.response c.requires.order.buffers.responses c.in-Some.entry c.in-Some.ensures c.args.fails
-    (response_way c.in-Some.entry.client c.label-label.result.lane c.in-Some.entry.port)
-    (ap (λ (l : Label). response_way c.in-Some.entry.client l.lane c.in-Some.entry.port) c.label-label.ensures)
+    (sym c.is_awaited_under.ensures ∙ c.if-not-is_awaited_under.true) c.count.new.control c.end_loan.new.control c.count.ensures.counted
+    (c.end_loan.ensures.ended _ (found_then c.args.control.now c.args.node c.args.number c.requires.order c.requires.calls c.requires.response c.requires.order.buffers.responses c.args.entry c.requires.entry c.args.fails
+    (response_way c.args.entry.client c.label-label.result.lane c.args.entry.port)
+    (ap (λ (l : Label). response_way c.args.entry.client l.lane c.args.entry.port) c.label-label.ensures)
     c.is_shut-shut.result c.is_shut-shut.ensures.shut c.is_shut-shut.ensures.sound
     c.count.new.control (ap (λ (d : ControlState). d.tables.handles) c.count.ensures.counted)))).same
 
-pub returns-then-not-is_awaited-clause-whole : goal.returns-then-not-is_awaited-clause-whole
-returns-then-not-is_awaited-clause-whole c =
-    whole_for c.args.control.now c.args.node c.args.number c.requires.order c.requires.calls c.requires.response c.requires.order.buffers.responses c.in-Some.entry c.in-Some.ensures c.args.fails
-    (response_way c.in-Some.entry.client c.label-label.result.lane c.in-Some.entry.port)
-    (ap (λ (l : Label). response_way c.in-Some.entry.client l.lane c.in-Some.entry.port) c.label-label.ensures)
+pub returns-then-not-is_awaited_under-clause-whole : goal.returns-then-not-is_awaited_under-clause-whole
+returns-then-not-is_awaited_under-clause-whole c =
+    whole_for c.args.control.now c.args.node c.args.number c.requires.order c.requires.calls c.requires.response c.requires.order.buffers.responses c.args.entry c.requires.entry c.args.fails
+    (response_way c.args.entry.client c.label-label.result.lane c.args.entry.port)
+    (ap (λ (l : Label). response_way c.args.entry.client l.lane c.args.entry.port) c.label-label.ensures)
     c.is_shut-shut.result c.is_shut-shut.ensures.shut c.is_shut-shut.ensures.sound
-    Done c.end_loan.new.control.tables (nobody_waits c.args.control.now c.args.node c.args.number c.requires.order c.requires.calls c.requires.response c.requires.order.buffers.responses c.in-Some.entry c.in-Some.ensures c.args.fails
-    (response_way c.in-Some.entry.client c.label-label.result.lane c.in-Some.entry.port)
-    (ap (λ (l : Label). response_way c.in-Some.entry.client l.lane c.in-Some.entry.port) c.label-label.ensures)
+    Done c.end_loan.new.control.tables (nobody_waits c.args.control.now c.args.node c.args.number c.requires.order c.requires.calls c.requires.response c.requires.order.buffers.responses c.args.entry c.requires.entry c.args.fails
+    (response_way c.args.entry.client c.label-label.result.lane c.args.entry.port)
+    (ap (λ (l : Label). response_way c.args.entry.client l.lane c.args.entry.port) c.label-label.ensures)
     c.is_shut-shut.result c.is_shut-shut.ensures.shut c.is_shut-shut.ensures.sound
-    (sym c.is_awaited.ensures ∙ c.if-not-is_awaited.true) c.count.new.control c.end_loan.new.control c.count.ensures.counted
-    (c.end_loan.ensures.ended _ (found_then c.args.control.now c.args.node c.args.number c.requires.order c.requires.calls c.requires.response c.requires.order.buffers.responses c.in-Some.entry c.in-Some.ensures c.args.fails
-    (response_way c.in-Some.entry.client c.label-label.result.lane c.in-Some.entry.port)
-    (ap (λ (l : Label). response_way c.in-Some.entry.client l.lane c.in-Some.entry.port) c.label-label.ensures)
+    (sym c.is_awaited_under.ensures ∙ c.if-not-is_awaited_under.true) c.count.new.control c.end_loan.new.control c.count.ensures.counted
+    (c.end_loan.ensures.ended _ (found_then c.args.control.now c.args.node c.args.number c.requires.order c.requires.calls c.requires.response c.requires.order.buffers.responses c.args.entry c.requires.entry c.args.fails
+    (response_way c.args.entry.client c.label-label.result.lane c.args.entry.port)
+    (ap (λ (l : Label). response_way c.args.entry.client l.lane c.args.entry.port) c.label-label.ensures)
     c.is_shut-shut.result c.is_shut-shut.ensures.shut c.is_shut-shut.ensures.sound
     c.count.new.control (ap (λ (d : ControlState). d.tables.handles) c.count.ensures.counted))))
 
 pub retrieve-requires-clause-pool : goal.retrieve-requires-clause-pool
 retrieve-requires-clause-pool c =
-    of_pool c.args.control.now c.args.node c.args.number c.requires.order c.requires.calls c.requires.response c.requires.order.buffers.responses c.in-Some.entry c.in-Some.ensures c.args.fails
-    (response_way c.in-Some.entry.client c.label-label.result.lane c.in-Some.entry.port)
-    (ap (λ (l : Label). response_way c.in-Some.entry.client l.lane c.in-Some.entry.port) c.label-label.ensures)
+    of_pool c.args.control.now c.args.node c.args.number c.requires.order c.requires.calls c.requires.response c.requires.order.buffers.responses c.args.entry c.requires.entry c.args.fails
+    (response_way c.args.entry.client c.label-label.result.lane c.args.entry.port)
+    (ap (λ (l : Label). response_way c.args.entry.client l.lane c.args.entry.port) c.label-label.ensures)
     c.is_shut-shut.result c.is_shut-shut.ensures.shut c.is_shut-shut.ensures.sound
 
 pub hand_over-requires-clause-loan : goal.hand_over-requires-clause-loan
 hand_over-requires-clause-loan c =
-    loan_then c.args.control.now c.args.node c.args.number c.requires.order c.requires.calls c.requires.response c.requires.order.buffers.responses c.in-Some.entry c.in-Some.ensures c.args.fails
-    (response_way c.in-Some.entry.client c.label-label.result.lane c.in-Some.entry.port)
-    (ap (λ (l : Label). response_way c.in-Some.entry.client l.lane c.in-Some.entry.port) c.label-label.ensures)
+    loan_then c.args.control.now c.args.node c.args.number c.requires.order c.requires.calls c.requires.response c.requires.order.buffers.responses c.args.entry c.requires.entry c.args.fails
+    (response_way c.args.entry.client c.label-label.result.lane c.args.entry.port)
+    (ap (λ (l : Label). response_way c.args.entry.client l.lane c.args.entry.port) c.label-label.ensures)
     c.is_shut-shut.result c.is_shut-shut.ensures.shut c.is_shut-shut.ensures.sound
-    (sym c.is_awaited.ensures ∙ c.if-not-is_awaited.false) c.retrieve.new.control c.retrieve.ensures.order c.retrieve.ensures.left c.retrieve.ensures.fewer.same
+    (sym c.is_awaited_under.ensures ∙ c.if-not-is_awaited_under.false) c.retrieve.new.control c.retrieve.ensures.order c.retrieve.ensures.left c.retrieve.ensures.fewer.same
 
 pub returns-then-not-shut-clause-pools : goal.returns-then-not-shut-clause-pools
 returns-then-not-shut-clause-pools c =
-    (is_in_line c.args.control.now c.args.node c.args.number c.requires.order c.requires.calls c.requires.response c.requires.order.buffers.responses c.in-Some.entry c.in-Some.ensures c.args.fails
-    (response_way c.in-Some.entry.client c.label-label.result.lane c.in-Some.entry.port)
-    (ap (λ (l : Label). response_way c.in-Some.entry.client l.lane c.in-Some.entry.port) c.label-label.ensures)
+    (is_in_line c.args.control.now c.args.node c.args.number c.requires.order c.requires.calls c.requires.response c.requires.order.buffers.responses c.args.entry c.requires.entry c.args.fails
+    (response_way c.args.entry.client c.label-label.result.lane c.args.entry.port)
+    (ap (λ (l : Label). response_way c.args.entry.client l.lane c.args.entry.port) c.label-label.ensures)
     c.is_shut-shut.result c.is_shut-shut.ensures.shut c.is_shut-shut.ensures.sound
-    (sym c.is_awaited.ensures ∙ c.if-not-is_awaited.false) c.retrieve.new.control c.retrieve.ensures.order c.retrieve.ensures.left c.retrieve.ensures.fewer.same c.if-not-shut.true c.hand_over.new.control c.hand_over.ensures).same
+    (sym c.is_awaited_under.ensures ∙ c.if-not-is_awaited_under.false) c.retrieve.new.control c.retrieve.ensures.order c.retrieve.ensures.left c.retrieve.ensures.fewer.same c.if-not-shut.true c.hand_over.new.control c.hand_over.ensures).same
 
 pub returns-then-not-shut-clause-whole : goal.returns-then-not-shut-clause-whole
 returns-then-not-shut-clause-whole c =
-    whole_for c.args.control.now c.args.node c.args.number c.requires.order c.requires.calls c.requires.response c.requires.order.buffers.responses c.in-Some.entry c.in-Some.ensures c.args.fails
-    (response_way c.in-Some.entry.client c.label-label.result.lane c.in-Some.entry.port)
-    (ap (λ (l : Label). response_way c.in-Some.entry.client l.lane c.in-Some.entry.port) c.label-label.ensures)
+    whole_for c.args.control.now c.args.node c.args.number c.requires.order c.requires.calls c.requires.response c.requires.order.buffers.responses c.args.entry c.requires.entry c.args.fails
+    (response_way c.args.entry.client c.label-label.result.lane c.args.entry.port)
+    (ap (λ (l : Label). response_way c.args.entry.client l.lane c.args.entry.port) c.label-label.ensures)
     c.is_shut-shut.result c.is_shut-shut.ensures.shut c.is_shut-shut.ensures.sound
-    Done c.hand_over.new.control.tables (is_in_line c.args.control.now c.args.node c.args.number c.requires.order c.requires.calls c.requires.response c.requires.order.buffers.responses c.in-Some.entry c.in-Some.ensures c.args.fails
-    (response_way c.in-Some.entry.client c.label-label.result.lane c.in-Some.entry.port)
-    (ap (λ (l : Label). response_way c.in-Some.entry.client l.lane c.in-Some.entry.port) c.label-label.ensures)
+    Done c.hand_over.new.control.tables (is_in_line c.args.control.now c.args.node c.args.number c.requires.order c.requires.calls c.requires.response c.requires.order.buffers.responses c.args.entry c.requires.entry c.args.fails
+    (response_way c.args.entry.client c.label-label.result.lane c.args.entry.port)
+    (ap (λ (l : Label). response_way c.args.entry.client l.lane c.args.entry.port) c.label-label.ensures)
     c.is_shut-shut.result c.is_shut-shut.ensures.shut c.is_shut-shut.ensures.sound
-    (sym c.is_awaited.ensures ∙ c.if-not-is_awaited.false) c.retrieve.new.control c.retrieve.ensures.order c.retrieve.ensures.left c.retrieve.ensures.fewer.same c.if-not-shut.true c.hand_over.new.control c.hand_over.ensures)
+    (sym c.is_awaited_under.ensures ∙ c.if-not-is_awaited_under.false) c.retrieve.new.control c.retrieve.ensures.order c.retrieve.ensures.left c.retrieve.ensures.fewer.same c.if-not-shut.true c.hand_over.new.control c.hand_over.ensures)
 
 pub returns-then-not-shut-clause-left : goal.returns-then-not-shut-clause-left
 returns-then-not-shut-clause-left c =
-    left_for c.args.control.now c.args.node c.args.number c.requires.order c.requires.calls c.requires.response c.requires.order.buffers.responses c.in-Some.entry c.in-Some.ensures c.args.fails
-    (response_way c.in-Some.entry.client c.label-label.result.lane c.in-Some.entry.port)
-    (ap (λ (l : Label). response_way c.in-Some.entry.client l.lane c.in-Some.entry.port) c.label-label.ensures)
+    left_for c.args.control.now c.args.node c.args.number c.requires.order c.requires.calls c.requires.response c.requires.order.buffers.responses c.args.entry c.requires.entry c.args.fails
+    (response_way c.args.entry.client c.label-label.result.lane c.args.entry.port)
+    (ap (λ (l : Label). response_way c.args.entry.client l.lane c.args.entry.port) c.label-label.ensures)
     c.is_shut-shut.result c.is_shut-shut.ensures.shut c.is_shut-shut.ensures.sound
-    Done c.hand_over.new.control.tables (is_in_line c.args.control.now c.args.node c.args.number c.requires.order c.requires.calls c.requires.response c.requires.order.buffers.responses c.in-Some.entry c.in-Some.ensures c.args.fails
-    (response_way c.in-Some.entry.client c.label-label.result.lane c.in-Some.entry.port)
-    (ap (λ (l : Label). response_way c.in-Some.entry.client l.lane c.in-Some.entry.port) c.label-label.ensures)
+    Done c.hand_over.new.control.tables (is_in_line c.args.control.now c.args.node c.args.number c.requires.order c.requires.calls c.requires.response c.requires.order.buffers.responses c.args.entry c.requires.entry c.args.fails
+    (response_way c.args.entry.client c.label-label.result.lane c.args.entry.port)
+    (ap (λ (l : Label). response_way c.args.entry.client l.lane c.args.entry.port) c.label-label.ensures)
     c.is_shut-shut.result c.is_shut-shut.ensures.shut c.is_shut-shut.ensures.sound
-    (sym c.is_awaited.ensures ∙ c.if-not-is_awaited.false) c.retrieve.new.control c.retrieve.ensures.order c.retrieve.ensures.left c.retrieve.ensures.fewer.same c.if-not-shut.true c.hand_over.new.control c.hand_over.ensures)
+    (sym c.is_awaited_under.ensures ∙ c.if-not-is_awaited_under.false) c.retrieve.new.control c.retrieve.ensures.order c.retrieve.ensures.left c.retrieve.ensures.fewer.same c.if-not-shut.true c.hand_over.new.control c.hand_over.ensures)
 
 pub returns-then-not-shut-clause-order : goal.returns-then-not-shut-clause-order
 returns-then-not-shut-clause-order c =
-    in_line_keeps c.args.control.now c.args.node c.args.number c.requires.order c.requires.calls c.requires.response c.requires.order.buffers.responses c.in-Some.entry c.in-Some.ensures c.args.fails
-    (response_way c.in-Some.entry.client c.label-label.result.lane c.in-Some.entry.port)
-    (ap (λ (l : Label). response_way c.in-Some.entry.client l.lane c.in-Some.entry.port) c.label-label.ensures)
+    in_line_keeps c.args.control.now c.args.node c.args.number c.requires.order c.requires.calls c.requires.response c.requires.order.buffers.responses c.args.entry c.requires.entry c.args.fails
+    (response_way c.args.entry.client c.label-label.result.lane c.args.entry.port)
+    (ap (λ (l : Label). response_way c.args.entry.client l.lane c.args.entry.port) c.label-label.ensures)
     c.is_shut-shut.result c.is_shut-shut.ensures.shut c.is_shut-shut.ensures.sound
-    (sym c.is_awaited.ensures ∙ c.if-not-is_awaited.false) c.retrieve.new.control c.retrieve.ensures.order c.retrieve.ensures.left c.retrieve.ensures.fewer.same c.if-not-shut.true c.hand_over.new.control c.hand_over.ensures
+    (sym c.is_awaited_under.ensures ∙ c.if-not-is_awaited_under.false) c.retrieve.new.control c.retrieve.ensures.order c.retrieve.ensures.left c.retrieve.ensures.fewer.same c.if-not-shut.true c.hand_over.new.control c.hand_over.ensures
 
 pub end_loan-requires-then-fails-clause-loan : goal.end_loan-requires-then-fails-clause-loan
 end_loan-requires-then-fails-clause-loan c =
-    loan_then c.args.control.now c.args.node c.args.number c.requires.order c.requires.calls c.requires.response c.requires.order.buffers.responses c.in-Some.entry c.in-Some.ensures c.args.fails
-    (response_way c.in-Some.entry.client c.label-label.result.lane c.in-Some.entry.port)
-    (ap (λ (l : Label). response_way c.in-Some.entry.client l.lane c.in-Some.entry.port) c.label-label.ensures)
+    loan_then c.args.control.now c.args.node c.args.number c.requires.order c.requires.calls c.requires.response c.requires.order.buffers.responses c.args.entry c.requires.entry c.args.fails
+    (response_way c.args.entry.client c.label-label.result.lane c.args.entry.port)
+    (ap (λ (l : Label). response_way c.args.entry.client l.lane c.args.entry.port) c.label-label.ensures)
     c.is_shut-shut.result c.is_shut-shut.ensures.shut c.is_shut-shut.ensures.sound
-    (sym c.is_awaited.ensures ∙ c.if-not-is_awaited.false) c.retrieve.new.control c.retrieve.ensures.order c.retrieve.ensures.left c.retrieve.ensures.fewer.same
+    (sym c.is_awaited_under.ensures ∙ c.if-not-is_awaited_under.false) c.retrieve.new.control c.retrieve.ensures.order c.retrieve.ensures.left c.retrieve.ensures.fewer.same
 
 pub returns-then-fails-clause-pools : goal.returns-then-fails-clause-pools
 returns-then-fails-clause-pools c =
-    (fails_to_send c.args.control.now c.args.node c.args.number c.requires.order c.requires.calls c.requires.response c.requires.order.buffers.responses c.in-Some.entry c.in-Some.ensures c.args.fails
-    (response_way c.in-Some.entry.client c.label-label.result.lane c.in-Some.entry.port)
-    (ap (λ (l : Label). response_way c.in-Some.entry.client l.lane c.in-Some.entry.port) c.label-label.ensures)
+    (fails_to_send c.args.control.now c.args.node c.args.number c.requires.order c.requires.calls c.requires.response c.requires.order.buffers.responses c.args.entry c.requires.entry c.args.fails
+    (response_way c.args.entry.client c.label-label.result.lane c.args.entry.port)
+    (ap (λ (l : Label). response_way c.args.entry.client l.lane c.args.entry.port) c.label-label.ensures)
     c.is_shut-shut.result c.is_shut-shut.ensures.shut c.is_shut-shut.ensures.sound
-    (sym c.is_awaited.ensures ∙ c.if-not-is_awaited.false) c.retrieve.new.control c.retrieve.ensures.order c.retrieve.ensures.left c.retrieve.ensures.fewer.same c.if-not-shut.false c.if-fails.true c.end_loan-then-fails.new.control
-    (c.end_loan-then-fails.ensures.ended _ (found_then c.args.control.now c.args.node c.args.number c.requires.order c.requires.calls c.requires.response c.requires.order.buffers.responses c.in-Some.entry c.in-Some.ensures c.args.fails
-    (response_way c.in-Some.entry.client c.label-label.result.lane c.in-Some.entry.port)
-    (ap (λ (l : Label). response_way c.in-Some.entry.client l.lane c.in-Some.entry.port) c.label-label.ensures)
+    (sym c.is_awaited_under.ensures ∙ c.if-not-is_awaited_under.false) c.retrieve.new.control c.retrieve.ensures.order c.retrieve.ensures.left c.retrieve.ensures.fewer.same c.if-not-shut.false c.if-fails.true c.end_loan-then-fails.new.control
+    (c.end_loan-then-fails.ensures.ended _ (found_then c.args.control.now c.args.node c.args.number c.requires.order c.requires.calls c.requires.response c.requires.order.buffers.responses c.args.entry c.requires.entry c.args.fails
+    (response_way c.args.entry.client c.label-label.result.lane c.args.entry.port)
+    (ap (λ (l : Label). response_way c.args.entry.client l.lane c.args.entry.port) c.label-label.ensures)
     c.is_shut-shut.result c.is_shut-shut.ensures.shut c.is_shut-shut.ensures.sound
     c.retrieve.new.control (ap (λ (d : ControlState). d.tables.handles) c.retrieve.ensures.left)))).same
 
 pub returns-then-fails-clause-whole : goal.returns-then-fails-clause-whole
 returns-then-fails-clause-whole c =
-    whole_for c.args.control.now c.args.node c.args.number c.requires.order c.requires.calls c.requires.response c.requires.order.buffers.responses c.in-Some.entry c.in-Some.ensures c.args.fails
-    (response_way c.in-Some.entry.client c.label-label.result.lane c.in-Some.entry.port)
-    (ap (λ (l : Label). response_way c.in-Some.entry.client l.lane c.in-Some.entry.port) c.label-label.ensures)
+    whole_for c.args.control.now c.args.node c.args.number c.requires.order c.requires.calls c.requires.response c.requires.order.buffers.responses c.args.entry c.requires.entry c.args.fails
+    (response_way c.args.entry.client c.label-label.result.lane c.args.entry.port)
+    (ap (λ (l : Label). response_way c.args.entry.client l.lane c.args.entry.port) c.label-label.ensures)
     c.is_shut-shut.result c.is_shut-shut.ensures.shut c.is_shut-shut.ensures.sound
-    Undelivered c.end_loan-then-fails.new.control.tables (fails_to_send c.args.control.now c.args.node c.args.number c.requires.order c.requires.calls c.requires.response c.requires.order.buffers.responses c.in-Some.entry c.in-Some.ensures c.args.fails
-    (response_way c.in-Some.entry.client c.label-label.result.lane c.in-Some.entry.port)
-    (ap (λ (l : Label). response_way c.in-Some.entry.client l.lane c.in-Some.entry.port) c.label-label.ensures)
+    Undelivered c.end_loan-then-fails.new.control.tables (fails_to_send c.args.control.now c.args.node c.args.number c.requires.order c.requires.calls c.requires.response c.requires.order.buffers.responses c.args.entry c.requires.entry c.args.fails
+    (response_way c.args.entry.client c.label-label.result.lane c.args.entry.port)
+    (ap (λ (l : Label). response_way c.args.entry.client l.lane c.args.entry.port) c.label-label.ensures)
     c.is_shut-shut.result c.is_shut-shut.ensures.shut c.is_shut-shut.ensures.sound
-    (sym c.is_awaited.ensures ∙ c.if-not-is_awaited.false) c.retrieve.new.control c.retrieve.ensures.order c.retrieve.ensures.left c.retrieve.ensures.fewer.same c.if-not-shut.false c.if-fails.true c.end_loan-then-fails.new.control
-    (c.end_loan-then-fails.ensures.ended _ (found_then c.args.control.now c.args.node c.args.number c.requires.order c.requires.calls c.requires.response c.requires.order.buffers.responses c.in-Some.entry c.in-Some.ensures c.args.fails
-    (response_way c.in-Some.entry.client c.label-label.result.lane c.in-Some.entry.port)
-    (ap (λ (l : Label). response_way c.in-Some.entry.client l.lane c.in-Some.entry.port) c.label-label.ensures)
+    (sym c.is_awaited_under.ensures ∙ c.if-not-is_awaited_under.false) c.retrieve.new.control c.retrieve.ensures.order c.retrieve.ensures.left c.retrieve.ensures.fewer.same c.if-not-shut.false c.if-fails.true c.end_loan-then-fails.new.control
+    (c.end_loan-then-fails.ensures.ended _ (found_then c.args.control.now c.args.node c.args.number c.requires.order c.requires.calls c.requires.response c.requires.order.buffers.responses c.args.entry c.requires.entry c.args.fails
+    (response_way c.args.entry.client c.label-label.result.lane c.args.entry.port)
+    (ap (λ (l : Label). response_way c.args.entry.client l.lane c.args.entry.port) c.label-label.ensures)
     c.is_shut-shut.result c.is_shut-shut.ensures.shut c.is_shut-shut.ensures.sound
     c.retrieve.new.control (ap (λ (d : ControlState). d.tables.handles) c.retrieve.ensures.left))))
 
 pub end_loan-requires-2-clause-loan : goal.end_loan-requires-2-clause-loan
 end_loan-requires-2-clause-loan c =
-    loan_counted c.args.control.now c.args.node c.args.number c.requires.order c.requires.calls c.requires.response c.requires.order.buffers.responses c.in-Some.entry c.in-Some.ensures c.args.fails
-    (response_way c.in-Some.entry.client c.label-label.result.lane c.in-Some.entry.port)
-    (ap (λ (l : Label). response_way c.in-Some.entry.client l.lane c.in-Some.entry.port) c.label-label.ensures)
+    loan_counted c.args.control.now c.args.node c.args.number c.requires.order c.requires.calls c.requires.response c.requires.order.buffers.responses c.args.entry c.requires.entry c.args.fails
+    (response_way c.args.entry.client c.label-label.result.lane c.args.entry.port)
+    (ap (λ (l : Label). response_way c.args.entry.client l.lane c.args.entry.port) c.label-label.ensures)
     c.is_shut-shut.result c.is_shut-shut.ensures.shut c.is_shut-shut.ensures.sound
-    c.retrieve.new.control c.count-2.new.control c.count-2.ensures.counted (loan_then c.args.control.now c.args.node c.args.number c.requires.order c.requires.calls c.requires.response c.requires.order.buffers.responses c.in-Some.entry c.in-Some.ensures c.args.fails
-    (response_way c.in-Some.entry.client c.label-label.result.lane c.in-Some.entry.port)
-    (ap (λ (l : Label). response_way c.in-Some.entry.client l.lane c.in-Some.entry.port) c.label-label.ensures)
+    c.retrieve.new.control c.count-2.new.control c.count-2.ensures.counted (loan_then c.args.control.now c.args.node c.args.number c.requires.order c.requires.calls c.requires.response c.requires.order.buffers.responses c.args.entry c.requires.entry c.args.fails
+    (response_way c.args.entry.client c.label-label.result.lane c.args.entry.port)
+    (ap (λ (l : Label). response_way c.args.entry.client l.lane c.args.entry.port) c.label-label.ensures)
     c.is_shut-shut.result c.is_shut-shut.ensures.shut c.is_shut-shut.ensures.sound
-    (sym c.is_awaited.ensures ∙ c.if-not-is_awaited.false) c.retrieve.new.control c.retrieve.ensures.order c.retrieve.ensures.left c.retrieve.ensures.fewer.same)
+    (sym c.is_awaited_under.ensures ∙ c.if-not-is_awaited_under.false) c.retrieve.new.control c.retrieve.ensures.order c.retrieve.ensures.left c.retrieve.ensures.fewer.same)
 
 pub returns-clause-pools : goal.returns-clause-pools
 returns-clause-pools c =
-    (goes_to_nobody c.args.control.now c.args.node c.args.number c.requires.order c.requires.calls c.requires.response c.requires.order.buffers.responses c.in-Some.entry c.in-Some.ensures c.args.fails
-    (response_way c.in-Some.entry.client c.label-label.result.lane c.in-Some.entry.port)
-    (ap (λ (l : Label). response_way c.in-Some.entry.client l.lane c.in-Some.entry.port) c.label-label.ensures)
+    (goes_to_nobody c.args.control.now c.args.node c.args.number c.requires.order c.requires.calls c.requires.response c.requires.order.buffers.responses c.args.entry c.requires.entry c.args.fails
+    (response_way c.args.entry.client c.label-label.result.lane c.args.entry.port)
+    (ap (λ (l : Label). response_way c.args.entry.client l.lane c.args.entry.port) c.label-label.ensures)
     c.is_shut-shut.result c.is_shut-shut.ensures.shut c.is_shut-shut.ensures.sound
-    (sym c.is_awaited.ensures ∙ c.if-not-is_awaited.false) c.retrieve.new.control c.retrieve.ensures.order c.retrieve.ensures.left c.retrieve.ensures.fewer.same c.if-not-shut.false c.if-fails.false c.count-2.new.control c.end_loan-2.new.control c.count-2.ensures.counted
-    (c.end_loan-2.ensures.ended _ (found_then c.args.control.now c.args.node c.args.number c.requires.order c.requires.calls c.requires.response c.requires.order.buffers.responses c.in-Some.entry c.in-Some.ensures c.args.fails
-    (response_way c.in-Some.entry.client c.label-label.result.lane c.in-Some.entry.port)
-    (ap (λ (l : Label). response_way c.in-Some.entry.client l.lane c.in-Some.entry.port) c.label-label.ensures)
+    (sym c.is_awaited_under.ensures ∙ c.if-not-is_awaited_under.false) c.retrieve.new.control c.retrieve.ensures.order c.retrieve.ensures.left c.retrieve.ensures.fewer.same c.if-not-shut.false c.if-fails.false c.count-2.new.control c.end_loan-2.new.control c.count-2.ensures.counted
+    (c.end_loan-2.ensures.ended _ (found_then c.args.control.now c.args.node c.args.number c.requires.order c.requires.calls c.requires.response c.requires.order.buffers.responses c.args.entry c.requires.entry c.args.fails
+    (response_way c.args.entry.client c.label-label.result.lane c.args.entry.port)
+    (ap (λ (l : Label). response_way c.args.entry.client l.lane c.args.entry.port) c.label-label.ensures)
     c.is_shut-shut.result c.is_shut-shut.ensures.shut c.is_shut-shut.ensures.sound
     c.count-2.new.control (ap (λ (d : ControlState). d.tables.handles) c.count-2.ensures.counted ∙ ap (λ (d : ControlState). d.tables.handles) c.retrieve.ensures.left)))).same
 
 pub returns-clause-whole : goal.returns-clause-whole
 returns-clause-whole c =
-    whole_for c.args.control.now c.args.node c.args.number c.requires.order c.requires.calls c.requires.response c.requires.order.buffers.responses c.in-Some.entry c.in-Some.ensures c.args.fails
-    (response_way c.in-Some.entry.client c.label-label.result.lane c.in-Some.entry.port)
-    (ap (λ (l : Label). response_way c.in-Some.entry.client l.lane c.in-Some.entry.port) c.label-label.ensures)
+    whole_for c.args.control.now c.args.node c.args.number c.requires.order c.requires.calls c.requires.response c.requires.order.buffers.responses c.args.entry c.requires.entry c.args.fails
+    (response_way c.args.entry.client c.label-label.result.lane c.args.entry.port)
+    (ap (λ (l : Label). response_way c.args.entry.client l.lane c.args.entry.port) c.label-label.ensures)
     c.is_shut-shut.result c.is_shut-shut.ensures.shut c.is_shut-shut.ensures.sound
-    Done c.end_loan-2.new.control.tables (goes_to_nobody c.args.control.now c.args.node c.args.number c.requires.order c.requires.calls c.requires.response c.requires.order.buffers.responses c.in-Some.entry c.in-Some.ensures c.args.fails
-    (response_way c.in-Some.entry.client c.label-label.result.lane c.in-Some.entry.port)
-    (ap (λ (l : Label). response_way c.in-Some.entry.client l.lane c.in-Some.entry.port) c.label-label.ensures)
+    Done c.end_loan-2.new.control.tables (goes_to_nobody c.args.control.now c.args.node c.args.number c.requires.order c.requires.calls c.requires.response c.requires.order.buffers.responses c.args.entry c.requires.entry c.args.fails
+    (response_way c.args.entry.client c.label-label.result.lane c.args.entry.port)
+    (ap (λ (l : Label). response_way c.args.entry.client l.lane c.args.entry.port) c.label-label.ensures)
     c.is_shut-shut.result c.is_shut-shut.ensures.shut c.is_shut-shut.ensures.sound
-    (sym c.is_awaited.ensures ∙ c.if-not-is_awaited.false) c.retrieve.new.control c.retrieve.ensures.order c.retrieve.ensures.left c.retrieve.ensures.fewer.same c.if-not-shut.false c.if-fails.false c.count-2.new.control c.end_loan-2.new.control c.count-2.ensures.counted
-    (c.end_loan-2.ensures.ended _ (found_then c.args.control.now c.args.node c.args.number c.requires.order c.requires.calls c.requires.response c.requires.order.buffers.responses c.in-Some.entry c.in-Some.ensures c.args.fails
-    (response_way c.in-Some.entry.client c.label-label.result.lane c.in-Some.entry.port)
-    (ap (λ (l : Label). response_way c.in-Some.entry.client l.lane c.in-Some.entry.port) c.label-label.ensures)
+    (sym c.is_awaited_under.ensures ∙ c.if-not-is_awaited_under.false) c.retrieve.new.control c.retrieve.ensures.order c.retrieve.ensures.left c.retrieve.ensures.fewer.same c.if-not-shut.false c.if-fails.false c.count-2.new.control c.end_loan-2.new.control c.count-2.ensures.counted
+    (c.end_loan-2.ensures.ended _ (found_then c.args.control.now c.args.node c.args.number c.requires.order c.requires.calls c.requires.response c.requires.order.buffers.responses c.args.entry c.requires.entry c.args.fails
+    (response_way c.args.entry.client c.label-label.result.lane c.args.entry.port)
+    (ap (λ (l : Label). response_way c.args.entry.client l.lane c.args.entry.port) c.label-label.ensures)
     c.is_shut-shut.result c.is_shut-shut.ensures.shut c.is_shut-shut.ensures.sound
     c.count-2.new.control (ap (λ (d : ControlState). d.tables.handles) c.count-2.ensures.counted ∙ ap (λ (d : ControlState). d.tables.handles) c.retrieve.ensures.left))))

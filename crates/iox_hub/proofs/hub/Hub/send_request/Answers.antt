@@ -1,25 +1,17 @@
-use Rattle.std.specs.Prelude.{Bool}
 use Rattle.std.proofs.Common.{ap, subst, sym, ◌∙◌}
 use Rattle.std.proofs.lemmas.Option.{same_Some}
 use Rattle.iox_model.specs.declared.call.Call.TheVariants.{Send}
-use Rattle.iox_model.specs.declared.way.Way.{Way}
-use Rattle.iox_tables.specs.HubStates.Tables.{HandleState}
 use Rattle.iox_control.specs.Entries.{handle_state}
-use Rattle.iox_control_request_copies.specs.Sendings.{reply_of_send, request_outcome}
+use Rattle.iox_control_request_copies.specs.Sendings.{reply_of_send}
 use Rattle.iox_control_releasing.specs.Goings.{StaysTidy}
 use Rattle.iox_hub.specs.Hubs.{HubState}
 use Rattle.iox_hub.proofs.Named.{found_is_handle}
 use Rattle.iox_hub.proofs.SendingFits.{fits_request_sent}
-use Rattle.iox_hub.proofs.SendingHubs.{given_of, hub_goes_on_as, loan_is_request, port_is_there, request_of_hub, sent_is_pending, whole_then}
-use Rattle.iox_hub.proofs.Handling.{as_told, fails_as_told, hub_of}
+use Rattle.iox_hub.proofs.SendingHubs.{given_of, hub_goes_on_as, loan_is_request, request_of_hub, sent_is_pending, whole_then}
+use Rattle.iox_hub.proofs.Overflowing.{outcome_as, requests_fail, requests_said}
 use Rattle.iox_hub.specs.Keeping.{IsOther}
 use Rattle.iox_hub.proofs.KeepingCalls.{left_keeps, request_sent_keeps}
 use Rattle.iox_hub.proofs.hub.Hub.send_request.Goals as goal
-
-pub unreachable-requires-in_default-find : goal.unreachable-requires-in_default-find
-unreachable-requires-in_default-find g c =
-    port_is_there c.self.inside.control.tables c.self.invariant.control.order c.args.node c.args.number (handle_state c.in-Some.entry) c.in-Some.ensures
-    c.ports.result.now.ports c.ports.ensures.ports c.find.result c.find.ensures c.in_default-find.is
 
 pub send_request-requested-requires-clause-request : goal.send_request-requested-requires-clause-request
 send_request-requested-requires-clause-request g c = request_of_hub c.self.invariant c.args.self.now c.self.view_is c.args.node c.args.number c.requires.has
@@ -34,23 +26,23 @@ invariant_of-self g c =
     (request_of_hub c.self.invariant c.args.self.now c.self.view_is c.args.node c.args.number c.requires.has) c.in-Some.ensures)
     c.send_request-requested.result (c.send_request-requested.ensures.left (handle_state c.in-Some.entry) (sym c.in-Some.ensures)))
     (λ x. c.send_request-requested.ensures.whole (handle_state c.in-Some.entry) (sym c.in-Some.ensures) (given_of c.self.invariant x)
-    (fails_as_told (hub_of c.self.invariant) c.ports.result.now.ports c.ports.ensures.ports c.in-Some.entry.port c.find.result c.find.ensures c.in-Some-find.port c.in-Some-find.is _ c.find-handler.ensures x))
+    (λ off. requests_fail c.self.invariant (handle_state c.in-Some.entry) _ c.asked_of_client-by.result.strategy (c.asked_of_client-by.ensures.handler off) (c.asked_of_client-by.ensures.strategy off) x c.args.node c.args.number (sym c.in-Some.ensures)))
 
 pub returns-clause-reply : goal.returns-clause-reply
 returns-clause-reply g c =
     rw (← c.self.view_is)
     (λ h there p at.
     c.send_request-requested.ensures.reply h there
-    ∙ ap (λ (f : Way → Bool). request_outcome f c.self.inside.control.tables h)
-    (as_told (hub_of c.self.invariant) c.ports.result.now.ports c.ports.ensures.ports c.in-Some.entry.port c.find.result c.find.ensures c.in-Some-find.port c.in-Some-find.is _ c.find-handler.ensures
-    p h.port (ap (λ (k : HandleState). k.port) (sym (same_Some (handle_state c.in-Some.entry) h (c.in-Some.ensures ∙ there)))) at))
+    ∙ outcome_as c.self.inside.control.tables h _ _
+    (λ off. requests_said c.self.invariant (handle_state c.in-Some.entry) _ c.asked_of_client-by.result.strategy (c.asked_of_client-by.ensures.handler off) (c.asked_of_client-by.ensures.strategy off) h
+    (same_Some (handle_state c.in-Some.entry) h (c.in-Some.ensures ∙ there)) p at))
 
 pub returns-clause-whole : goal.returns-clause-whole
 returns-clause-whole g c =
     rw (← c.self.view_is)
     (λ x. whole_then c.self.invariant c.send_request-requested.new.control c.drop_words.new.self c.args.node (Send c.args.number) (reply_of_send c.send_request-requested.result) x
     (c.send_request-requested.ensures.whole (handle_state c.in-Some.entry) (sym c.in-Some.ensures) (given_of c.self.invariant x)
-    (fails_as_told (hub_of c.self.invariant) c.ports.result.now.ports c.ports.ensures.ports c.in-Some.entry.port c.find.result c.find.ensures c.in-Some-find.port c.in-Some-find.is _ c.find-handler.ensures x))
+    (λ off. requests_fail c.self.invariant (handle_state c.in-Some.entry) _ c.asked_of_client-by.result.strategy (c.asked_of_client-by.ensures.handler off) (c.asked_of_client-by.ensures.strategy off) x c.args.node c.args.number (sym c.in-Some.ensures)))
     (c.drop_words.ensures.shown x))
 
 pub returns-clause-has : goal.returns-clause-has

@@ -2,13 +2,14 @@ use Rattle.std.proofs.Common.{ap, subst, sym, ◌∙◌}
 use Rattle.std.proofs.lemmas.Option.{same_Some}
 use Rattle.iox_model.specs.declared.call.Call.TheVariants.{Send}
 use Rattle.iox_control.specs.Entries.{handle_state}
-use Rattle.iox_control_request_copies.specs.Responses.{reply_of_send, response_reply}
+use Rattle.iox_control_request_copies.specs.Responses.{reply_of_send}
 use Rattle.iox_control_releasing.specs.Goings.{StaysTidy}
 use Rattle.iox_hub.specs.Hubs.{HubState}
 use Rattle.iox_hub.proofs.Named.{found_is_handle}
 use Rattle.iox_hub.proofs.SendingFits.{fits_response_sent}
 use Rattle.iox_hub.proofs.SendingHubs.{given_of, hub_goes_on_as, response_is_gone, whole_then}
 use Rattle.iox_hub.proofs.Handling.{response_fails, response_said}
+use Rattle.iox_hub.proofs.Overflowing.{reply_as}
 use Rattle.iox_hub.specs.Keeping.{IsOther}
 use Rattle.iox_hub.proofs.KeepingCalls.{left_keeps, response_sent_keeps}
 use Rattle.iox_hub.proofs.hub.Hub.send_response.Goals as goal
@@ -18,10 +19,10 @@ invariant_of-self g c =
     hub_goes_on_as _ c.send_response-responded.new.control c.args.node (Send c.args.number) (reply_of_send c.send_response-responded.result)
     c.self.invariant c.send_response-responded.ensures.order
     (fits_response_sent _ c.self.inside.control.tables c.send_response-responded.new.control.tables c.self.invariant.words c.self.invariant.control.order c.send_response-responded.ensures.pools
-    c.args.node c.args.number (handle_state c.in-Some.entry) c.fails_at_client-fails.result
+    c.args.node c.args.number (handle_state c.in-Some.entry) c.fails_without_overflow-fails.result
     (c.send_response-responded.ensures.left (handle_state c.in-Some.entry) (sym c.in-Some.ensures)))
     (λ x. c.send_response-responded.ensures.whole (handle_state c.in-Some.entry) (sym c.in-Some.ensures) (given_of c.self.invariant x)
-    (response_fails c.self.invariant (handle_state c.in-Some.entry) c.fails_at_client-fails.result c.fails_at_client-fails.ensures x c.args.node c.args.number
+    (λ off. response_fails c.self.invariant (handle_state c.in-Some.entry) c.fails_without_overflow-fails.result (c.fails_without_overflow-fails.ensures off) x c.args.node c.args.number
     (sym c.in-Some.ensures)))
 
 pub returns-clause-reply : goal.returns-clause-reply
@@ -29,15 +30,15 @@ returns-clause-reply g c =
     rw (← c.self.view_is)
     (λ h there p at.
     c.send_response-responded.ensures.reply h there
-    ∙ ap (response_reply c.self.inside.control.tables h)
-    (response_said c.self.invariant (handle_state c.in-Some.entry) c.fails_at_client-fails.result c.fails_at_client-fails.ensures h (same_Some (handle_state c.in-Some.entry) h (c.in-Some.ensures ∙ there)) p at))
+    ∙ reply_as c.self.inside.control.tables h c.fails_without_overflow-fails.result _
+    (λ off. response_said c.self.invariant (handle_state c.in-Some.entry) c.fails_without_overflow-fails.result (c.fails_without_overflow-fails.ensures off) h (same_Some (handle_state c.in-Some.entry) h (c.in-Some.ensures ∙ there)) p at))
 
 pub returns-clause-whole : goal.returns-clause-whole
 returns-clause-whole g c =
     rw (← c.self.view_is)
     (λ x. whole_then c.self.invariant c.send_response-responded.new.control c.drop_words.new.self c.args.node (Send c.args.number) (reply_of_send c.send_response-responded.result) x
     (c.send_response-responded.ensures.whole (handle_state c.in-Some.entry) (sym c.in-Some.ensures) (given_of c.self.invariant x)
-    (response_fails c.self.invariant (handle_state c.in-Some.entry) c.fails_at_client-fails.result c.fails_at_client-fails.ensures x c.args.node c.args.number
+    (λ off. response_fails c.self.invariant (handle_state c.in-Some.entry) c.fails_without_overflow-fails.result (c.fails_without_overflow-fails.ensures off) x c.args.node c.args.number
     (sym c.in-Some.ensures)))
     (c.drop_words.ensures.shown x))
 
@@ -45,7 +46,7 @@ pub returns-clause-gone : goal.returns-clause-gone
 returns-clause-gone g c =
     response_is_gone c.self.inside.control.tables c.send_response-responded.new.control.tables c.args.node c.args.number (handle_state c.in-Some.entry)
     (found_is_handle c.self.inside.control.tables c.self.invariant.control.order c.args.node c.args.number (handle_state c.in-Some.entry) (sym c.in-Some.ensures))
-    c.drop_words.new.self (ap (λ (d : HubState). d.control.tables) c.drop_words.ensures.left) c.fails_at_client-fails.result
+    c.drop_words.new.self (ap (λ (d : HubState). d.control.tables) c.drop_words.ensures.left) c.fails_without_overflow-fails.result
     (c.send_response-responded.ensures.left (handle_state c.in-Some.entry) (sym c.in-Some.ensures))
 
 pub returns-clause-keeps : goal.returns-clause-keeps
@@ -53,7 +54,7 @@ returns-clause-keeps g c =
     rw (← c.self.view_is)
     (left_keeps (IsOther c.args.node c.args.number) _ _ c.drop_words.new.self c.send_response-responded.ensures.order.order c.in-Some.entry.pool c.drop_words.ensures.left
     (response_sent_keeps c.self.invariant c.send_response-responded.new.control c.send_response-responded.ensures.order c.args.node c.args.number
-    (handle_state c.in-Some.entry) c.fails_at_client-fails.result
+    (handle_state c.in-Some.entry) c.fails_without_overflow-fails.result
     (c.send_response-responded.ensures.left (handle_state c.in-Some.entry) (sym c.in-Some.ensures))))
 
 pub returns-clause-tidy : goal.returns-clause-tidy
