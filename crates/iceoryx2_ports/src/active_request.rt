@@ -171,6 +171,7 @@ impl<Q: Payload, QH: Words, P: Payload, PH: Words> ActiveRequest<Q, QH, P, PH> {
     }
 
     /// Gives it up. Where the hub no longer has it, nothing changes.
+    #[inline(always)]
     pub fn release<H: Backpressure>(self, hub: &mut Hub<Q, QH, P, PH, H>)
         ensures released { IsReleased hub.old self.node self.number kinds.ActiveRequest hub.new }
         ensures idle { GivesBack hub.old self.node self.number kinds.ActiveRequest hub.new }

@@ -208,6 +208,7 @@ impl<Q: Payload, QH: Words, P: Payload, PH: Words> PendingResponse<Q, QH, P, PH>
     }
 
     /// Gives it up. Where the hub no longer has it, nothing changes.
+    #[inline(always)]
     pub fn release<H: Backpressure>(self, hub: &mut Hub<Q, QH, P, PH, H>)
         ensures { IsReleased hub.old self.node self.number kinds.PendingResponse hub.new }
     {

@@ -12,6 +12,7 @@ use iox_store::Payload;
 use iox_words::Words;
 
 /// Releases the node's handle of that number and kind, if it has one.
+#[inline(always)]
 pub(crate) fn release_handle<Q: Payload, QH: Words, P: Payload, PH: Words, H: Backpressure>(
     hub: &mut Hub<Q, QH, P, PH, H>,
     node: u64,

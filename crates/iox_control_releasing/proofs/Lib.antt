@@ -13,3 +13,4 @@ pub mod Tidy
 pub mod Sweeping
 pub mod Loans
 pub mod Removing
+pub mod StillThere

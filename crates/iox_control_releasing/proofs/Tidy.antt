@@ -1,9 +1,7 @@
 -- No pool is left that was not left before.
-use Rattle.std.specs.Prelude.{◌≡◌, ℕ, zero, suc, Bool, true, false, ◌&&◌, ◌==◌, List, [], ◌∷◌, ◌+◌, ◌<◌, ◌≤◌, length, Option, Some, None, slice_get, refl}
+use Rattle.std.specs.Prelude.{◌≡◌, ℕ, suc, Bool, true, false, ◌&&◌, ◌==◌, List, [], ◌∷◌, Some, refl}
 use Rattle.std.specs.List.{list_all}
-use Rattle.std.specs.Option.{option_map_or}
-use Rattle.std.proofs.Common.{sym, ap, ap₂, subst, ◌∙◌, arith, true≢false, eq-eqb, eqb-true}
-use Rattle.std.proofs.lemmas.Option.{none-some}
+use Rattle.std.proofs.Common.{sym, ap, ap₂, subst, ◌∙◌, true≢false, eq-eqb, eqb-true}
 use Rattle.iox_model.specs.declared.kind.Kind.{Kind}
 use Rattle.iox_model.specs.declared.kind.Kind.TheVariants as kinds
 use Rattle.iox_model.specs.Messages.{closed_for}
@@ -50,7 +48,7 @@ none_more t u place kept left had none q at idle =
 
 -- ---- a handle ends
 
-up_alike : (t : HubTables) (h : HandleState) (k : Kind) → AreAlike t.ports (given_up_as k t h).ports
+pub up_alike : (t : HubTables) (h : HandleState) (k : Kind) → AreAlike t.ports (given_up_as k t h).ports
 up_alike t h kinds.PendingResponse = states_on_bare (λ r. closed_for r (request_of t h)) t.ports (pending_states t h)
 up_alike t h kinds.ActiveRequest =
     states_on_bare (λ r. closed_for r (request_of t h)) (with_lane_on (λ l. released l h.slot) t.ports (way_in t.pools h)) (way_to_client t h ∷ [])

@@ -1,6 +1,6 @@
 -- When a pool goes, and what is left of pools.
-use Rattle.std.specs.Prelude.{◌≡◌, ℕ, true, not, ◌&&◌, if◌then◌else◌, List, Option, Some}
-use Rattle.iox_tables.specs.HubStates.Tables.{HubTables, PoolState, owner_of, pool_at}
+use Rattle.std.specs.Prelude.{◌≡◌, ℕ, true, not, ◌&&◌, if◌then◌else◌, List, Option, Some, is_some}
+use Rattle.iox_tables.specs.HubStates.Tables.{HandleState, HubTables, PoolState, PortState, owner_of, pool_at, port_in}
 use Rattle.iox_tables.specs.HubStates.Steps.{is_there}
 use Rattle.iox_tables.specs.HubBooks.Keeps.{bare_pool}
 use Rattle.iox_slots.specs.Pools.{is_idle, without_pool}
@@ -16,6 +16,14 @@ abbrev pub KeptPools : List (Option PoolState) → List (Option PoolState) → T
 KeptPools old new =
     (place : ℕ) → (q : PoolState) → pool_at new place ≡ Some q
     → (p : PoolState) × (pool_at old place ≡ Some p) × (bare_pool p ≡ bare_pool q)
+
+-- The pool of the handle's message is there, and that of its port.
+pub record ArePoolsThere (ports : List PortState) (pools : List (Option PoolState)) (h : HandleState)
+    : Type 0
+  where
+    pub message : is_some (pool_at pools h.pool) ≡ true
+    pub port :
+        (p : PortState) → port_in ports h.port ≡ Some p → is_some (pool_at pools p.pool) ≡ true
 
 -- The pool in this place, if there is one, is of a connected port, or somebody has a message of it.
 abbrev pub NoLeftPool : HubTables → ℕ → Type 0

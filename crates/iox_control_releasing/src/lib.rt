@@ -4,6 +4,7 @@
 mod cutting;
 mod disconnect;
 mod handle;
+mod leaving;
 mod letting_go;
 mod port_value;
 mod unused;

@@ -6,6 +6,7 @@ ghost use Rattle.iox_control.specs.Controls.{IsControl};
 use iox_control::Control;
 
 /// Whether the port's own value and all its handles are released.
+#[inline(always)]
 pub fn is_unused(control: &mut Control, port: u64) -> bool
     requires order { IsControl control.old }
     ensures told { result ≡ is_unused control.old.tables port }

@@ -19,7 +19,10 @@ pub fn releases_and_looks_again(control: &mut Control, node: u64, number: u64, p
     requires order { IsControl control.old }
     ensures { IsControl control.new }
 {
-    release(control, node, number, 0);
+    let Some(entry) = control.entry(node, number, 0) else {
+        unreachable!();
+    };
+    release(control, node, number, entry, 0);
     disconnect_if_unused(control, port);
 }
 
@@ -40,6 +43,9 @@ pub fn releases_and_is_tidy(control: &mut Control, node: u64, number: u64, port:
     requires tidy { IsTidy control.old.tables }
     ensures { IsTidy control.new.tables }
 {
-    release(control, node, number, 0);
+    let Some(entry) = control.entry(node, number, 0) else {
+        unreachable!();
+    };
+    release(control, node, number, entry, 0);
     disconnect_if_unused(control, port);
 }

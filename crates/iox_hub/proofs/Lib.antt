@@ -23,6 +23,7 @@ pub mod ReleasingWords
 pub mod SendingFits
 pub mod SendingNames
 pub mod SendingHubs
+pub mod ReleasingHubs
 pub mod Handling
 pub mod Overflowing
 pub mod LendingWords

@@ -14,8 +14,9 @@ use Rattle.iox_tables.proofs.HubBooks.Going.{each_both}
 use Rattle.iox_tables.proofs.HubBooks.Held.{each_handle_from}
 use Rattle.iox_tables.specs.HubKeeping.Connected.{IsFreePlace}
 use Rattle.iox_tables.proofs.HubKeeping.Ordered.{each_used, empty_free, nobody_has, used_else}
+use Rattle.iox_control.specs.Controls.{ControlState}
 use Rattle.iox_hub.specs.Fits.{SuitsHandle, WordsFit, count_in}
-use Rattle.iox_hub.specs.Hubs.{HubState, IsHub, given_by, many_in, state_of_hub}
+use Rattle.iox_hub.specs.Hubs.{HubState, IsHub, given_by, many_in, state_of_hub, with_control}
 use Rattle.iox_hub.specs.Sending.{with_words_left}
 use Rattle.iox_hub.specs.Words.{Carried, stored_in}
 
@@ -141,3 +142,24 @@ module _ {B : Type 0} (f : PoolState → B) {h : HubState} (hub : IsHub h) (ps :
 
   pub drop_shows : (x : Given) → state_of_hub x h ≡ state_of_hub x (record h { words = words })
   drop_shows x = shows_less h place hub.control.order gone x ∙ ap (λ ws. state_of_hub x (record h { words = ws })) (sym is)
+
+-- ---- the words beside two pools
+
+-- where the pool is there, its words stay
+one_stays : (h : HubState) (a : ℕ) → is_some (pool_at h.control.tables.pools a) ≡ true → h ≡ with_words_left h a
+one_stays h a there = sym (ap (λ (b : Bool). record h { words = if b then h.words else slice_set h.words a None }) there)
+
+pub both_stay : (h : HubState) (a b : ℕ) → is_some (pool_at h.control.tables.pools a) ≡ true → is_some (pool_at h.control.tables.pools b) ≡ true
+    → h ≡ with_words_left (with_words_left h a) b
+both_stay h a b first second = one_stays h b second ∙ ap (λ (d : HubState). with_words_left d b) (one_stays h a first)
+
+-- where they may be gone, code asks for one after the other
+pub both_left : {h : HubState} → IsHub h → (c : ControlState) (mid new : HubState) (a k b : ℕ) → mid ≡ with_words_left (with_control h c) a → new ≡ with_words_left mid k → k ≡ b
+    → new ≡ with_words_left (with_words_left (with_control h new.control) a) b
+both_left {h} hub c mid new a k b first next same =
+    all ∙ ap (λ d. with_words_left (with_words_left (with_control h d) a) b) (sym (ap (λ (d : HubState). d.control) all))
+  where
+    all : new ≡ with_words_left (with_words_left (with_control h c) a) b
+    all =
+        next ∙ ap (λ (d : HubState). with_words_left d k) first
+        ∙ ap (λ n. with_words_left (with_words_left (with_control h c) a) n) same

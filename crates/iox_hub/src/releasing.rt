@@ -66,6 +66,7 @@ impl<Q: Payload, QH: Words, P: Payload, PH: Words, H: Backpressure> Hub<Q, QH, P
     /// Releases the node's handle of that number, which is this one, and is looked for at the hint
     /// first. Its port goes if nothing of it is left, and pools go of which nobody has a message,
     /// with their words.
+    #[inline(always)]
     fn release_entry(&mut self, node: u64, number: u64, entry: Entry, hint: usize)
         requires there { Some (handle_state entry)
             ≡ handle_in self.old.control.tables.handles node number }
@@ -78,12 +79,13 @@ impl<Q: Payload, QH: Words, P: Payload, PH: Words, H: Backpressure> Hub<Q, QH, P
         ensures keeps { KeepsOthers self.old node number self.new }
         ensures tidy { StaysTidy self.old.control.tables self.new.control.tables }
     {
-        let Some(port) = self.control.ports().find(entry.port) else {
-            unreachable!();
-        };
-        iox_control_releasing::release(&mut self.control, node, number, hint);
-        self.drop_words(entry.pool);
-        self.drop_words(port.pool);
+        match iox_control_releasing::release(&mut self.control, node, number, entry, hint) {
+            None => {}
+            Some(place) => {
+                self.drop_words(entry.pool);
+                self.drop_words(place);
+            }
+        }
     }
 
     /// Releases the node's handle of that number, which is looked for at the hint first. Its port
@@ -110,6 +112,7 @@ impl<Q: Payload, QH: Words, P: Payload, PH: Words, H: Backpressure> Hub<Q, QH, P
     /// The same where the node still has what a handle of that kind stands for: the handle, or the
     /// loan that a command filled meanwhile. It says whether it has it. Where it has not, nothing
     /// changes.
+    #[inline(always)]
     pub fn release_if(&mut self, node: u64, number: u64, kind: Kind, hint: usize) -> bool
         requires { is_handle kind ≡ true }
         ensures told { IsTrue result ↔ StillHas self.old node number kind }
