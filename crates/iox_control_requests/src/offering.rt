@@ -43,7 +43,7 @@ pub fn offer_request<B: WhenFull>(
     ensures order { IsControl control.new }
     ensures whole { (h : HandleState) → handle_in control.old.tables.handles node number ≡ Some h
         → (x : Given) → (control.old.tables.settings.request_overflow ≡ false
-            → AreFailures x control.old.tables h (B.fails backpressure.now))
+        → AreFailures x control.old.tables h (B.fails backpressure.now))
         → (t : HubTables)
         → state_shown x (with_lost_released result control.new.tables h.port) ≡ state_shown x t
         → IsWholeCall (state_shown x control.old.tables) node (Send number)

@@ -45,7 +45,7 @@ pub fn send_request<B: WhenFull>(
     ensures tidy { StaysTidy control.old.tables control.new.tables }
     ensures whole { (h : HandleState) → handle_in control.old.tables.handles node number ≡ Some h
         → (x : Given) → (control.old.tables.settings.request_overflow ≡ false
-            → AreFailures x control.old.tables h (B.fails backpressure.now))
+        → AreFailures x control.old.tables h (B.fails backpressure.now))
         → IsWholeCall (state_shown x control.old.tables) node (Send number)
         (reply_of_send result) (state_shown x control.new.tables) }
 {

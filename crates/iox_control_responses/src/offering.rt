@@ -60,7 +60,7 @@ pub fn offer_response(
     ensures order { IsControl control.new }
     ensures whole { (h : HandleState) → handle_in control.old.tables.handles node number ≡ Some h
         → (x : Given) → (control.old.tables.settings.response_overflow ≡ false
-            → IsFailure x control.old.tables h fails) → (t : HubTables)
+        → IsFailure x control.old.tables h fails) → (t : HubTables)
         → state_shown x (with_released control.new.tables h.port) ≡ state_shown x t
         → IsWholeCall (state_shown x control.old.tables) node (Send number)
         (reply_of_send result) (state_shown x t) }

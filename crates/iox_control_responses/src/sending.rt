@@ -48,7 +48,7 @@ pub fn send_response(
     ensures tidy { StaysTidy control.old.tables control.new.tables }
     ensures whole { (h : HandleState) → handle_in control.old.tables.handles node number ≡ Some h
         → (x : Given) → (control.old.tables.settings.response_overflow ≡ false
-            → IsFailure x control.old.tables h fails)
+        → IsFailure x control.old.tables h fails)
         → IsWholeCall (state_shown x control.old.tables) node (Send number)
         (reply_of_send result) (state_shown x control.new.tables) }
 {
