@@ -7,7 +7,7 @@ use Rattle.iox_handles.specs.declared.entry.Entry.{Entry}
 use Rattle.iox_handles.specs.Tables.{Contents, IsSound, changed, handle_at, handle_of, has_that, of_kind, with_kind}
 use Rattle.iox_model.specs.declared.kind.Kind.{Kind}
 use Rattle.iox_hub_ports.specs.HubStates.Ends.{with_changed}
-use Rattle.iox_hub_ports.specs.HubStates.Tables.{HandleState, PoolState}
+use Rattle.iox_hub_ports.specs.HubStates.Tables.{PoolState}
 use Rattle.iox_hub_ports.specs.HubStates.Wirings.{handle_in}
 use Rattle.iox_hub_ports.specs.Ports.{PortsState}
 use Rattle.iox_control.specs.declared.settings.Settings.{Settings}

@@ -1,9 +1,9 @@
 -- Handles are counted by groups of kinds and by remainders of ports' numbers.
 use Rattle.std.specs.Prelude.{◌≡◌, IfSome, replicate, ℕ, zero, suc, ◌+◌, ◌-◌, ◌<◌, ◌≤◌, ◌^◌, ◌%◌, ◌*◌, Bool, true, false, ◌&&◌, ◌||◌, ◌==◌, List, [], ◌∷◌, ◌++◌, length, filter, Option, Some, None, cond, count_by, if◌then◌else◌, slice_get, slice_set, slice_index_or, refl}
-use Rattle.std.proofs.Common.{sym, ap, ap₂, subst, ◌∙◌, arith, length-append, true≢false, eqb-true, eq-eqb, zero-add}
+use Rattle.std.proofs.Common.{sym, ap, ap₂, subst, ◌∙◌, arith, true≢false, eqb-true, eq-eqb, zero-add}
 use Rattle.std.proofs.lemmas.List.{get_or-set_other, get_or-set_same, length-set}
 use Rattle.std.proofs.lemmas.List.Sums.{sum_by-append, sum_by-set, count_by-le-length}
-use Rattle.iox_model.specs.Handles.{is_request_loan, is_response_loan, kind_code, same_kind}
+use Rattle.iox_model.specs.Handles.{kind_code, same_kind}
 use Rattle.iox_handles.proofs.CountLemmas.{passing-places}
 use Rattle.std.proofs.lemmas.Option.{none-some, get_or_from_slice_get, slice_get_within}
 use Rattle.iox_model.specs.declared.kind.Kind.{Kind}
