@@ -33,9 +33,9 @@ class Tree:
         path = self.crates[crate] / "src" / ("/".join(parts) + ".rt")
         return self.text(path) if parts else self.text(self.crates[crate] / "src" / "lib.rt")
 
-    def passed(self, crate, name):
-        """What a crate passes on under this name in its specs."""
-        lib = self.text(self.crates[crate] / "specs" / "Lib.antt") or ""
+    def passed(self, crate, part, name):
+        """What a crate passes on under this name in its specs or its proofs."""
+        lib = self.text(self.crates[crate] / part / "Lib.antt") or ""
         for use in re.finditer(r"(?m)^pub use Rattle\.([\w.'-]+?)(?: as ([\w']+))?$", lib):
             if (use.group(2) or use.group(1).split(".")[-1]) == name:
                 return use.group(1).split(".")
@@ -52,7 +52,7 @@ class Tree:
             return self.why_not_proof(crate, rest)
         found = self.module(crate, part, rest)
         if found is None:
-            seen = self.passed(crate, rest[0])
+            seen = self.passed(crate, part, rest[0])
             return self.why_not(seen + rest[1:], names) if seen else f"no module {'.'.join(parts)}"
         text, inside = found
         for name in names or inside:
