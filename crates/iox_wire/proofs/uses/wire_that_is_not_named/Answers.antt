@@ -4,5 +4,5 @@ use Rattle.iox_wire.proofs.uses.wire_that_is_not_named.Goals as goal
 pub new-requires-clause-opens : goal.new-requires-clause-opens
 new-requires-clause-opens c told = absurd (c.requires.unnamed (are_named c.args.plan c.args.terms c.args.nodes.now told))
 
-pub returns-clause-always : goal.returns-clause-always
-returns-clause-always c = on_ok _ c.requires.unnamed c.new.ensures.named
+pub returns : goal.returns
+returns c = record { always = on_ok _ c.requires.unnamed c.new.ensures.named }

@@ -1,4 +1,4 @@
-use Rattle.std.proofs.Common.{◌<◌, ◌^◌, arith}
+use Rattle.std.proofs.Common.{arith}
 use Rattle.iox_wire.proofs.NewRefusals.{few_of_both, on_ok}
 use Rattle.iox_wire.proofs.uses.wire_without_numbers.Goals as goal
 
