@@ -4,13 +4,17 @@ ours, clang or g++. A begin is a call of a function whose name begins with `one_
 wire's own `step`, from a function that is named after the call of the wire. FOLDER/WIRE.counts has of how many exchanges they are.
 tables.py counts ROUNDS: of how many exchanges they are to be, from ROUNDS to four times as many, so that between them no
 list doubles its room. Standard input has the last lines of runs of 64 and of 128: the second and the third word count the
-replies and the events."""
+replies and the events.
+Where a step of ours takes more instructions than MOST allows, the tables are written all the same, and it fails."""
 import collections
 import math
 import re
 import sys
 
 WIRES = ["each limit is 1, one server", "a service's first limits, two servers"]
+# The most instructions that a step of ours may take, of an exchange's steps on average, on each of these wires. On 28
+# November 2026 it took 173.1 and 174.0. Lower them with what makes a step faster; who raises them says why.
+MOST = [176, 177]
 CALLS = {
     "copies_request": "copy of a request",
     "receives_request": "receive of it",
@@ -124,6 +128,15 @@ def main(folder):
     for function, cost in sorted(told["ours", 0][1].items(), key=lambda it: -it[1]):
         if cost >= 60:
             print(f"| `{function}` | {cost:,.0f} |")
+    check(told)
+
+
+def check(told):
+    """Fails where a step of ours takes more than it may."""
+    for wire, (label, most) in enumerate(zip(WIRES, MOST)):
+        _, _, steps, stepped = total(told["ours", wire][0])
+        if stepped > most * steps:
+            sys.exit(f"bench/wire: a step takes {stepped / steps:.1f} instructions where {label}: more than {most}")
 
 
 if sys.argv[1] == "counts":

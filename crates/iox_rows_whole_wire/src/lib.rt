@@ -60,6 +60,8 @@ mod two_servers;
 #[cfg(test)]
 mod units;
 #[cfg(test)]
+mod unnamed;
+#[cfg(test)]
 mod whole_calls;
 #[cfg(test)]
 mod wide;

@@ -154,7 +154,7 @@ fn refusal(alloc: Global, waiting: usize, first: u64) -> Result<Option<WireNewEr
     let mut terms = terms(alloc)?;
     plan.limits.response_buffer = waiting;
     terms.first_number = first;
-    Ok(new_refusal(&plan, &terms))
+    Ok(new_refusal(&plan, &terms, &[0, 1]))
 }
 
 /// Ends the test where there is another reason for one of these.

@@ -1,13 +1,15 @@
 -- What is known of a plan and its terms where no refusal is told: words and numbers are few, and so are the ways that a
--- call visits.
-use Rattle.std.specs.Prelude.{zero, suc, nat_lt, IsSomeAnd, slice_get, OnOk, Result, Ok, Err}
+-- call visits, and nodes and ports are named well.
+use Rattle.std.specs.Prelude.{zero, suc, nat_le, nat_lt, not, ◌||◌, IsSomeAnd, slice_get, OnOk, Result, Ok, Err}
 use Rattle.std.specs.Option.{IsSome}
-use Rattle.std.specs.List.{sum_by}
-use Rattle.std.proofs.Common.{◌≡◌, ℕ, ◌+◌, ◌*◌, ◌<◌, ◌≤◌, ◌^◌, Bool, true, false, if◌then◌else◌, List, [], ◌∷◌, length, get_or, Option, Some, None, refl, ap, sym, subst, ◌∙◌, arith}
-use Rattle.std.proofs.lemmas.Bool.{ltb-false, ltb-true}
+use Rattle.std.specs.List.{All, list_any, sum_by}
+use Rattle.std.proofs.Common.{◌≡◌, ℕ, ◌+◌, ◌*◌, ◌<◌, ◌≤◌, ◌^◌, Bool, true, false, if◌then◌else◌, List, [], ◌∷◌, length, get_or, Option, Some, None, refl, ap, sym, subst, ◌∙◌, arith, true≢false}
+use Rattle.std.proofs.lemmas.Bool.{leb-false, ltb-false, ltb-true}
+use Rattle.std.proofs.lemmas.List.Elements.{All-cons, All-nil}
 use Rattle.std.proofs.lemmas.List.Sums.{sum_by-cons}
 use Rattle.std.proofs.lemmas.Nat.{mul-le}
 use Rattle.std.proofs.lemmas.Option.{none-some, slice_get-get_or}
+use Rattle.iox_model.specs.Maps.{AreDistinct, has_number}
 use Rattle.iox_model.specs.declared.kind.Role.{Role}
 use Rattle.iox_model.specs.declared.kind.Role.TheVariants.{Client, Server}
 use Rattle.iox_model.specs.Settings.{has_layout, shape_of}
@@ -27,21 +29,73 @@ use Rattle.iox_word_places.specs.PortSums.{client_words, region_words}
 use Rattle.iox_wire_weaves.proofs.Planned.{each_planned}
 use Rattle.iox_word_places.proofs.PairLemmas.{one_of}
 use Rattle.iox_word_places.proofs.PlanLemmas.{number_is, there, total_by_each}
-use Rattle.iox_wire.specs.NewRefusals.{HaveLayouts, new_refusal}
+use Rattle.iox_wire.specs.NewRefusals.{AreNamed, HaveLayouts, has_late_port, has_lost_port, has_twice, naming_refusal, new_refusal}
 use Rattle.iox_wire.specs.declared.new_error.WireNewError.{WireNewError}
-use Rattle.iox_wire.specs.declared.new_error.WireNewError.TheVariants.{NumbersSpent, TooManyWords}
+use Rattle.iox_wire.specs.declared.new_error.WireNewError.TheVariants.{DuplicateNode, NumberTaken, NumbersSpent, TooManyWords, UnknownNode}
 
 -- ---- no refusal
 
-pub few_of_both : (plan : WirePlan) (terms : WireTerms) → new_refusal plan terms ≡ None → (total_words (sizes_of plan) < 2 ^ 63) × (terms.first_number < 2 ^ 63)
-few_of_both plan terms =
-    by_case (total_words (sizes_of plan)) terms.first_number (nat_lt (total_words (sizes_of plan)) (2 ^ 63)) (nat_lt terms.first_number (2 ^ 63)) refl refl
+pub few_of_both : (plan : WirePlan) (terms : WireTerms) (nodes : List ℕ) → new_refusal plan terms nodes ≡ None
+    → (total_words (sizes_of plan) < 2 ^ 63) × (terms.first_number < 2 ^ 63)
+few_of_both plan terms nodes =
+    by_case (total_words (sizes_of plan)) terms.first_number (naming_refusal plan terms nodes) (nat_lt (total_words (sizes_of plan)) (2 ^ 63))
+    (nat_lt terms.first_number (2 ^ 63)) refl refl
   where
-    by_case : (words first : ℕ) (a b : Bool) → nat_lt words (2 ^ 63) ≡ a → nat_lt first (2 ^ 63) ≡ b
-        → (if a then (if b then None else Some NumbersSpent) else Some TooManyWords) ≡ None → (words < 2 ^ 63) × (first < 2 ^ 63)
-    by_case words first true true few low told = (ltb-true words (2 ^ 63) few, ltb-true first (2 ^ 63) low)
-    by_case words first true false few high told = absurd (none-some NumbersSpent (sym told))
-    by_case words first false b many is told = absurd (none-some TooManyWords (sym told))
+    by_case : (words first : ℕ) (named : Option WireNewError) (a b : Bool) → nat_lt words (2 ^ 63) ≡ a → nat_lt first (2 ^ 63) ≡ b
+        → (if a then (if b then named else Some NumbersSpent) else Some TooManyWords) ≡ None → (words < 2 ^ 63) × (first < 2 ^ 63)
+    by_case words first named true true few low told = (ltb-true words (2 ^ 63) few, ltb-true first (2 ^ 63) low)
+    by_case words first named true false few high told = absurd (none-some NumbersSpent (sym told))
+    by_case words first named false b many is told = absurd (none-some TooManyWords (sym told))
+
+-- ---- nodes and ports
+
+neither : (a b : Bool) → (a || b) ≡ false → (a ≡ false) × (b ≡ false)
+neither false false is = (refl, refl)
+neither false true is = absurd (true≢false is)
+neither true b is = absurd (true≢false is)
+
+distinct_if : (ns : List ℕ) → has_twice ns ≡ false → AreDistinct ns
+distinct_if [] once = tt
+distinct_if (n ∷ ns) once = let both = neither (has_number n ns) (has_twice ns) once in (both.0, distinct_if ns both.1)
+
+all_if : {A : Type 0} (P : A → Type 0) (test : A → Bool) → ((x : A) → test x ≡ false → P x) → (xs : List A) → list_any test xs ≡ false → All P xs
+all_if P test holds [] none = All-nil P
+all_if P test holds (x ∷ xs) none =
+    let both = neither (test x) (list_any test xs) none in All-cons P x xs (holds x both.0) (all_if P test holds xs both.1)
+
+not_false : (b : Bool) → not b ≡ false → b ≡ true
+not_false true is = refl
+not_false false is = absurd (true≢false is)
+
+lower : (n m : ℕ) → nat_le n m ≡ false → m < n
+lower n m is = leb-false n m is
+
+named_if : (plan : WirePlan) (terms : WireTerms) (nodes : List ℕ) → naming_refusal plan terms nodes ≡ None → AreNamed plan terms nodes
+named_if plan terms nodes = by_case (has_twice nodes) (has_lost_port plan nodes) (has_late_port plan terms.first_number) refl refl refl
+  where
+    by_case : (a b c : Bool) → has_twice nodes ≡ a → has_lost_port plan nodes ≡ b → has_late_port plan terms.first_number ≡ c
+        → (if a then Some DuplicateNode else (if b then Some UnknownNode else (if c then Some NumberTaken else None))) ≡ None → AreNamed plan terms nodes
+    by_case false false false once lost late told = record {
+      once = distinct_if nodes once;
+      owners = all_if (λ (q : PlanPort). has_number q.node nodes ≡ true) (λ (q : PlanPort). not (has_number q.node nodes))
+          (λ q is. not_false (has_number q.node nodes) is) plan.ports.items lost;
+      numbers = all_if (λ (q : PlanPort). q.number < terms.first_number) (λ (q : PlanPort). nat_le terms.first_number q.number)
+          (λ q is. lower terms.first_number q.number is) plan.ports.items late;
+    }
+    by_case true b c once lost late told = absurd (none-some DuplicateNode (sym told))
+    by_case false true c once lost late told = absurd (none-some UnknownNode (sym told))
+    by_case false false true once lost late told = absurd (none-some NumberTaken (sym told))
+
+-- where no refusal is told, nodes and ports are named well
+pub are_named : (plan : WirePlan) (terms : WireTerms) (nodes : List ℕ) → new_refusal plan terms nodes ≡ None → AreNamed plan terms nodes
+are_named plan terms nodes told =
+    named_if plan terms nodes
+    (by_case (naming_refusal plan terms nodes) (nat_lt (total_words (sizes_of plan)) (2 ^ 63)) (nat_lt terms.first_number (2 ^ 63)) told)
+  where
+    by_case : (named : Option WireNewError) (a b : Bool) → (if a then (if b then named else Some NumbersSpent) else Some TooManyWords) ≡ None → named ≡ None
+    by_case named true true none = none
+    by_case named true false none = absurd (none-some NumbersSpent (sym none))
+    by_case named false b none = absurd (none-some TooManyWords (sym none))
 
 pub on_ok : {X E A B : Type 0} (result : Result X E) → (A → B) → OnOk result A → OnOk result B
 on_ok (Ok x) leads so = leads so

@@ -20,7 +20,7 @@ use Rattle.iox_wire_weaves.specs.NodeCall.{NodeCall}
 use Rattle.iox_wire_weaves.specs.NodeReply.{NodeReply}
 use Rattle.iox_wire_weaves.specs.Nodes.{seat_in}
 use Rattle.iox_wire_weaves.specs.Runs.{GoesOnBy, Run}
-use Rattle.iox_wire_weaves.specs.Steps.{DeathIsWoven, MakesItsAccess, MakesOneAccess, StepIsWoven, most_accesses, rest_refusal, step_refusal}
+use Rattle.iox_wire_weaves.specs.Steps.{DeathIsWoven, KeepsRead, KeepsReads, MakesItsAccess, MakesOneAccess, StepIsWoven, most_accesses, rest_refusal, step_refusal}
 use Rattle.iox_wire_weaves.specs.Tables.{Setting}
 use Rattle.iox_wire_weaves.specs.Wires.{Shows, WireData, WireNode, living_refusal, machine_refusal, node_at, refusal_in, seat_of}
 use Rattle.iox_wire_weaves.specs.declared.refusal.WireRefusal.{WireRefusal}
@@ -71,12 +71,12 @@ by_state A B (Some first) refusal is named so = so
 by_state A B None refusal is named so = absurd (let none : None ≡ Some (refusal_in WantOfMemory) = subst IsNamed is named in let no : ⊥ = cc in no)
 
 pub step_told : (a b : WireData) (n : ℕ) (told : Result (Progress NodeReply) WireRefusal) (want : Result (Unit {0}) WireRefusal) → OnOk told (MakesItsAccess a n b)
-    → IfOk told (λ progress. StepIsWoven a n progress b) → OnOk told (step_refusal a n ≡ None)
+    → IfOk told (λ progress. StepIsWoven a n progress b) → IfOk told (λ progress. KeepsRead a n progress b) → OnOk told (step_refusal a n ≡ None)
     → IfErr told (IsRefusal WantOfMemory (step_refusal a n)) → OnErr told (b ≡ a)
     → OnOk want (IfErr told (λ refusal. machine_refusal refusal ≡ Some (refusal_in refusal))) → OnOk want (IsStepped a n b)
-step_told a b n (Ok progress) (Ok none) access woven allowed refused same named = so_where _ _ (step_refusal a n) allowed (access, (progress, woven))
-step_told a b n (Err refusal) (Ok none) access woven allowed refused same named = by_state _ _ (step_refusal a n) refusal refused named same
-step_told a b n told (Err want) access woven allowed refused same named = tt
+step_told a b n (Ok progress) (Ok none) access woven read allowed refused same named = so_where _ _ (step_refusal a n) allowed (access, (progress, woven, read))
+step_told a b n (Err refusal) (Ok none) access woven read allowed refused same named = by_state _ _ (step_refusal a n) refusal refused named same
+step_told a b n told (Err want) access woven read allowed refused same named = tt
 
 -- want of memory is told where nothing refuses the step
 by_memory : (a : WireData) (n : ℕ) (o : Option WireRefusal) (refusal : WireRefusal) → step_refusal a n ≡ o → IsRefusal WantOfMemory o refusal
@@ -120,14 +120,18 @@ left_told P (Err refusal) (Err want) left wants = left
 
 -- ---- what is known about a begin
 
-begin_asked : (a b : WireData) (n : ℕ) (call : NodeCall) → BeginsItsCall a n call b → BeginIsWoven a n call b → IsAsked a n call b
-begin_asked a b n call begun woven p r shows =
-    let w = woven p r shows in so_where _ _ (begin_refusal r.last n (asked_of r n call)) w.2.beat.0 (begun p r shows, w)
+begin_asked : (a b : WireData) (n : ℕ) (call : NodeCall) → BeginsItsCall a n call b → BeginIsWoven a n call b → KeepsReads a b → IsAsked a n call b
+begin_asked a b n call begun woven reads = (
+  reads,
+  λ p r shows. let w = woven p r shows in so_where _ _ (begin_refusal r.last n (asked_of r n call)) w.2.beat.0 (begun p r shows, w),
+)
 
 begin_passed : (a b : WireData) (n : ℕ) (call : NodeCall) (refusal : WireRefusal) → IsBeginRefusal a n call refusal → IsNamed refusal → b ≡ a
-    → IsAsked a n call b
-begin_passed a b n call refusal refused named left p r shows =
-    refused_where _ _ (begin_refusal r.last n (asked_of r n call)) (refusal_in refusal) (refused p r shows ∙ named) left
+    → KeepsReads a b → IsAsked a n call b
+begin_passed a b n call refusal refused named left reads = (
+  reads,
+  λ p r shows. refused_where _ _ (begin_refusal r.last n (asked_of r n call)) (refusal_in refusal) (refused p r shows ∙ named) left,
+)
 
 -- all refusals but want of memory are the machine's
 named_but : (refusal : WireRefusal) → (refusal ≡ WantOfMemory → ⊥) → IsNamed refusal
@@ -142,10 +146,10 @@ named_but WrongKind never = refl
 named_but WantOfMemory never = absurd (never refl)
 
 pub begin_told : (a b : WireData) (n : ℕ) (call : NodeCall) (told : Result (Unit {0}) WireRefusal) → OnOk told (BeginsItsCall a n call b)
-    → OnOk told (BeginIsWoven a n call b) → IfErr told (IsBeginRefusal a n call) → OnErr told (b ≡ a) → IfErr told (λ refusal. refusal ≡ WantOfMemory → ⊥)
-    → IsAsked a n call b
-begin_told a b n call (Ok done) begun woven refused left never = begin_asked a b n call begun woven
-begin_told a b n call (Err refusal) begun woven refused left never = begin_passed a b n call refusal refused (named_but refusal never) left
+    → OnOk told (BeginIsWoven a n call b) → KeepsReads a b → IfErr told (IsBeginRefusal a n call) → OnErr told (b ≡ a)
+    → IfErr told (λ refusal. refusal ≡ WantOfMemory → ⊥) → IsAsked a n call b
+begin_told a b n call (Ok done) begun woven reads refused left never = begin_asked a b n call begun woven reads
+begin_told a b n call (Err refusal) begun woven reads refused left never = begin_passed a b n call refusal refused (named_but refusal never) left reads
 
 -- ---- and of a death
 
@@ -214,8 +218,12 @@ begin_goes a b n call p r shows (Some refusal) is left = (
   subst (λ w. Shows p w r) (sym left) shows,
 )
 
+-- what a step that is not refused does
+abbrev StepsSo : WireData → ℕ → WireData → Type 0
+StepsSo a n b = MakesItsAccess a n b × ((progress : Progress NodeReply) × StepIsWoven a n progress b × KeepsRead a n progress b)
+
 step_goes : (a b : WireData) (n : ℕ) (p : Setting) (r : Run) → Shows p a r → (o : Option WireRefusal)
-    → MatchOption o (MakesItsAccess a n b × ((progress : Progress NodeReply) × StepIsWoven a n progress b)) (λ refusal. b ≡ a) → GoesOnIn p r (Step n) b
+    → MatchOption o (StepsSo a n b) (λ refusal. b ≡ a) → GoesOnIn p r (Step n) b
 step_goes a b n p r shows None so = let s = so.1.1 p r shows in (s.beats, s.after, s.is_step, s.goes_on.woven, s.goes_on.first, s.goes_on.beats, s.shows)
 step_goes a b n p r shows (Some refusal) same =
     ([], r, nothing, refl, refl, sym (append-nil r.beats), subst (λ w. Shows p w r) (sym same) shows)
@@ -246,7 +254,7 @@ death_goes a b n p r shows (Some refusal) is same =
 
 entry_goes : (a b : WireData) (e : WireEntry) → IsEntered a e b → (p : Setting) (r : Run) → Shows p a r → GoesOnIn p r e b
 entry_goes a b (Begin n call) asked p r shows =
-    begin_goes a b n call p r shows (begin_refusal r.last n (asked_of r n call)) refl (asked p r shows)
+    begin_goes a b n call p r shows (begin_refusal r.last n (asked_of r n call)) refl (asked.1 p r shows)
 entry_goes a b (Step n) stepped p r shows = step_goes a b n p r shows (step_refusal a n) stepped
 entry_goes a b (Die n) dead p r shows = death_goes a b n p r shows (living_refusal a.nodes n) refl dead
 
@@ -276,7 +284,7 @@ one_more a b c (x ∷ es) e first entered = (first.0, first.1, one_more first.0 
 -- ---- three steps
 
 made_access : (a b : WireData) (n : ℕ) (o : Option WireRefusal)
-    → MatchOption o (MakesItsAccess a n b × ((progress : Progress NodeReply) × StepIsWoven a n progress b)) (λ refusal. b ≡ a) → o ≡ None → MakesItsAccess a n b
+    → MatchOption o (StepsSo a n b) (λ refusal. b ≡ a) → o ≡ None → MakesItsAccess a n b
 made_access a b n None so none = so.0
 made_access a b n (Some refusal) same none = absurd (let no : ⊥ = cc in no)
 
@@ -301,6 +309,26 @@ pub three_told : (told : Result (Unit {0}) WireRefusal) (a d : WireData) (n : �
     × (step_refusal c n ≡ None → MakesOneAccess p c n d))
 three_told (Ok done) a d n played p r shows = three_made a d n played.each p r shows
 three_told (Err refusal) a d n played p r shows = tt
+
+-- ---- what was read
+
+-- the begin of a call leaves the words of each node's last read
+pub begin_kept : (told : Result (Unit {0}) WireRefusal) (a b : WireData) (n : ℕ) (call : NodeCall) → OnOk told (EntriesArePlayed a (Begin n call ∷ []) b)
+    → OnOk told (KeepsReads a b)
+begin_kept (Ok done) a b n call played = subst (λ w. KeepsReads a w) (sym played.each.2) played.each.1.0
+begin_kept (Err refusal) a b n call played = tt
+
+step_so : (a b : WireData) (n : ℕ) (o : Option WireRefusal) → o ≡ None → MatchOption o (StepsSo a n b) (λ refusal. b ≡ a) → StepsSo a n b
+step_so a b n None none so = so
+step_so a b n (Some refusal) none same = absurd (let no : ⊥ = cc in no)
+
+-- a step that is not refused leaves the words of a read that it answers, or those of the read before
+pub step_kept : (told : Result (Unit {0}) WireRefusal) (a b : WireData) (n : ℕ) → step_refusal a n ≡ None → OnOk told (EntriesArePlayed a (Step n ∷ []) b)
+    → OnOk told ((progress : Progress NodeReply) × StepIsWoven a n progress b × KeepsRead a n progress b)
+step_kept (Ok done) a b n goes played =
+    subst (λ w. (progress : Progress NodeReply) × StepIsWoven a n progress w × KeepsRead a n progress w) (sym played.each.2)
+    (step_so a played.each.0 n (step_refusal a n) goes played.each.1).1
+step_kept (Err refusal) a b n goes played = tt
 
 -- what wants memory leaves a wire that shows the runs that it showed
 pub wants_shows : (e : WireEntry) (a b : WireData) → WantsMemory a e b → (p : Setting) (r : Run) → Shows p a r → Shows p b r

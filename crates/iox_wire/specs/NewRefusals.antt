@@ -1,21 +1,55 @@
--- Why no wire is made of a plan and its terms, and whether messages have layouts.
-use Rattle.std.specs.Prelude.{ℕ, ◌<◌, ◌^◌, nat_lt, List, length, Option, Some, None, IsSomeAnd, slice_get, if◌then◌else◌, codes}
+-- Why no wire is made of a plan, its terms and a list of nodes, and whether messages have layouts.
+use Rattle.std.specs.Prelude.{◌≡◌, ℕ, ◌<◌, ◌^◌, nat_le, nat_lt, Bool, false, true, not, ◌||◌, List, [], ◌∷◌, length, Option, Some, None, IsSomeAnd, slice_get, if◌then◌else◌, codes}
+use Rattle.std.specs.List.{All, list_any}
 use Rattle.std.specs.Option.{IsSome}
+use Rattle.iox_model.specs.Maps.{AreDistinct, has_number}
 use Rattle.iox_word_map.specs.WordMaps.{total_words}
 use Rattle.iox_types.specs.Layouts.{message_layout}
 use Rattle.iox_wire_weaves.specs.Plans.{details_of, sizes_of}
 use Rattle.iox_wire_weaves.specs.WirePlan.{WirePlan}
 use Rattle.iox_wire_weaves.specs.WireTerms.{WireTerms}
 use Rattle.iox_wire.specs.declared.new_error.WireNewError.{WireNewError}
-use Rattle.iox_wire.specs.declared.new_error.WireNewError.TheVariants.{NumbersSpent, TooManyWords, WantOfMemory}
+use Rattle.iox_wire.specs.declared.new_error.WireNewError.TheVariants.{DuplicateNode, NumberTaken, NumbersSpent, TooManyWords, UnknownNode, WantOfMemory}
 
--- Whatever memory there is, no wire is made that has 2^63 words or more, and none that would number its handles
--- from 2^63 on or later.
-abbrev pub new_refusal : WirePlan → WireTerms → Option WireNewError
-new_refusal plan terms =
+-- ---- which nodes and numbers there are
+
+-- Each node is listed once, each port is of one of them, and all ports have lower numbers than the handles.
+pub record AreNamed (plan : WirePlan) (terms : WireTerms) (nodes : List ℕ) : Type 0 where
+  pub once : AreDistinct nodes
+  pub owners : All (λ q. has_number q.node nodes ≡ true) plan.ports.items
+  pub numbers : All (λ q. q.number < terms.first_number) plan.ports.items
+
+-- whether a number is in the list twice
+abbrev pub has_twice : List ℕ → Bool
+has_twice [] = false
+has_twice (n ∷ ns) = has_number n ns || has_twice ns
+
+-- whether a port is of none of the nodes
+abbrev pub has_lost_port : WirePlan → List ℕ → Bool
+has_lost_port plan nodes = list_any (λ q. not (has_number q.node nodes)) plan.ports.items
+
+-- whether a port has that number, or a later one
+abbrev pub has_late_port : WirePlan → ℕ → Bool
+has_late_port plan first = list_any (λ q. nat_le first q.number) plan.ports.items
+
+-- why they are not so, the first reason that applies
+abbrev pub naming_refusal : WirePlan → WireTerms → List ℕ → Option WireNewError
+naming_refusal plan terms nodes =
+    if has_twice nodes then Some DuplicateNode
+    else (if has_lost_port plan nodes then Some UnknownNode
+    else (if has_late_port plan terms.first_number then Some NumberTaken else None))
+
+-- ---- a wire
+
+-- Whatever memory there is, no wire is made that has 2^63 words or more, none that would number its handles
+-- from 2^63 on or later, and none whose nodes and ports are not named so.
+abbrev pub new_refusal : WirePlan → WireTerms → List ℕ → Option WireNewError
+new_refusal plan terms nodes =
     if nat_lt (total_words (sizes_of plan)) (2 ^ 63)
-    then (if nat_lt terms.first_number (2 ^ 63) then None else Some NumbersSpent)
+    then (if nat_lt terms.first_number (2 ^ 63) then naming_refusal plan terms nodes else Some NumbersSpent)
     else Some TooManyWords
+
+-- ---- layouts
 
 -- the longest message of the port at that place has a layout
 abbrev pub HasLayout : WirePlan → ℕ → Type 0
@@ -31,4 +65,7 @@ HaveLayouts plan = (i : ℕ) → i < length plan.ports.items → HasLayout plan 
 abbrev pub new_error_text : WireNewError → List ℕ
 new_error_text TooManyWords = codes "WireNewError::TooManyWords"
 new_error_text NumbersSpent = codes "WireNewError::NumbersSpent"
+new_error_text DuplicateNode = codes "WireNewError::DuplicateNode"
+new_error_text UnknownNode = codes "WireNewError::UnknownNode"
+new_error_text NumberTaken = codes "WireNewError::NumberTaken"
 new_error_text WantOfMemory = codes "WireNewError::WantOfMemory"

@@ -11,7 +11,7 @@ use Rattle.iox_wire_weaves.specs.Asking.{BeginsCall, asked_of, call_said}
 use Rattle.iox_wire_weaves.specs.NodeCall.{NodeCall}
 use Rattle.iox_wire_weaves.specs.NodeReply.{NodeReply}
 use Rattle.iox_wire_weaves.specs.Runs.{GoesOnBy, Run}
-use Rattle.iox_wire_weaves.specs.Steps.{DeathIsWoven, MakesItsAccess, StepIsWoven, step_refusal}
+use Rattle.iox_wire_weaves.specs.Steps.{DeathIsWoven, KeepsRead, KeepsReads, MakesItsAccess, StepIsWoven, step_refusal}
 use Rattle.iox_wire_weaves.specs.Tables.{Setting}
 use Rattle.iox_wire_weaves.specs.Wires.{Shows, WireData, living_refusal}
 use Rattle.iox_wire.specs.Kept.{Loses}
@@ -21,23 +21,25 @@ use Rattle.iox_wire.specs.declared.entry.WireEntry.TheVariants.{Begin, Die, Step
 
 -- ---- what an entry does to the wire
 
--- In each run that the wire shows: the node begins the call, and the run continues by that; where the
--- machine refuses the call, nothing changes.
+-- The words of each node's last read stay. In each run that the wire shows: the node begins the call, and
+-- the run continues by that; where the machine refuses the call, nothing changes.
 abbrev pub IsAsked : WireData → ℕ → NodeCall → WireData → Type 0
 IsAsked old node call new =
-    (p : Setting) (r : Run) → Shows p old r → let asked = asked_of r node call in
+    KeepsReads old new
+    × ((p : Setting) (r : Run) → Shows p old r → let asked = asked_of r node call in
     MatchOption (begin_refusal r.last node asked)
     (BeginsCall p old node asked new
     × ((c : Choice) × (after : Run) × GoesOnBy r (Begins node asked c) after × Shows p new after))
-    (λ refusal. new ≡ old)
+    (λ refusal. new ≡ old))
 
 -- The node makes the one access of its place, and each run that the wire showed continues by that
--- step; where the step is refused, nothing changes.
+-- step. The last step of a read leaves its words, and each other step those of the read before. Where
+-- the step is refused, nothing changes.
 abbrev pub IsStepped : WireData → ℕ → WireData → Type 0
 IsStepped old node new =
     MatchOption (step_refusal old node)
     (MakesItsAccess old node new
-    × ((progress : Progress NodeReply) × StepIsWoven old node progress new))
+    × ((progress : Progress NodeReply) × StepIsWoven old node progress new × KeepsRead old node progress new))
     (λ refusal. new ≡ old)
 
 -- The node is lost, and each run that the wire showed continues by its death; where the death is

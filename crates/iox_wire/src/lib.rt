@@ -10,6 +10,7 @@ mod finding;
 mod finished;
 mod handle_room;
 mod member;
+mod naming;
 mod new_error;
 mod opening;
 mod reading;

@@ -14,6 +14,12 @@ pub enum WireNewError {
     /// The first handle of each node would have the number 2^63 or a later one: open the wire
     /// before its service gave as many numbers.
     NumbersSpent,
+    /// A node is listed twice: one of the two could never be named.
+    DuplicateNode,
+    /// A port of the plan is of a node that is not listed.
+    UnknownNode,
+    /// A port of the plan has the number of the first handle, or a later one.
+    NumberTaken,
     WantOfMemory,
 }
 
@@ -26,6 +32,9 @@ impl fmt::Display for WireNewError {
         f.write_str(match self {
             WireNewError::TooManyWords => "WireNewError::TooManyWords",
             WireNewError::NumbersSpent => "WireNewError::NumbersSpent",
+            WireNewError::DuplicateNode => "WireNewError::DuplicateNode",
+            WireNewError::UnknownNode => "WireNewError::UnknownNode",
+            WireNewError::NumberTaken => "WireNewError::NumberTaken",
             WireNewError::WantOfMemory => "WireNewError::WantOfMemory",
         })
     }

@@ -15,6 +15,7 @@ ghost use Rattle.iox_wire.specs.NewRefusals.{HasLayout, HaveLayouts, new_refusal
 
 use crate::handle_room::handle_room;
 use crate::member::Member;
+use crate::naming::naming_refusal;
 use crate::new_error::WireNewError;
 use iox_model::kind::Role;
 use iox_wire_openings::open_node;
@@ -161,8 +162,9 @@ fn overflows_with_room(plan: &WirePlan) -> bool
 
 /// Whether the terms fit the plan, each port has a slot, and each queue that overflows has room for
 /// a message. With `is_plan` that is all that can be tested of what `Wire::new` asks, but that
-/// messages have layouts (`have_layouts`): that a wire of both may `open` follows from the service
-/// that they were made of, and is for those to say who have it.
+/// messages have layouts (`have_layouts`), and what it tests itself (`new_refusal`): that a wire of
+/// both may `open` follows from the service that they were made of, and is for those to say who have
+/// it.
 pub fn is_whole(plan: &WirePlan, terms: &WireTerms) -> bool
     ensures { IsTrue result ↔ AreWhole plan.now terms.now }
 {
@@ -195,11 +197,12 @@ pub fn have_layouts(plan: &WirePlan) -> bool
     true
 }
 
-/// Why no wire is made of the plan and the terms, whatever memory there is. The first that applies
-/// is told: too many words, and then that numbers are spent.
-pub fn new_refusal(plan: &WirePlan, terms: &WireTerms) -> Option<WireNewError>
+/// Why no wire is made of the plan, the terms and these nodes, whatever memory there is. The first
+/// that applies is told: too many words, that numbers are spent, a node that is listed twice, a port
+/// of none of the nodes, and a port that has the number of a handle.
+pub fn new_refusal(plan: &WirePlan, terms: &WireTerms, nodes: &[u64]) -> Option<WireNewError>
     requires { AreDistinct (port_numbers plan.now) }
-    ensures { result ≡ new_refusal plan.now terms.now }
+    ensures { result ≡ new_refusal plan.now terms.now nodes.now }
 {
     let Some(total) = plan.total_words() else {
         return Some(WireNewError::TooManyWords);
@@ -210,5 +213,5 @@ pub fn new_refusal(plan: &WirePlan, terms: &WireTerms) -> Option<WireNewError>
     if terms.first_number >= MOST_NUMBERS {
         return Some(WireNewError::NumbersSpent);
     }
-    None
+    naming_refusal(plan, terms, nodes)
 }

@@ -11,17 +11,19 @@ ghost use Rattle.iox_model.specs.States.{State};
 ghost use Rattle.iox_wire_weaves.specs.Plans.{IsPlan};
 ghost use Rattle.iox_word_map.specs.WordMaps.{total_words};
 ghost use Rattle.iox_wire_weaves.specs.Plans.{sizes_of};
-ghost use Rattle.iox_wire.specs.NewRefusals.{new_refusal};
+ghost use Rattle.iox_wire.specs.NewRefusals.{AreNamed, new_refusal};
 ghost use Rattle.iox_wire.specs.declared.new_error.WireNewError.TheVariants as new_errors;
 ghost use Rattle.iox_wire_weaves.specs.Tables.{Setting};
 ghost use Rattle.iox_wire_weaves.specs.declared.refusal.WireRefusal.TheVariants as refusals;
 ghost use Rattle.iox_wire_weaves.specs.Steps.{DeathIsWoven, MakesOneAccess, StepIsWoven};
 ghost use Rattle.iox_wire_weaves.specs.SettingsStay.{SettingStays};
-ghost use Rattle.iox_wire_weaves.specs.Steps.{step_refusal};
+ghost use Rattle.iox_wire_weaves.specs.Steps.{KeepsRead, KeepsReads, step_refusal};
 ghost use Rattle.iox_wire_weaves.specs.Wires.{AreWhole, WireOpensOn, Shows, ShowsOpened, WireData};
 ghost use Rattle.iox_wire_weaves.specs.Wires.{WireNode, living_refusal, node_at};
 ghost use Rattle.iox_wire_weaves.specs.Begins.{is_busy};
+ghost use Rattle.iox_wire_weaves.specs.NodeReply.{NodeReply};
 ghost use Rattle.iox_wire_weaves.specs.Nodes.{seat_in};
+ghost use Rattle.iox_steps.specs.declared.access.Progress.{Progress};
 ghost use Rattle.iox_wire_weaves.specs.Runs.{Run};
 ghost use Rattle.iox_model.specs.Schedules.{Finished, UnderWay, replies_of};
 ghost use Rattle.iox_model.specs.declared.call.Call.TheVariants as machine_calls;
@@ -51,7 +53,7 @@ pub fn wire_that_fits(
 ) -> Result<Wire, WireNewError>
     requires plan { IsPlan plan }
     requires whole { AreWhole plan terms }
-    requires fits { new_refusal plan terms ≡ None }
+    requires fits { new_refusal plan terms nodes.now ≡ None }
     requires opens { (p : Setting) × (s : State) × WireOpensOn plan terms nodes.now p s }
     ensures opened { (p : Setting) → (s : State) → WireOpensOn plan terms nodes.now p s
         → IfOk result (ShowsOpened p s) }
@@ -60,7 +62,7 @@ pub fn wire_that_fits(
     Wire::new(alloc, plan, terms, nodes)
 }
 
-/// One of 2^63 words is refused by name, whatever memory there is.
+/// One of 2^63 words is refused by name, whatever memory there is. No service is asked for.
 pub fn wire_of_too_many_words(
     alloc: Global,
     plan: WirePlan,
@@ -69,7 +71,6 @@ pub fn wire_of_too_many_words(
 ) -> Result<Wire, WireNewError>
     requires plan { IsPlan plan }
     requires whole { AreWhole plan terms }
-    requires opens { (p : Setting) × (s : State) × WireOpensOn plan terms nodes.now p s }
     requires many { total_words (sizes_of plan) ≡ 2 ^ 63 }
     ensures refused { IfErr result (λ error. error ≡ new_errors.TooManyWords) }
     ensures always { OnOk result ⊥ }
@@ -86,10 +87,40 @@ pub fn wire_without_numbers(
 ) -> Result<Wire, WireNewError>
     requires plan { IsPlan plan }
     requires whole { AreWhole plan terms }
-    requires opens { (p : Setting) × (s : State) × WireOpensOn plan terms nodes.now p s }
     requires few { total_words (sizes_of plan) ≡ 165 }
     requires spent { terms.first_number ≡ 2 ^ 63 }
     ensures refused { IfErr result (λ error. error ≡ new_errors.NumbersSpent) }
+    ensures always { OnOk result ⊥ }
+{
+    Wire::new(alloc, plan, terms, nodes)
+}
+
+/// A node that is listed twice is refused by name.
+pub fn wire_of_a_node_twice(
+    alloc: Global,
+    plan: WirePlan,
+    terms: WireTerms,
+) -> Result<Wire, WireNewError>
+    requires plan { IsPlan plan }
+    requires whole { AreWhole plan terms }
+    requires few { total_words (sizes_of plan) ≡ 165 }
+    requires first { terms.first_number ≡ 2 }
+    ensures refused { IfErr result (λ error. error ≡ new_errors.DuplicateNode) }
+    ensures always { OnOk result ⊥ }
+{
+    Wire::new(alloc, plan, terms, &[0, 0])
+}
+
+/// So are, by some name, nodes and ports that are not named well. No service is asked for.
+pub fn wire_that_is_not_named(
+    alloc: Global,
+    plan: WirePlan,
+    terms: WireTerms,
+    nodes: &[u64],
+) -> Result<Wire, WireNewError>
+    requires plan { IsPlan plan }
+    requires whole { AreWhole plan terms }
+    requires unnamed { AreNamed plan terms nodes.now → ⊥ }
     ensures always { OnOk result ⊥ }
 {
     Wire::new(alloc, plan, terms, nodes)
@@ -243,6 +274,27 @@ pub fn client_asks(
     ensures left { OnErr result (wire.new ≡ wire.old) }
 {
     wire.begin(node, NodeCall::SendCopy { number, payload })
+}
+
+/// The begin of a call in a schedule leaves the words of each node's last read.
+pub fn reads_stay_as_a_call_begins(
+    wire: &mut Wire,
+    node: u64,
+    number: u64,
+) -> Result<(), WireRefusal>
+    ensures { OnOk result (KeepsReads wire.old wire.new) }
+{
+    wire.run(&[WireEntry::Begin(node, NodeCall::HasRequests { number })])
+}
+
+/// A step in a schedule leaves the words of a read that it answers, or those of the read before.
+pub fn read_is_kept_by_a_step(wire: &mut Wire, node: u64) -> Result<(), WireRefusal>
+    requires { step_refusal wire.old node ≡ None }
+    ensures { OnOk result ((progress : Progress NodeReply)
+        × StepIsWoven wire.old node progress wire.new
+        × KeepsRead wire.old node progress wire.new) }
+{
+    wire.run(&[WireEntry::Step(node)])
 }
 
 /// A server begins to receive, and makes two steps: a run of the machine continues so.

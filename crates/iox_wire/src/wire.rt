@@ -73,14 +73,14 @@ impl Wire {
     ghost use Rattle.iox_wire_weaves.specs.Steps.{DeathIsWoven, MakesItsAccess, StepIsWoven};
     ghost use Rattle.iox_wire_weaves.specs.Steps.{IsOwnAnswer, KeepsRead, step_refusal};
     ghost use Rattle.iox_wire_weaves.specs.Wires.{AreWhole, WireOpensOn, ShowsOpened, living_refusal};
-    ghost use Rattle.iox_wire.specs.Kept.{NodesHaveRoom, Loses};
-    ghost use Rattle.iox_wire.specs.NewRefusals.{new_refusal};
+    ghost use Rattle.iox_wire.specs.Kept.{AreOpened, Loses, NodesHaveRoom};
+    ghost use Rattle.iox_wire.specs.NewRefusals.{AreNamed, new_refusal};
     ghost use Rattle.iox_wire.specs.declared.new_error.WireNewError.TheVariants as new_errors;
 
     /// A wire of that plan, with these nodes alive, on which nothing happened yet. Each node has
-    /// room for all handles that its ports may have. The plan and the terms are to be those of a
-    /// service on which a wire may open. Want of memory is told only where `new_refusal` tells
-    /// nothing.
+    /// room for all handles that its ports may have. Where `new_refusal` tells nothing, the plan and
+    /// the terms are to be those of a service on which a wire may open, and nothing but want of
+    /// memory is told.
     pub fn new(
         alloc: Global,
         plan: WirePlan,
@@ -89,17 +89,20 @@ impl Wire {
     ) -> Result<Wire, WireNewError>
         requires plan { IsPlan plan }
         requires whole { AreWhole plan terms }
-        requires opens { (p : Setting) × (s : State) × WireOpensOn plan terms nodes.now p s }
+        requires opens { new_refusal plan terms nodes.now ≡ None
+            → (p : Setting) × (s : State) × WireOpensOn plan terms nodes.now p s }
         ensures opened { (p : Setting) → (s : State) → WireOpensOn plan terms nodes.now p s
             → IfOk result (ShowsOpened p s) }
         ensures fresh { (p : Setting) → (s : State) → WireOpensOn plan terms nodes.now p s
             → IfOk result (IsNewWire p plan terms nodes.now) }
+        ensures nodes { IfOk result (λ wire. AreOpened plan nodes.now wire.nodes) }
+        ensures named { OnOk result (AreNamed plan terms nodes.now) }
         ensures room { IfOk result (λ wire. NodesHaveRoom plan wire.nodes) }
-        ensures allowed { OnOk result (new_refusal plan terms ≡ None) }
+        ensures allowed { OnOk result (new_refusal plan terms nodes.now ≡ None) }
         ensures refused { IfErr result
-            (IsRefusal new_errors.WantOfMemory (new_refusal plan terms)) }
+            (IsRefusal new_errors.WantOfMemory (new_refusal plan terms nodes.now)) }
     {
-        if let Some(refusal) = new_refusal(&plan, &terms) {
+        if let Some(refusal) = new_refusal(&plan, &terms, nodes) {
             return Err(refusal);
         }
         let Ok(places) = WordMap::new(alloc, plan) else {

@@ -9,4 +9,4 @@ pub new-requires-clause-whole : goal.new-requires-clause-whole
 new-requires-clause-whole c = whole_terms _ _ _ _ _ c.in_ok-plan.ensures c.in_ok-terms.ensures
 
 pub new-requires-clause-opens : goal.new-requires-clause-opens
-new-requires-clause-opens c = may_open _ _ _ _ _ c.in_ok-plan.ensures c.in_ok-terms.ensures
+new-requires-clause-opens c none = may_open _ _ _ _ _ c.in_ok-plan.ensures c.in_ok-terms.ensures

@@ -4,7 +4,7 @@ use Rattle.iox_wire.proofs.wire.Wire.go.Goals as goal
 pub returns-clause-stepped : goal.returns-clause-stepped
 returns-clause-stepped c =
     step_told c.args.self.now c.step-told.new.self c.args.node c.step-told.result c.want_of.result c.step-told.ensures.one_access
-    c.step-told.ensures.weave c.step-told.ensures.allowed c.step-told.ensures.refused c.step-told.ensures.unchanged c.want_of.ensures.named
+    c.step-told.ensures.weave c.step-told.ensures.read c.step-told.ensures.allowed c.step-told.ensures.refused c.step-told.ensures.unchanged c.want_of.ensures.named
 
 pub returns-clause-allowed : goal.returns-clause-allowed
 returns-clause-allowed c =

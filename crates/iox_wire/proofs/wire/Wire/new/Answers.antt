@@ -10,7 +10,7 @@ use Rattle.iox_wire.specs.Replies.{FinishedCalls}
 use Rattle.iox_wire.specs.Kept.{AreOpened, StandInOrder}
 use Rattle.iox_wire.proofs.Members.{opened_node}
 use Rattle.iox_wire.proofs.Fresh.{fresh, shown_opened, shows_opened}
-use Rattle.iox_wire.proofs.NewRefusals.{few_of_both, has_header, ways_are_counted, ways_are_told}
+use Rattle.iox_wire.proofs.NewRefusals.{are_named, few_of_both, has_header, ways_are_counted, ways_are_told}
 use Rattle.iox_wire.proofs.Recorded.{events_by}
 use Rattle.iox_wire.proofs.Roomy.{fits_is}
 use Rattle.iox_wire.proofs.wire.Wire.new.Goals as goal
@@ -24,19 +24,20 @@ unreachable-requires c =
     ways_are_told _ c.most_ways.result c.most_ways.ensures c.in_default-most_ways.is
     (subst (λ (q : WirePlan). most_ways q < 2 ^ 64) (sym c.in-Ok.ensures.made)
     (ways_are_counted c.args.plan c.requires.plan
-    (λ role. has_header c.args.plan role (c.requires.opens.2.told.setting.is_for.shapes role).header) c.requires.whole.slots
-    (few_of_both c.args.plan c.args.terms (sym c.in_default.ensures)).0))
+    (λ role. has_header c.args.plan role ((c.requires.opens (sym c.in_default.ensures)).2.told.setting.is_for.shapes role).header) c.requires.whole.slots
+    (few_of_both c.args.plan c.args.terms c.args.nodes.now (sym c.in_default.ensures)).0))
 
 pub invariant_of-result : goal.invariant_of-result
 invariant_of-result c = (
   c.in_ok-lists.ensures,
   let w : WireData = record { plan = c.in-Ok.places; terms = c.args.terms; words = c.in_ok-words.words.items; nodes = c.in_ok-members.members.items; replies = c.new-3.result.finished; events = events_by c.new-4.result.items; room = 0 } in
-      let few : (total_words (sizes_of c.args.plan) < 2 ^ 63) × (c.args.terms.first_number < 2 ^ 63) = few_of_both c.args.plan c.args.terms (sym c.in_default.ensures) in
+      let few : (total_words (sizes_of c.args.plan) < 2 ^ 63) × (c.args.terms.first_number < 2 ^ 63) = few_of_both c.args.plan c.args.terms c.args.nodes.now (sym c.in_default.ensures) in
       shown_opened c.args.plan c.args.terms c.args.nodes.now w c.requires.plan c.in-Ok.ensures.made refl
       (c.in_ok-words.ensures
       ∙ ap (λ n. replicate n 0) (c.total.ensures ∙ ap (λ (q : WirePlan). total_words (sizes_of q)) c.in-Ok.ensures.made))
       (subst (λ (q : WirePlan). AreOpened q c.args.nodes.now c.in_ok-members.members.items) (c.plan.ensures.value ∙ c.in-Ok.ensures.made) c.in_ok-members.ensures)
-      (ap (λ (d : FinishedCalls). d.finished) c.new-3.ensures) (ap events_by c.new-4.ensures.items) c.requires.whole few.0 few.1 c.requires.opens,
+      (ap (λ (d : FinishedCalls). d.finished) c.new-3.ensures) (ap events_by c.new-4.ensures.items) c.requires.whole few.0 few.1
+      (c.requires.opens (sym c.in_default.ensures)),
   record {
     replies = omega arith;
     longest = ap (λ (d : FinishedCalls). d.longest) c.new-3.ensures ∙ c.longest_message-longest.ensures ∙ ap most_words c.plan-2.ensures.value;
@@ -67,3 +68,10 @@ pub returns-clause-room : goal.returns-clause-room
 returns-clause-room c n x at =
     (opened_node c.plan.result.now c.args.nodes.now c.in_ok-members.members.items n x c.in_ok-members.ensures at).room
     ∙ ap (λ (q : WirePlan). handle_room q n) (c.plan.ensures.value ∙ c.in-Ok.ensures.made)
+
+pub returns-clause-nodes : goal.returns-clause-nodes
+returns-clause-nodes c =
+    subst (λ (q : WirePlan). AreOpened q c.args.nodes.now c.in_ok-members.members.items) (c.plan.ensures.value ∙ c.in-Ok.ensures.made) c.in_ok-members.ensures
+
+pub returns-clause-named : goal.returns-clause-named
+returns-clause-named c = are_named c.args.plan c.args.terms c.args.nodes.now (sym c.in_default.ensures)
