@@ -1,11 +1,13 @@
 //! Loops of sends and of receives, proved from the clauses of typed ports alone.
-ghost use Rattle.std.specs.Prelude.{◌≡◌, ◌≤◌, ◌∷◌, ℕ, IfSome, []};
+ghost use Rattle.std.specs.Prelude.{◌≡◌, ◌≤◌, ◌∷◌, ℕ, IfSome, OnSome, []};
 ghost use Rattle.iceoryx2_ports.specs.Calls.{HasCallsLeft};
 ghost use Rattle.iceoryx2_ports.specs.Hubs.{HasValue};
+ghost use Rattle.iceoryx2_ports.specs.Idling.{IsIdle};
 ghost use Rattle.iceoryx2_ports.specs.Kind.TheVariants as kinds;
 ghost use Rattle.iceoryx2_ports.specs.Streams.{AddsNothing};
-ghost use Rattle.iceoryx2_ports.specs.Waiting.{AllCarry, client_in, server_of};
+ghost use Rattle.iceoryx2_ports.specs.Waiting.{AllCarry, NothingWaits, client_in, server_of};
 
+use crate::uses_reaching::reads_the_one;
 use crate::{ActiveRequest, Client, Hub, One, PendingResponse, Server};
 
 /// A client sends copies of one value, at most so many, and gives each pending response up. It says
@@ -34,6 +36,45 @@ pub fn asks_many(
         sent = turn + 1;
     }
     sent
+}
+
+/// A client sends copies of one value, one after another, at most so many, and the server takes
+/// each. It says how many were sent, and how many were taken that carry the value: as many. Nothing
+/// more waits for the server then. It says nothing where a copy is refused, or the hub counts no
+/// more calls.
+pub fn asks_in_turn(
+    client: &Client<One<u64>, (), One<u64>, ()>,
+    server: &Server<One<u64>, (), One<u64>, ()>,
+    hub: &mut Hub<One<u64>, (), One<u64>, ()>,
+    value: u64,
+    most: usize,
+) -> Option<(usize, usize)>
+    requires idle { IsIdle hub.old (server_of server.now.number) }
+    ensures each { IfSome result (λ counts. counts.1 ≡ counts.0) }
+    ensures most { IfSome result (λ counts. counts.0 ≤ most) }
+    ensures none { OnSome result (NothingWaits hub.new (server_of server.now.number)) }
+{
+    let mut sent = 0;
+    let mut taken = 0;
+    for turn in 0..most {
+        if !client.exists(hub) || !server.exists(hub) {
+            break;
+        }
+        let Ok(pending) = client.send_copy(hub, value) else {
+            return None;
+        };
+        sent = turn + 1;
+        if hub.calls() >= 1 << 56 {
+            pending.release(hub);
+            return None;
+        }
+        let read = reads_the_one(server, hub);
+        pending.release(hub);
+        if read == value {
+            taken += 1;
+        }
+    }
+    Some((sent, taken))
 }
 
 /// A server answers a request with a copy, if that goes well. For a client for which nothing but
