@@ -2,4 +2,4 @@ pub mod OpensOnOnes
 pub mod OpensOnFour
 pub mod OpensOnWide
 pub mod OpensOnUnits
-pub mod Unnamed
+pub mod NamesOfOnes

@@ -1,7 +1,7 @@
 use Rattle.std.proofs.Common.{true, [], ◌∷◌}
 use Rattle.iox_wire.proofs.NewRefusals.{are_named}
 use Rattle.iox_rows_whole_wire.proofs.OpensOnOnes.{is_plan, whole_terms}
-use Rattle.iox_rows_whole_wire.proofs.Unnamed.{twice}
+use Rattle.iox_rows_whole_wire.proofs.NamesOfOnes.{twice}
 use Rattle.iox_rows_whole_wire.proofs.unnamed.with_a_node_twice.Goals as goal
 
 pub new-requires-clause-plan : goal.new-requires-clause-plan
@@ -11,4 +11,5 @@ pub new-requires-clause-whole : goal.new-requires-clause-whole
 new-requires-clause-whole c = whole_terms _ _ _ _ _ c.in_ok-plan.ensures c.in_ok-terms.ensures
 
 pub new-requires-clause-opens : goal.new-requires-clause-opens
-new-requires-clause-opens c none = absurd (twice _ _ (are_named _ _ (0 ∷ 1 ∷ 0 ∷ []) none))
+new-requires-clause-opens c none =
+    absurd (twice c.in_ok-plan.plan c.in_ok-terms.terms (are_named c.in_ok-plan.plan c.in_ok-terms.terms (0 ∷ 1 ∷ 0 ∷ []) none))
