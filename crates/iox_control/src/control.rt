@@ -111,6 +111,7 @@ impl Control {
     }
 
     /// Visits that lane of each sender to the port, until one gives a message.
+    #[inline(always)]
     pub fn visit(&mut self, port: u64, lane: u64, wanted: Wanted) -> Visits
         ensures visits { result ≡ visits_at self.old.tables port lane wanted }
         ensures visited { self.new ≡ with_tables self.old

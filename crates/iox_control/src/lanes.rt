@@ -134,6 +134,7 @@ impl Control {
     }
 
     /// Closes the request on that lane of the client with each server where it is the open one.
+    #[inline(always)]
     pub fn close_all(&mut self, client: u64, lane: u64, id: u64)
         ensures { self.new ≡ with_tables self.old (with_states (λ r. closed_for r id)
             self.old.tables (map (response_way client lane)

@@ -69,7 +69,7 @@ impl Tally {
     }
 
     /// Counts one less.
-    #[inline]
+    #[inline(always)]
     pub fn discount(&mut self, port: u64, kind: Kind)
         requires { 0 < slice_index_or self.old.counts (tally_place port kind) 0 }
         ensures { self.new.counts ≡ slice_set self.old.counts (tally_place port kind)

@@ -230,6 +230,7 @@ impl Port {
 
     /// Visits the lane of that number of each sender until one gives a message: first of the
     /// senders that are gone.
+    #[inline(always)]
     pub fn visit<L: Labels>(&mut self, lane: usize, wanted: Wanted, labels: &L) -> Visits
         ensures visits { result
             ≡ all_visits wanted (L.label_of labels.now) lane (pipes_of self.old) }

@@ -258,6 +258,7 @@ impl Ports {
     }
 
     /// Visits that lane of each sender to the port of that number, until one gives a message.
+    #[inline(always)]
     pub fn visit<L: Labels>(&mut self, number: u64, lane: u64, wanted: Wanted, labels: &L) -> Visits
         ensures visits { result
             ≡ all_visits wanted (L.label_of labels.now) lane (pipes_to self.old.ports number) }

@@ -115,6 +115,7 @@ pub fn on_each_lane<S: LaneStep>(
 }
 
 /// Takes a step on the request state of that lane, from each port of the role to this receiver.
+#[inline(always)]
 pub fn on_each_state<S: StateStep>(
     ports: &mut Vec<Port>,
     role: Role,

@@ -216,7 +216,7 @@ impl Incoming {
     }
 
     /// Visits the lane of that number of each sender, in their order, until one gives a message.
-    #[inline]
+    #[inline(always)]
     #[tactic(auto, using(crate::proofs::Visiting::none_comes))]
     pub fn visit_all<L: Labels>(&mut self, lane: usize, wanted: Wanted, labels: &L) -> Visits
         ensures visits { result ≡ all_visits wanted (L.label_of labels.now) lane self.old.pipes }

@@ -60,6 +60,7 @@ impl Ports {
     }
 
     /// Closes the request on that lane of the client with each server where it is the open one.
+    #[inline(always)]
     pub fn close_all(&mut self, client: u64, lane: u64, id: u64)
         ensures { self.new ≡ with_ports self.old
             (with_states_on (λ r. closed_for r id) self.old.ports
