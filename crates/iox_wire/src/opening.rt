@@ -163,8 +163,8 @@ fn overflows_with_room(plan: &WirePlan) -> bool
 /// Whether the terms fit the plan, each port has a slot, and each queue that overflows has room for
 /// a message. With `is_plan` that is all that can be tested of what `Wire::new` asks, but that
 /// messages have layouts (`have_layouts`), and what it tests itself (`new_refusal`): that a wire of
-/// both may `open` follows from the service that they were made of, and is for those to say who have
-/// it.
+/// both may `open` follows from the service that they were made of, and is for those to say who
+/// have it.
 pub fn is_whole(plan: &WirePlan, terms: &WireTerms) -> bool
     ensures { IsTrue result ↔ AreWhole plan.now terms.now }
 {
@@ -198,8 +198,8 @@ pub fn have_layouts(plan: &WirePlan) -> bool
 }
 
 /// Why no wire is made of the plan, the terms and these nodes, whatever memory there is. The first
-/// that applies is told: too many words, that numbers are spent, a node that is listed twice, a port
-/// of none of the nodes, and a port that has the number of a handle.
+/// that applies is told: too many words, that numbers are spent, a node that is listed twice, a
+/// port of none of the nodes, and a port that has the number of a handle.
 pub fn new_refusal(plan: &WirePlan, terms: &WireTerms, nodes: &[u64]) -> Option<WireNewError>
     requires { AreDistinct (port_numbers plan.now) }
     ensures { result ≡ new_refusal plan.now terms.now nodes.now }

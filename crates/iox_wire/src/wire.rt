@@ -78,9 +78,9 @@ impl Wire {
     ghost use Rattle.iox_wire.specs.declared.new_error.WireNewError.TheVariants as new_errors;
 
     /// A wire of that plan, with these nodes alive, on which nothing happened yet. Each node has
-    /// room for all handles that its ports may have. Where `new_refusal` tells nothing, the plan and
-    /// the terms are to be those of a service on which a wire may open, and nothing but want of
-    /// memory is told.
+    /// room for all handles that its ports may have. Where `new_refusal` tells nothing, the plan
+    /// and the terms are to be those of a service on which a wire may open, and nothing but want
+    /// of memory is told.
     pub fn new(
         alloc: Global,
         plan: WirePlan,
