@@ -92,7 +92,7 @@ module _ (z : State) (reached : IsReachableState z) (node n : ℕ) (p : Port) (c
     refusal_is_none (replies.Refused x) q e = true≢false (sym e)
     refusal_is_none r q e = absurd q
 
-    -- what waits on each way is as before a copy that is refused
+    -- what is waiting on each way is as before a copy that is refused
     module _ (reply : Reply) (told : IsRefusal reply) where
       abbrev Stays : Type 0
       Stays = (w : Way) → t.waiting w ≡ z.waiting w

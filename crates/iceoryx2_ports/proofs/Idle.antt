@@ -222,7 +222,7 @@ module _ (old new : HubState) (hub : IsHub old) (node : ℕ) (role : Role) (id :
       let c = whole (nothing_given old) in
       made_or (making_refusal s.fixed role o c.0) c.1
 
-  -- what waits stays
+  -- what is waiting stays
   waits : (w : Way) → (shown new).waiting w ≡ s.waiting w
   waits w = elim made as (λ q. (shown new).waiting w ≡ s.waiting w) [
     | inl c ↦ ap (λ (v : m.State). v.waiting w) c.1

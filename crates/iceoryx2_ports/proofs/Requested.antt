@@ -148,7 +148,7 @@ receiver_of_way client (n ∷ ns) w e =
 
 -- ---- lists
 
--- where none waited, what waits is what came
+-- where none waited, what is waiting is what came
 one_left : (m a : Message) (b : ℕ) → IsOneOf a (newest b (m ∷ [])) → a ≡ m
 one_left m a b = left (1 - b)
   where

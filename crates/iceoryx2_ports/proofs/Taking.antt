@@ -1,4 +1,4 @@
--- What a receive that hands out a handle leaves of what waits, and of what receivers have.
+-- What a receive that hands out a handle leaves of what is waiting, and of what receivers have.
 use Rattle.std.specs.Prelude.{◌≡◌, ℕ, ◌+◌, ◌≤◌, Bool, true, false, ◌==◌, if◌then◌else◌, List, [], ◌∷◌, ◌++◌, find, length, Option, None, Some}
 use Rattle.std.specs.Option.{option_map_or}
 use Rattle.std.proofs.Common.{sym, ap, subst, ◌∙◌, arith}

@@ -9,13 +9,13 @@ use Rattle.iceoryx2_ports.specs.declared.active_request.ActiveRequest.{ActiveReq
 use Rattle.iceoryx2_ports.specs.declared.errors.ReceiveError.{ReceiveError}
 use Rattle.iceoryx2_ports.specs.declared.response.Response.{Response}
 
--- what a server's receive answers; it is refused at the limit of borrows alone
+-- what a server's receive answers; it is refused only at the limit of borrows
 abbrev pub reply_of_request : {Q QH P PH : Type 0} → Result (Option (ActiveRequest Q QH P PH)) ReceiveError → Reply
 reply_of_request (Ok (Some request)) = replies.Handle request.number
 reply_of_request (Ok None) = replies.Nothing
 reply_of_request (Err e) = replies.Refused ExceedsMaxBorrows
 
--- what the receive of a pending response answers; it is refused at the limit of borrows alone
+-- what the receive of a pending response answers; it is refused only at the limit of borrows
 abbrev pub reply_of_response : {Q QH P PH : Type 0} → Result (Option (Response Q QH P PH)) ReceiveError → Reply
 reply_of_response (Ok (Some response)) = replies.Handle response.number
 reply_of_response (Ok None) = replies.Nothing

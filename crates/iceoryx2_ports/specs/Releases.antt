@@ -18,7 +18,7 @@ use Rattle.iceoryx2_ports.specs.Streams.{AddsNothing}
 
 -- A value of that kind is released: what it stands for is gone, if the node still has that, though a
 -- command may have filled it; else nothing changes. All other values are as they were, nothing comes
--- where nothing waited or is added to what waits, who had room or was idle still has it or is, and
+-- where nothing waited or is added to what is waiting, who had room or was idle still has it or is, and
 -- other open requests are open still. Only the release of a pending response ends one.
 pub record IsReleased (old : HubState) (node n : ℕ) (kind : Kind) (new : HubState) : Type 0 where
   pub whole : (x : Given) → IsRelease (state_of_hub x old) node n kind (state_of_hub x new)

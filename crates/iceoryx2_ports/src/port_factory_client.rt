@@ -123,7 +123,7 @@ impl<Q: Payload, QH: Words, P: Payload, PH: Words, H: Backpressure> PortFactoryC
     }
 
     /// Lets that handler say what comes of a request for a full server, in place of the strategy.
-    /// It is asked about each full server by itself.
+    /// It is asked about each full server singly.
     pub fn set_backpressure_handler(self, handler: H) -> Self
         ensures { result ≡ record self { handler = Some handler } }
     {

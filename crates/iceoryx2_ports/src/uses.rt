@@ -1,4 +1,4 @@
-//! Callers of typed ports, proved from their clauses alone.
+//! Callers of typed ports, proved only from their clauses.
 ghost use Rattle.std.specs.Prelude.{◌≡◌, IfErr, IfOk, IfSome, IsOk, flat_map};
 ghost use Rattle.iceoryx2_ports.specs.Calls.{HasCallsLeft};
 ghost use Rattle.iceoryx2_ports.specs.Kind.TheVariants as kinds;

@@ -1,4 +1,4 @@
-//! What is answered is received, proved from the clauses of typed ports alone.
+//! What is answered is received, proved only from the clauses of typed ports.
 ghost use Rattle.std.specs.Prelude.{◌≡◌, ◌∷◌, IfOk, IfSome, OnOk, [], true};
 ghost use Rattle.iceoryx2_ports.specs.Calls.{HasCallsLeft};
 ghost use Rattle.iceoryx2_ports.specs.Kind.TheVariants as kinds;

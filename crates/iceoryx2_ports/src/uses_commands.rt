@@ -1,4 +1,4 @@
-//! Commands beside typed ports, proved from their clauses alone.
+//! Commands beside typed ports, proved only from their clauses.
 ghost use Rattle.std.specs.Prelude.{◌≡◌, false};
 ghost use Rattle.iceoryx2_ports.specs.Call.TheVariants.{Send};
 ghost use Rattle.iceoryx2_ports.specs.Kind.TheVariants as kinds;

@@ -1,5 +1,5 @@
-//! A client asks and a server answers by copies, with other calls in between, proved from the
-//! clauses of typed ports alone.
+//! A client asks and a server answers by copies, with other calls in between, proved only
+//! from the clauses of typed ports.
 ghost use Rattle.std.specs.Bool.{OnTrue};
 ghost use Rattle.std.specs.Prelude.{◌≡◌, ◌∷◌, IfOk, IfSome, OnOk, [], true};
 ghost use Rattle.iceoryx2_ports.specs.Asking.{AllAsk, IsQuiet, is_open_at};

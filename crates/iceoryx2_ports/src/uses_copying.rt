@@ -1,4 +1,4 @@
-//! A client and a server exchange copies, proved from the clauses of typed ports alone.
+//! A client and a server exchange copies, proved only from the clauses of typed ports.
 ghost use Rattle.std.specs.Prelude.{◌≡◌, ◌∷◌, IfErr, IfOk, []};
 ghost use Rattle.iceoryx2_ports.specs.Kind.TheVariants as kinds;
 ghost use Rattle.iceoryx2_ports.specs.Hubs.{HasValue, IsReached};

@@ -1,5 +1,5 @@
 //! A client asks with a value, a server reads it and answers with another one, and the client reads
-//! that, proved from the clauses of typed ports alone.
+//! that, proved only from the clauses of typed ports.
 ghost use Rattle.std.specs.Prelude.{◌≡◌, ◌∷◌, ℕ, IfOk, IfSome, IsOk, OnErr, OnOk, [], true};
 ghost use Rattle.iceoryx2_ports.specs.Asking.{AllAsk, IsQuiet, is_open_at};
 ghost use Rattle.iceoryx2_ports.specs.Calls.{HasCallsLeft};

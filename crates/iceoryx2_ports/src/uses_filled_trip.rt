@@ -1,5 +1,5 @@
-//! A client asks and a server answers with loans that are filled piece by piece, proved from the
-//! clauses of typed ports alone.
+//! A client asks and a server answers with loans that are filled piece by piece, proved only
+//! from the clauses of typed ports.
 ghost use Rattle.std.specs.Bool.{OnTrue};
 ghost use Rattle.std.specs.Prelude.{◌≡◌, ◌∷◌, IfOk, IfSome, OnOk, OnSome, [], true};
 ghost use Rattle.iceoryx2_ports.specs.Asking.{AllAsk, IsQuiet, is_open_at};
@@ -77,7 +77,7 @@ pub fn asks_1234(
     Ok(pending)
 }
 
-/// A server that can receive that request alone receives it, and reads 1234. It is open, and its
+/// A server that can receive only that request receives it, and reads 1234. It is open, and its
 /// client still waits for the response.
 pub fn serves_1234(
     server: &Server<One<u64>, (), One<u64>, ()>,
@@ -176,7 +176,7 @@ pub fn answers_456_over_1234(
     false
 }
 
-/// A client that can receive 456 alone reads 456.
+/// A client that can receive only 456 reads 456.
 pub fn hears_456(
     pending: &PendingResponse<One<u64>, (), One<u64>, ()>,
     hub: &mut Hub<One<u64>, (), One<u64>, ()>,

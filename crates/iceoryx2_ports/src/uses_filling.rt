@@ -1,4 +1,4 @@
-//! Loans are filled piece by piece, proved from the clauses of typed ports alone.
+//! Loans are filled piece by piece, proved only from the clauses of typed ports.
 ghost use Rattle.std.specs.Prelude.{◌≡◌, ◌∷◌, IfOk, []};
 ghost use Rattle.iceoryx2_ports.specs.Kind.TheVariants as kinds;
 ghost use Rattle.iceoryx2_ports.specs.Hubs.{HasValue};

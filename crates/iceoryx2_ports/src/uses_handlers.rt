@@ -1,4 +1,4 @@
-//! Callers of ports with handlers and with chosen pools, proved from their clauses alone.
+//! Callers of ports with handlers and with chosen pools, proved only from their clauses.
 ghost use Rattle.std.specs.Prelude.{IfOk};
 ghost use Rattle.iceoryx2_ports.specs.Hubs.{HasValue};
 ghost use Rattle.iceoryx2_ports.specs.Kind.TheVariants as kinds;

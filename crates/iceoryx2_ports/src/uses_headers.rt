@@ -1,4 +1,4 @@
-//! Callers that read headers and ids, proved from the clauses of typed ports alone.
+//! Callers that read headers and ids, proved only from the clauses of typed ports.
 ghost use Rattle.std.specs.Prelude.{◌≡◌, ◌∷◌, IfOk, IfSome, IsSome, Some, [], true};
 ghost use Rattle.std.specs.Bool.{OnTrue};
 ghost use Rattle.iceoryx2_ports.specs.Calls.{HasCallsLeft};

@@ -1,4 +1,4 @@
-//! What stays over other calls, proved from the clauses of typed ports alone.
+//! What stays over other calls, proved only from the clauses of typed ports.
 ghost use Rattle.std.specs.Prelude.{◌≡◌, ◌∷◌, IfOk, IsSome, []};
 ghost use Rattle.iceoryx2_ports.specs.Calls.{HasCallsLeft};
 ghost use Rattle.iceoryx2_ports.specs.Hubs.{HasValue};

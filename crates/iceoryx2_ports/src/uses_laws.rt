@@ -1,4 +1,4 @@
-//! Callers of the laws, proved from their clauses alone.
+//! Callers of the laws, proved only from their clauses.
 ghost use Rattle.iceoryx2_ports.specs.HubConnected.{KeepsNone};
 ghost use Rattle.iceoryx2_ports.specs.HubGone.{KeepsFewGone, KeepsNoGone};
 ghost use Rattle.iceoryx2_ports.specs.HubHistories.{AreAsDelivered, ComeAtMostOnce};

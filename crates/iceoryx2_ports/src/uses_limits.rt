@@ -1,5 +1,5 @@
-//! Loans within the limits succeed, and those past them are refused as such, proved from the
-//! clauses of typed ports alone.
+//! Loans within the limits succeed, and those past them are refused as such, proved only
+//! from the clauses of typed ports.
 ghost use Rattle.std.specs.Prelude.{◌≡◌, IfSome};
 ghost use Rattle.iceoryx2_ports.specs.Counts.{requests_on_loan};
 ghost use Rattle.iceoryx2_ports.specs.Kind.TheVariants as kinds;

@@ -1,4 +1,4 @@
-//! Loops of sends and of receives, proved from the clauses of typed ports alone.
+//! Loops of sends and of receives, proved only from the clauses of typed ports.
 ghost use Rattle.std.specs.Prelude.{◌≡◌, ◌≤◌, ◌∷◌, ℕ, IfSome, OnSome, []};
 ghost use Rattle.iceoryx2_ports.specs.Calls.{HasCallsLeft};
 ghost use Rattle.iceoryx2_ports.specs.Hubs.{HasValue};
@@ -126,7 +126,7 @@ pub fn answers_many(
 }
 
 /// A client takes the next response, if one is there, and reads it. If all that waits carries one
-/// value, it reads that; and nothing is added to what waits.
+/// value, it reads that; and nothing is added to what is waiting.
 pub fn hears_next(
     pending: &PendingResponse<One<u64>, (), One<u64>, ()>,
     hub: &mut Hub<One<u64>, (), One<u64>, ()>,

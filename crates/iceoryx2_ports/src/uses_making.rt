@@ -1,4 +1,4 @@
-//! Ports are made as their makers ask, proved from the clauses of typed ports alone.
+//! Ports are made as their makers ask, proved only from the clauses of typed ports.
 ghost use Rattle.std.specs.Prelude.{◌≡◌, IfOk};
 ghost use Rattle.iceoryx2_ports.specs.Kind.TheVariants as kinds;
 ghost use Rattle.iceoryx2_ports.specs.Hubs.{HasValue};

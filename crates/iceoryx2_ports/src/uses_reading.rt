@@ -1,4 +1,4 @@
-//! A server receives what waits for it, proved from the clauses of typed ports alone.
+//! A server receives what waits for it, proved only from the clauses of typed ports.
 ghost use Rattle.std.specs.Prelude.{ℕ};
 ghost use Rattle.iceoryx2_ports.specs.Calls.{HasCallsLeft};
 ghost use Rattle.iceoryx2_ports.specs.Messages.{Message};

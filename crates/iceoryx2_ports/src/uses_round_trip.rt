@@ -1,5 +1,5 @@
-//! A client asks, a server answers, and the client reads the answer, proved from the clauses of
-//! typed ports alone.
+//! A client asks, a server answers, and the client reads the answer, proved only from the
+//! clauses of typed ports.
 ghost use Rattle.std.specs.Bool.{OnTrue};
 ghost use Rattle.std.specs.Prelude.{◌≡◌, ◌∷◌, IfOk, IfSome, OnOk, [], true};
 ghost use Rattle.iceoryx2_ports.specs.Asking.{AllAsk, IsQuiet, is_open_at};
@@ -70,7 +70,7 @@ pub fn asks_456(
     Ok(pending)
 }
 
-/// A server that can receive that request alone receives it, and reads 456. It is open, and its
+/// A server that can receive only that request receives it, and reads 456. It is open, and its
 /// client still waits for the response.
 pub fn serves_456(
     server: &Server<One<u64>, (), One<u64>, ()>,
@@ -138,7 +138,7 @@ pub fn answers_789(
     false
 }
 
-/// A client that can receive 789 alone reads 789.
+/// A client that can receive only 789 reads 789.
 pub fn hears_789(
     pending: &PendingResponse<One<u64>, (), One<u64>, ()>,
     hub: &mut Hub<One<u64>, (), One<u64>, ()>,

@@ -1,4 +1,4 @@
-//! A server answers what it receives, proved from the clauses of typed ports alone.
+//! A server answers what it receives, proved only from the clauses of typed ports.
 ghost use Rattle.std.specs.Bool.{OnTrue};
 ghost use Rattle.std.specs.Prelude.{◌≡◌, ◌∷◌, IfSome, OnOk, OnSome, [], true};
 ghost use Rattle.iceoryx2_ports.specs.Asking.{AllAsk, is_open_at};
@@ -125,8 +125,8 @@ pub fn answers(
     Err(SendError::from(LoanError::CallsSpent))
 }
 
-/// A server answers what waits with 871238, one request after the other, at most so many. It says
-/// whether one is left, as the machine tells, unless the server is gone.
+/// A server answers what is waiting with 871238, one request after the other, at most so many. It
+/// says whether one is left, as the machine tells, unless the server is gone.
 pub fn serves_what_waits(
     server: &Server<One<u64>, (), One<u64>, ()>,
     hub: &mut Hub<One<u64>, (), One<u64>, ()>,

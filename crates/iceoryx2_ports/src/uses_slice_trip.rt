@@ -1,4 +1,4 @@
-//! Slices are filled and sent, and who receives them, proved from the clauses of typed ports alone.
+//! Slices are filled and sent, and who receives them, proved only from the clauses of typed ports.
 ghost use Rattle.std.specs.Prelude.{◌≡◌, ◌∷◌, IfOk, IsSome, List, OnOk, Some, [], flat_map};
 ghost use Rattle.std.specs.Prelude.{length, replicate};
 ghost use Rattle.iceoryx2_ports.specs.Answering.{GivesInTurn};

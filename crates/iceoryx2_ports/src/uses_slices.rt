@@ -1,4 +1,4 @@
-//! Messages of many elements, proved from the clauses of typed ports alone.
+//! Messages of many elements, proved only from the clauses of typed ports.
 ghost use Rattle.std.specs.Prelude.{◌≡◌, ◌∷◌, IfOk, IsSome, List, OnOk, Some, [], flat_map};
 ghost use Rattle.std.specs.Prelude.{length};
 ghost use Rattle.iceoryx2_ports.specs.Answering.{GivesInTurn};

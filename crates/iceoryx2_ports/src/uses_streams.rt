@@ -1,5 +1,5 @@
 //! Several responses to one request, and loans that are filled element by element or put anew,
-//! proved from the clauses of typed ports alone.
+//! proved only from the clauses of typed ports.
 ghost use Rattle.std.specs.Prelude.{◌≡◌, ◌∷◌, IfOk, IsSome, OnOk, [], true};
 ghost use Rattle.std.specs.Bool.{OnTrue};
 ghost use Rattle.iceoryx2_ports.specs.Call.TheVariants.{HasHint, Send};

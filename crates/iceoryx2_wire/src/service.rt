@@ -40,7 +40,7 @@ impl<Q: Payload, QH: Words, P: Payload, PH: Words, H: Backpressure> Model
     } };
 }
 
-/// Its name and its number alone, since its tables are long.
+/// Only its name and its number, since its tables are long.
 impl<Q: Payload, QH: Words, P: Payload, PH: Words, H: Backpressure> fmt::Debug
     for Service<Q, QH, P, PH, H> {
     fn fmt<W: fmt::Write>(&self, f: &mut fmt::Formatter<W>) -> fmt::Result {

@@ -1,5 +1,5 @@
 pub mod Answers
 pub mod Failing
 pub mod Handlers
--- for proofs of this crate alone: what a trait asks for of its types
+-- only for proofs of this crate: what a trait asks for of its types
 pub mod AlwaysLaws

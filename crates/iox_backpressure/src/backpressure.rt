@@ -15,7 +15,7 @@ pub struct BackpressureInfo {
 /// A handler: it says what a port does where a receiver is full. A port that has none follows its
 /// strategy.
 ///
-/// What it answers follows from its value and from the two ports alone. So it answers the same
+/// What it answers follows only from its value and from the two ports. So it answers the same
 /// however often it is asked, and a state shows it by its answers.
 pub trait Backpressure: Words {
     /// What it answers, for this sender and this receiver.

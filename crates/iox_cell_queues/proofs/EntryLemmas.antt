@@ -1,4 +1,4 @@
--- Entries of a schedule have one end each at a machine of a queue of values, the queue stays where it stands, and what was handed out comes before what waits.
+-- Entries of a schedule have one end each at a machine of a queue of values, the queue stays where it stands, and what was handed out comes before what is waiting.
 use Rattle.std.proofs.Common.{◌≡◌, ◌∙◌, ℕ, zero, suc, List, [], ◌∷◌, ◌++◌, ◌≤◌, length, refl, ap, subst, Option, Some, None, Result, Ok, Err, IfOk, IfErr, OnOk, OnErr, true≢false, slice_index_or, slice_set}
 use Rattle.std.specs.Option.{option_to_list}
 use Rattle.std.proofs.lemmas.Option.{slice_get-map, slice_get_read}
@@ -153,7 +153,7 @@ module _ {A : Type 0} {width : ℕ} (W : Ghosts A) where
   )
   step_enters old number new (Err error) step same = (tt, tt, ap site_of same)
 
-  -- what was handed out, and then what waits, is what was published
+  -- what was handed out, and then what is waiting, is what was published
   sides_order : (site : CellSite) (list : List ℕ) (a b : CellSide A width) (events : List (CellEvent A)) → BothAfterCalls W.words W.of_words site list a b events
       → (published events ≡ departed events ++ values W site list) × (length (values W site list) ≤ site.capacity)
   sides_order site list (Pusher pushes) (Popper pops) events played =

@@ -76,7 +76,7 @@ module _ {A : Type 0} {width : ℕ} (words : A → List ℕ) (of_words : List �
   second_event state (Pusher pushes) (Pusher other) shown room = absurd shown
   second_event state (Popper pops) b shown room = absurd shown
 
-  -- a queue that was played on shows what waits, and has its words
+  -- a queue that was played on shows what is waiting, and has its words
   sides_show : (a b : CellSide A width) (events : List (CellEvent A)) → BothAfterCalls words of_words site list a b events
       → ((state : CellQueueState A) × SidesShow words of_words site list a b state) × HasRoom site list
   sides_show (Pusher pushes) (Popper pops) events played =

@@ -26,7 +26,7 @@ use Rattle.iox_cell_queues.specs.CellMachines.{CellStepped, CellBegun, AllCellsE
 use Rattle.iox_cell_queues.proofs.EventLemmas.{parties_show, event_from}
 
 module _ {A : Type 0} {width : ℕ} (count : ℕ) (words : A → List ℕ) (of_words : List ℕ → Option A) (site : CellSite) (list : List ℕ) (state : CellQueueState A) where
-  -- a party that begins a call leaves what waits
+  -- a party that begins a call leaves what is waiting
   first_shows : (a b after : CellSide A width) (call : CellCall A) → count ≡ site.width → SidesShow words of_words site list a b state
       → IsBegun count words of_words a call after → SidesShow words of_words site list after b state
   first_shows (Pusher pushes) (Popper pops) after (Push value) wide shown begun =

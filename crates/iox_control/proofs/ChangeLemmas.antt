@@ -1,4 +1,4 @@
--- A handle is changed or dropped by its number alone, if it is the node's.
+-- A handle is changed or dropped by its number only, if it is the node's.
 use Rattle.std.specs.Prelude.{◌≡◌, ℕ, ◌+◌, Bool, true, false, ◌&&◌, ◌==◌, if◌then◌else◌, List, [], ◌∷◌, Option, IsSome, Some, None, refl}
 use Rattle.std.proofs.Common.{sym, ap, ◌∙◌, true≢false}
 use Rattle.std.proofs.lemmas.Option.{none-some}

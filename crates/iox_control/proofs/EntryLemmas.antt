@@ -1,4 +1,4 @@
--- What is found, dropped and changed in the table of handles by number alone is so by node and number.
+-- What is found, dropped and changed in the table of handles by number only is so by node and number.
 use Rattle.std.specs.Prelude.{◌≡◌, ℕ, Bool, true, false, not, ◌&&◌, ◌||◌, ◌==◌, if◌then◌else◌, List, [], ◌∷◌, ◌++◌, map, filter, find, Option, Some, None, refl}
 use Rattle.std.specs.List.{list_any}
 use Rattle.std.specs.Option.{option_and_then, option_map}
@@ -155,7 +155,7 @@ changed_list (h ∷ hs) e new of at = changed_step hs h e new (h.number == new.n
 
 -- ---- for the calls of a hub
 
--- the node's handle of a number is found by the number alone
+-- the node's handle of a number is found by the number only
 pub found_by_number : (t : Contents) (node n : ℕ) (e : Entry) → handle_at t n ≡ Some e → e.node ≡ node
     → handle_in (handles_of t) node n ≡ Some (handle_state e)
 found_by_number t node n e at of = found_list t.handles node n e of at
@@ -169,12 +169,12 @@ pub none_of_node : (t : Contents) (node n : ℕ) (e : Entry) → IsSound t → h
     → handle_in (handles_of t) node n ≡ None
 none_of_node t node n e sound at of = foreign_list t.handles node n e sound.apart of at
 
--- a handle is dropped by its number alone
+-- a handle is dropped by its number only
 pub dropped_by_number : (t : Contents) (node n : ℕ) (e : Entry) → IsSound t → handle_at t n ≡ Some e → e.node ≡ node
     → dropped_handles node n (handles_of t) ≡ handles_of (removed t n)
 dropped_by_number t node n e sound at of = dropped_list t.handles node n e sound.apart of at
 
--- a handle is changed by its number alone
+-- a handle is changed by its number only
 pub changed_by_number : (t : Contents) (e new : Entry) → handle_at t new.number ≡ Some e → e.node ≡ new.node
     → changed_handles (handle_state new) (handles_of t) ≡ handles_of (changed t new)
 changed_by_number t e new at of = changed_list t.handles e new of at

@@ -33,7 +33,7 @@ seat_of p = record { number = p.number; role = p.role; most = p.incoming.most }
 abbrev pub seats_of : List PortState → List Seat
 seats_of ports = map seat_of ports
 
--- ---- room depends on that alone
+-- ---- room depends only on that
 
 abbrev numbers_by : Role → List Seat → List ℕ
 numbers_by role seats = map (λ s. s.number) (filter (λ s. same_role s.role role) seats)

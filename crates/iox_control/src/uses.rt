@@ -1,4 +1,4 @@
-//! Callers of a hub's tables, proved from the clauses alone.
+//! Callers of a hub's tables, proved only from the clauses.
 ghost use Rattle.std.specs.Prelude.{◌≡◌, IfOk, None, true};
 ghost use Rattle.iox_hub_ports.specs.HubStates.Wirings.{IsPending, IsServer};
 ghost use Rattle.iox_control.specs.Controls.{IsControl};

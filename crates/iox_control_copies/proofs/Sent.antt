@@ -54,7 +54,7 @@ use Rattle.iox_hub_ports.specs.Ports.{on_way}
 use Rattle.iox_control_copies.specs.Answers.{way_of, with_copy_lost}
 use Rattle.iox_control_copies.proofs.Lanes.{lane_back, the_lane}
 
--- ---- pools that differ in holders alone
+-- ---- pools that differ only in holders
 
 -- ---- the copy
 

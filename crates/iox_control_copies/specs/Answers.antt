@@ -126,7 +126,7 @@ CopyComesTo c y a fails Undelivered new =
 CopyComesTo c y a fails (Refused r) new = IsRefused c y a (refusal_of r) new
 CopyComesTo c y a fails OutOfMemory new = FindsDry c y a new
 
--- ---- for proofs of this crate alone
+-- ---- only for proofs of this crate
 
 -- the response is written to that slot, whoever has it
 abbrev pub pools_written : ControlState → Lender → Asked → ℕ → List (Option PoolState)

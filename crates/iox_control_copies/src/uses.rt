@@ -1,4 +1,4 @@
-//! Callers of the copy of a response, proved from the clauses alone.
+//! Callers of the copy of a response, proved only from the clauses.
 ghost use Rattle.iox_tables.specs.HubLoans.Lenders.{IsActive};
 ghost use Rattle.iox_control.specs.Controls.{IsControl};
 

@@ -1,4 +1,4 @@
-//! Callers of the end of a loan, proved from the clauses alone.
+//! Callers of the end of a loan, proved only from the clauses.
 ghost use Rattle.std.specs.Prelude.{◌<◌, ◌^◌};
 ghost use Rattle.iox_control.specs.Controls.{IsControl};
 ghost use Rattle.iox_control_ending.specs.Endings.{IsLoan};

@@ -77,7 +77,7 @@ fn lanes_held(pools: &Pools, pool: usize, held: usize) -> u64
     mask
 }
 
-/// The same, where so many slots of the client's pool are had by somebody.
+/// The same, where somebody has so many slots of the client's pool.
 ///
 /// Where each message that somebody has is a loaned request or has a pending response, their lanes
 /// are looked at once.

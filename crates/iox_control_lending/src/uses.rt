@@ -1,4 +1,4 @@
-//! Callers of loans and writes, proved from the clauses alone.
+//! Callers of loans and writes, proved only from the clauses.
 ghost use Rattle.iox_tables.specs.HubLoans.Lenders.{IsClient};
 ghost use Rattle.iox_control.specs.Controls.{IsControl};
 ghost use Rattle.iox_control_lending.specs.Fills.{IsLoan};

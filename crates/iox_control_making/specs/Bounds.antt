@@ -1,4 +1,4 @@
--- How many lanes there are between ports, and how many handles may come, by roles and sizes alone.
+-- How many lanes there are between ports, and how many handles may come, by roles and sizes only.
 use Rattle.std.specs.Prelude.{◌≡◌, ℕ, ◌+◌, ◌*◌, ◌≤◌, if◌then◌else◌, List, length}
 use Rattle.iox_model.specs.declared.kind.Role.{Role}
 use Rattle.iox_model.specs.declared.kind.Role.TheVariants.{Client, Server}

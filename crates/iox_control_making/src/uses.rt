@@ -1,4 +1,4 @@
-//! Callers of the making, proved from its clauses alone.
+//! Callers of the making, proved only from its clauses.
 ghost use Rattle.std.specs.Prelude.{◌≡◌, ◌+◌, IfOk, true};
 ghost use Rattle.iox_control.specs.Controls.{IsControl};
 

@@ -124,7 +124,7 @@ module _ (x : Given) (t : HubTables) (node n : ℕ) (h : HandleState) (order : A
   ends kinds.ResponseMutUninit e = loans_end x t node n h named (ap is_received e) (ap (λ k. same_kind k kinds.PendingResponse) e) may
   ends kinds.ResponseMut e = loans_end x t node n h named (ap is_received e) (ap (λ k. same_kind k kinds.PendingResponse) e) may
 
--- pools that differ in holders alone show the same, also once the port is gone
+-- pools that differ only in holders show the same, also once the port is gone
 same_shown : (x : Given) (t : HubTables) (pools : List (Option PoolState)) (n : ℕ) → bare_pools t.pools ≡ bare_pools pools
     → state_shown x (with_released t n) ≡ state_shown x (with_released (record t { pools = pools }) n)
 same_shown x t pools n bare = step (is_unused t n)

@@ -9,7 +9,7 @@ use Rattle.iox_tables.specs.HubBooks.Counts.{in_pipe}
 use Rattle.iox_tables.specs.HubBooks.Keeps.{bare_pools}
 use Rattle.iox_control.specs.Controls.{ControlState, with_tables}
 
--- Pools differ in holders alone: each slot has so many less, or none where it had no more.
+-- Pools differ only in holders: each slot has so many less, or none where it had no more.
 pub record LetsGo (old new : List (Option PoolState)) (fewer : ℕ → ℕ → ℕ) : Type 0 where
   pub same : bare_pools old ≡ bare_pools new
   pub holders :

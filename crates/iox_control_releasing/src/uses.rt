@@ -1,4 +1,4 @@
-//! Callers of releases, proved from the clauses alone.
+//! Callers of releases, proved only from the clauses.
 ghost use Rattle.std.specs.Prelude.{◌≡◌};
 ghost use Rattle.iox_tables.specs.HubStates.States.{Given, state_shown};
 ghost use Rattle.iox_model.specs.WholeCalls.{IsWholeCall};

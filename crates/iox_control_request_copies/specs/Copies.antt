@@ -120,7 +120,7 @@ Copies c p a fails UnableToDeliver new =
 Copies c p a fails (Refused r) new = IsRefused c (lender_of_request p 0) a (refusal_of r) new
 Copies c p a fails OutOfMemory new = FindsDry c (lender_of_request p 0) a new
 
--- ---- for proofs of this crate alone
+-- ---- only for proofs of this crate
 
 -- what it comes to where it cannot be sent: why no loan is made for it, or else it is lost
 abbrev pub Loses : ControlState → PortState → Asked → Option Copied → ControlState → Type 0

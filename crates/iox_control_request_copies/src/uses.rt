@@ -1,4 +1,4 @@
-//! Callers of the copy of a request, proved from the clauses alone.
+//! Callers of the copy of a request, proved only from the clauses.
 ghost use Rattle.iox_tables.specs.HubLoans.Lenders.{IsClient};
 ghost use Rattle.iox_control.specs.Controls.{IsControl};
 

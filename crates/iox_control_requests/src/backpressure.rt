@@ -14,7 +14,7 @@ pub trait WhenFull {
         ensures { result ≡ fails self.now way };
 }
 
-/// No handler is set: the strategy alone decides.
+/// No handler is set: only the strategy decides.
 #[derive(Clone, Copy, Drop)]
 pub struct ByStrategy {
     pub strategy: BackpressureStrategy,

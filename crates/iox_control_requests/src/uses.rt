@@ -1,4 +1,4 @@
-//! Callers of the sends of requests, proved from the clauses alone.
+//! Callers of the sends of requests, proved only from the clauses.
 ghost use Rattle.std.specs.Prelude.{◌≡◌, ◌<◌, ◌^◌, true};
 ghost use Rattle.iox_tables.specs.HubStates.Wirings.{IsHandle};
 ghost use Rattle.iox_model.specs.Handles.{is_request_loan};

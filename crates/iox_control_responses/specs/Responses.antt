@@ -79,7 +79,7 @@ with_response_ended t node n h fails =
       calls = if is_undelivered t h fails then t.calls else t.calls + 1;
     }
 
--- ---- for proofs of this crate alone
+-- ---- only for proofs of this crate
 
 -- what is pushed out of the lane has one holder less
 abbrev pub pools_after_push : HubTables → Way → ℕ → List (Option PoolState)

@@ -1,4 +1,4 @@
-//! Callers of the send of a response, proved from the clauses alone.
+//! Callers of the send of a response, proved only from the clauses.
 ghost use Rattle.std.specs.Prelude.{◌<◌, ◌^◌};
 ghost use Rattle.iox_control.specs.Controls.{IsControl};
 ghost use Rattle.iox_control_responses.specs.Responses.{IsResponse};

@@ -146,7 +146,7 @@ pub record IsNext (ports : List PortState) (ws : List Way) (w : Way) : Type 0 wh
   pub none : OfEachWay (IsEmptied ports) before
   pub apart : has_way w behind ≡ false
 
--- one way alone
+-- a single way
 pub only : (ports : List PortState) (w : Way) → IsNext ports (w ∷ []) w
 only ports w = record { before = []; behind = []; split = refl; none = tt; apart = refl }
 

@@ -93,7 +93,7 @@ module _ (t : HubTables) (n : ℕ) where
   ways_by_place Client = to_servers t.ports
   ways_by_place Server = to_clients t.ports
 
--- they depend on what is said of ports alone
+-- they depend only on what is said of ports
 pub same_ways : (t t' : HubTables) (role : Role) (n : ℕ) (to : PortInfo) → infos_of t.ports ≡ infos_of t'.ports → ways_to role t n to ≡ ways_to role t' n to
 same_ways t t' Client n to same = refl
 same_ways t t' Server n to same =

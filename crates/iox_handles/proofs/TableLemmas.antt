@@ -1,4 +1,4 @@
--- A table as it stands in memory: each call keeps it, and what it comes to as a list by number.
+-- A table in memory: each call keeps it, and what it comes to as a list by number.
 use Rattle.std.specs.Prelude.{◌≡◌, ℕ, ◌+◌, ◌-◌, ◌<◌, ◌≤◌, suc, nat_lt, Bool, true, false, not, if◌then◌else◌, ◌==◌, List, [], ◌∷◌, ◌++◌, length, filter, find, Option, Some, None, slice_get, slice_set, slice_index_or, refl}
 use Rattle.std.proofs.Common.{sym, ap, subst, ◌∙◌, arith, add-one, length-append}
 use Rattle.std.proofs.lemmas.Option.{none-some, slice_get_within}

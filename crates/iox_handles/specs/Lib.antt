@@ -1,6 +1,6 @@
 pub mod Least
 pub mod Tables
 pub mod Tallies
--- for proofs of this crate alone
+-- only for proofs of this crate
 pub mod Places
 pub mod NodeLists

@@ -13,7 +13,7 @@ tally_place port kind = group_of kind * 64 + port % 64
 abbrev pub is_counted_at : ℕ → Entry → Bool
 is_counted_at i h = tally_place h.port h.kind == i
 
--- Each handle is counted in its place. It is for proofs of this crate alone.
+-- Each handle is counted in its place. It is only for proofs of this crate.
 pub record IsTallied (counts : List ℕ) (ps : List (Option Entry)) : Type 0 where
   pub size : length counts ≡ 256
   pub each : (i : ℕ) → i < 256 → slice_index_or counts i 0 ≡ count_by (passes (is_counted_at i)) ps

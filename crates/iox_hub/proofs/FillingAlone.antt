@@ -1,4 +1,4 @@
--- Where one handle alone has a slot, all others are as they were when that one changes.
+-- Where only one handle has a slot, all others are as they were when that one changes.
 use Rattle.std.specs.Prelude.{◌≡◌, ℕ, suc, Bool, true, false, ◌&&◌, if◌then◌else◌, ◌==◌, List, [], ◌∷◌, length, filter, Option, Some, refl}
 use Rattle.std.proofs.Common.{sym, ap, ap₂, ◌∙◌, arith, true≢false, eqb-true}
 use Rattle.std.proofs.lemmas.Option.{none-some, same_Some}

@@ -219,7 +219,7 @@ module _ {many : Bool × Bool} (words : List (Option Carried)) (t t' : HubTables
       let l : Label = labels_of t.pools h.pool h.slot in
       fits_received words t fit order node h.port l.lane pending.port pending.there Client pending.client (Of l.request) t' is
 
--- request states alone are others
+-- only request states are others
 pub fits_states : {many : Bool × Bool} (words : List (Option Carried)) (t : HubTables) (g : RequestState → RequestState) (ws : List Way) → WordsFit many words t → WordsFit many words (with_states g t ws)
 fits_states words t g ws fit = fits_on words t fit (with_states g t ws) (states_on_bare g t.ports ws) refl fit.handles
 

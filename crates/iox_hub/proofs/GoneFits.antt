@@ -65,7 +65,7 @@ module _ (words : List (Option Carried)) (t t' : HubTables) (fit : GoneFit words
         ap (are_requests_in words) same ∙ ports n s there
 
     module _ (u : HubTables) (n : ℕ) (alike : AreAlike t.ports u.ports) where
-      -- a port that is cut from the one that goes keeps what it kept, or what waits from that one
+      -- a port that is cut from the one that goes keeps what it kept, or what is waiting from that one
       cut_fits : (place : ℕ) (q : PoolState) (m : ℕ) (p : PortState) → pool_at t'.pools place ≡ Some q → port_in u.ports m ≡ Some p
           → (o : Option PipeState) → pipe_from p.incoming.pipes n ≡ o → (b : Bool) → (q.port == n) ≡ b → has_number q.port (senders_of (with_expired p.expired o).pipes) ≡ true
           → are_requests_in words place ≡ is_client (other_role p.role)

@@ -1,4 +1,4 @@
--- A value of a kind that no port has is a handle: it is looked for there alone.
+-- A value of a kind that no port has is a handle: it is looked for only there.
 use Rattle.std.specs.Prelude.{◌≡◌, ℕ, Bool, true, false, ◌&&◌, ◌↔◌, if◌then◌else◌, ◌==◌, Option, Some, None, IsTrue, refl}
 use Rattle.std.proofs.Common.{sym, ap, ◌∙◌, true≢false}
 use Rattle.std.proofs.lemmas.Option.{none-some, same_Some}

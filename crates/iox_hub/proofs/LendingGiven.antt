@@ -48,7 +48,7 @@ given_put x h c pool k z low =
 abbrev pub IsNoUnfilled : ℕ → ℕ → HandleState → Type 0
 IsNoUnfilled pool k h = is_place pool k h.pool h.slot ≡ true → is_uninit h.kind ≡ false
 
--- how many elements are filled is read of unfilled loans alone
+-- how many elements are filled is read only of unfilled loans
 module _ (x : Given) (t : HubTables) (pool k : ℕ) (w : SlotContents) (filled : ℕ) where
   abbrev old : Given
   old = with_contents x pool k w

@@ -75,7 +75,7 @@ same_shape : (x : Given) (h : HubState) (s : HubSettings) (role : Role) → shap
 same_shape x h s Client = refl
 same_shape x h s Server = refl
 
--- what is asked depends on the settings alone
+-- what is asked depends only on the settings
 by_settings : (x : Given) (t : HubTables) (s : HubSettings) (role : Role) (o : machine.Options) (asked : Asked) → s ≡ t.settings → AsksFor x (no_ports s) role o asked
     → AsksFor x t role o asked
 by_settings x t s role o asked same is =

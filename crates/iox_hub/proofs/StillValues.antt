@@ -54,7 +54,7 @@ still_itself PendingResponse = refl
 still_itself ActiveRequest = refl
 still_itself Response = refl
 
--- What is no unfilled loan is still itself alone: the test of sameness tells it.
+-- What is no unfilled loan is still only itself: the test of sameness tells it.
 pub same_tells : (old new : Kind) (same : Bool) → (old ≡ RequestMutUninit → ⊥) → (old ≡ ResponseMutUninit → ⊥) → same ≡ sameb the_type new old
     → same ≡ is_still old new
 same_tells old new same no_request no_response told = told ∙ by_case (sameb the_type new old) refl

@@ -1,4 +1,4 @@
--- How the values of a node are released one after another, for proofs of this crate alone.
+-- How the values of a node are released one after another, only for proofs of this crate.
 use Rattle.std.specs.Prelude.{ℕ}
 use Rattle.iox_model.specs.Services.{Releases, numbers_of_node}
 use Rattle.iox_model.specs.States.{State}

@@ -27,7 +27,7 @@ handles_had handles node = map (λ h. h.number) (filter (λ h. h.node == node) h
 abbrev pub numbers_had : HubTables → ℕ → List ℕ
 numbers_had t node = ascending (held_ports t.ports node ++ handles_had t.handles node)
 
--- ---- for proofs of this crate alone
+-- ---- only for proofs of this crate
 
 -- the ids of the ports of that role, in their order
 abbrev pub role_ids : Role → List PortState → List UniqueSystemId

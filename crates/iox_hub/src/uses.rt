@@ -1,4 +1,4 @@
-//! Callers of a hub, proved from its clauses alone.
+//! Callers of a hub, proved only from its clauses.
 ghost use Rattle.std.specs.Prelude.{◌≡◌, ◌<◌, ◌^◌, IfOk, None, flat_map};
 ghost use Rattle.iox_model.specs.declared.kind.Kind.TheVariants.{ActiveRequest, Response, Server};
 ghost use Rattle.iox_hub.specs.Hubs.{HasReceived, HasValue, IsReached};

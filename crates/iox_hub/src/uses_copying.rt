@@ -1,4 +1,4 @@
-//! Callers of copies, proved from the clauses of a hub alone.
+//! Callers of copies, proved only from the clauses of a hub.
 ghost use Rattle.std.specs.Prelude.{◌≡◌, ◌∷◌, IfSome, [], flat_map};
 ghost use Rattle.iox_model.specs.declared.kind.Kind.TheVariants.{ActiveRequest, Client, PendingResponse};
 ghost use Rattle.iox_hub.specs.Hubs.{HasValue, IsReached};

@@ -1,4 +1,4 @@
-//! Callers that fill loans piece by piece, proved from the clauses of a hub alone.
+//! Callers that fill loans piece by piece, proved only from the clauses of a hub.
 ghost use Rattle.std.specs.Prelude.{◌≡◌, ◌∷◌, IfSome, [], flat_map};
 ghost use Rattle.iox_model.specs.declared.kind.Kind.TheVariants.{Client, RequestMut, ResponseMut, ResponseMutUninit};
 ghost use Rattle.iox_hub.specs.Hubs.{HasValue, IsReached};

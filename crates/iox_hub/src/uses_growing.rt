@@ -1,4 +1,4 @@
-//! A caller of loans that may grow, proved from the clauses alone.
+//! A caller of loans that may grow, proved only from the clauses.
 ghost use Rattle.std.specs.Prelude.{◌≡◌, true};
 ghost use Rattle.iox_model.specs.declared.kind.Kind.TheVariants.{Client};
 ghost use Rattle.iox_hub.specs.Hubs.{HasValue};

@@ -1,4 +1,4 @@
-//! Callers that read headers and ids of a hub, proved from its clauses alone.
+//! Callers that read headers and ids of a hub, proved only from its clauses.
 ghost use Rattle.std.specs.Prelude.{◌≡◌, true};
 ghost use Rattle.iox_model.specs.declared.kind.Kind.TheVariants.{ActiveRequest, Client, RequestMut};
 ghost use Rattle.iox_hub.specs.Headers.{header_in, sender_in};

@@ -1,4 +1,4 @@
-//! Callers that do one thing after another, proved from the clauses of a hub alone: what a call is
+//! Callers that do one thing after another, proved only from the clauses of a hub: what a call is
 //! not about stays.
 ghost use Rattle.std.specs.Prelude.{◌≡◌, ◌<◌, ◌^◌};
 ghost use Rattle.iox_model.specs.declared.kind.Kind.TheVariants.{ActiveRequest, PendingResponse, RequestMut, Response, Server};

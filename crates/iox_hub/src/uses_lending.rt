@@ -1,4 +1,4 @@
-//! Callers of loans and writes, proved from the clauses of a hub alone.
+//! Callers of loans and writes, proved only from the clauses of a hub.
 ghost use Rattle.std.specs.Prelude.{◌≡◌, ◌∷◌, IfSome, IsSome, [], flat_map, length};
 ghost use Rattle.iox_model.specs.declared.kind.Kind.TheVariants.{ActiveRequest, Client};
 ghost use Rattle.iox_model.specs.WholeCalls.{default_payload};

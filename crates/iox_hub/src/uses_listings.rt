@@ -1,4 +1,4 @@
-//! Callers of listings and cleanups, proved from the clauses of a hub alone.
+//! Callers of listings and cleanups, proved only from the clauses of a hub.
 ghost use Rattle.std.specs.Prelude.{◌≡◌, ◌≢◌, IfOk, None, ℕ};
 ghost use Rattle.iox_model.specs.declared.kind.Kind.{Kind};
 ghost use Rattle.iox_model.specs.declared.kind.Role.TheVariants.{Client, Server};

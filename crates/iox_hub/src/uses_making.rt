@@ -1,4 +1,4 @@
-//! Callers that make ports, proved from the clauses alone.
+//! Callers that make ports, proved only from the clauses.
 ghost use Rattle.std.specs.Prelude.{◌≡◌, ◌<◌, ◌^◌, IfOk, OnErr, false, true};
 ghost use Rattle.iox_model.specs.declared.kind.Kind.TheVariants.{Client, Server};
 ghost use Rattle.iox_model.specs.declared.kind.Role.TheVariants as roles;

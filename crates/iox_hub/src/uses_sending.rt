@@ -1,4 +1,4 @@
-//! Callers of sends, releases and questions of a hub, proved from its clauses alone.
+//! Callers of sends, releases and questions of a hub, proved only from its clauses.
 ghost use Rattle.std.specs.Prelude.{◌<◌, ◌^◌, IfSome};
 ghost use Rattle.iox_model.specs.declared.call.Call.TheVariants.{Release};
 ghost use Rattle.iox_model.specs.declared.kind.Kind.TheVariants.{RequestMut, ResponseMut, Server};

@@ -37,7 +37,7 @@ pushed_on overflow k lanes ws pool j = total (by_lane (out_count overflow k pool
 abbrev pub delivered_on : ℕ → OnWays LaneState → List Way → ℕ → ℕ → ℕ
 delivered_on k lanes ws pool j = total (by_lane (in_count k pool j) 0 lanes) ws
 
--- Pools differ in holders alone: one more has the message in slot k for each way on which it is
+-- Pools differ only in holders: one more has the message in slot k for each way on which it is
 -- delivered, and one less each message that is pushed out there.
 pub record HasDelivered (overflow : Bool) (k : ℕ) (lanes : OnWays LaneState) (ws : List Way)
     (old new : List (Option PoolState)) : Type 0

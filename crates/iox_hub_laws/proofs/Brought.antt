@@ -49,7 +49,7 @@ none_left (p ∷ ps) n = step (p.number == n) refl (none_left ps n)
     step true e rest = rest
     step false e rest = ap (λ b. b || list_any (λ (q : Port). q.number == n) (filter (λ (q : Port). not (q.number == n)) ps)) e ∙ rest
 
--- what waits, and what request states say, is as it was
+-- what is waiting, and what request states say, is as it was
 pub record StaysSo (s t : State) : Type 0 where
   pub waiting : (w : Way) → t.waiting w ≡ s.waiting w
   pub states : (w : Way) → t.request_state w ≡ s.request_state w

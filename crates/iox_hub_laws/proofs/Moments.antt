@@ -138,7 +138,7 @@ module _ (z : State) (node : ℕ) (h : Handle) (copied : Bool) (to : List ℕ)
     };
   }
 
-  -- on the way of the last delivery, too, what waits is what it comes to, unless one too many waits
+  -- on the way of the last delivery, too, what is waiting is what it comes to, unless one too many waits
   all_done : (s : State) (last : Option Way) (left : List Way) → IsDelivering s last left → is_over s last ≡ false
       → (w : Way) → has_way w left ≡ false → s.waiting w ≡ final w
   all_done s last left p calm w out = by_cases (is_last w last) (at_last last p calm) (p.done w out)

@@ -1,4 +1,4 @@
--- What waits after a call waited before, or is what the call sends.
+-- What is waiting after a call waited before, or is what the call sends.
 use Rattle.std.specs.Prelude.{◌≡◌, ◌⊎◌, ℕ, Bool, true, false, if◌then◌else◌, List, [], ◌∷◌, ◌++◌, map, Option, Some, None, refl}
 use Rattle.std.specs.Option.{option_map_or}
 use Rattle.std.proofs.Common.{sym, ap, subst, ◌∙◌, inl, inr}
@@ -123,7 +123,7 @@ unless_came : (r : Option Refusal) (s t : State) (node : ℕ) (call : Call) (rep
 unless_came (Some r) s t node call reply P y a p goes u = inl (subst (λ (v : State). IsOneOf a (v.waiting y)) u.1 p)
 unless_came None s t node call reply P y a p goes u = goes u
 
--- What waits after a whole call waited before, or the call sends it.
+-- What is waiting after a whole call waited before, or the call sends it.
 pub waited_or_sent : (s t : State) (node : ℕ) (call : Call) (reply : Reply) → IsWholeCall s node call reply t → (y : Way) (a : Message)
     → IsOneOf a (t.waiting y) → WaitedOrSent s node call y a
 waited_or_sent s t node call reply whole y a p =

@@ -20,7 +20,7 @@ abbrev pub with_last : State → Way → Message → List Message
 with_last s w m =
     if takes_more s w then newest (buffer_on s.fixed w) (s.waiting w ++ m ∷ []) else s.waiting w
 
--- The message was sent on each of these ways, and what waits elsewhere stays.
+-- The message was sent on each of these ways, and what is waiting elsewhere stays.
 pub record IsSentOn (ways : List Way) (old : State) (m : Message) (new : State) : Type 0 where
   pub sent : (w : Way) → has_way w ways ≡ true → new.waiting w ≡ with_last old w m
   pub others : (w : Way) → has_way w ways ≡ false → new.waiting w ≡ old.waiting w

@@ -111,7 +111,7 @@ BringsResponseCopy old node n count words answered.Undelivered new = WaitsAsBefo
 
 -- ---- for receivers
 
--- For whom nothing waited, what waits now carries these words.
+-- For whom nothing waited, what is waiting now carries these words.
 abbrev pub BringsOnly : HubState → List ℕ → HubState → Type 0
 BringsOnly old words new = (x : Receiver) → NothingWaits old x → AllCarry new x words
 

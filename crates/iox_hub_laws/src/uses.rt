@@ -1,4 +1,4 @@
-//! Callers of a hub and of its laws, proved from their clauses alone.
+//! Callers of a hub and of its laws, proved only from their clauses.
 ghost use Rattle.std.specs.Prelude.{◌≡◌, ◌<◌, ◌^◌, ℕ, IfSome, Some, flat_map, length, true};
 ghost use Rattle.iox_model.specs.declared.kind.Kind.TheVariants.{ActiveRequest, Client, Server};
 ghost use Rattle.iox_model.specs.Handles.{way_of};

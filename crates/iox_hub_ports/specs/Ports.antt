@@ -202,7 +202,7 @@ pushed_out l = if is_full l then oldest l else None
 abbrev pub pushed : LaneState → ℕ → LaneState
 pushed l k = offered (with_one_out l) k
 
--- ---- for proofs of this crate alone
+-- ---- only for proofs of this crate
 
 -- the port is changed, if it is of that role
 abbrev pub if_role : Role → (PortState → PortState) → PortState → PortState

@@ -242,8 +242,8 @@ impl Port {
         self.visit_both(lane, wanted, labels)
     }
 
-    /// The same, where there may be senders that are gone. A call of its own, so that the visits to
-    /// connected senders alone are made in place.
+    /// The same, where there may be senders that are gone. A call of its own, so that only the
+    /// visits to connected senders are made in place.
     #[inline(never)]
     fn visit_both<L: Labels>(&mut self, lane: usize, wanted: Wanted, labels: &L) -> Visits
         ensures visits { result

@@ -1,4 +1,4 @@
-//! Callers, proved from the clauses alone.
+//! Callers, proved only from the clauses.
 ghost use Rattle.std.specs.Prelude.{◌≡◌, ℕ, IfOk, None, Some, true, false};
 ghost use Rattle.iox_model.specs.declared.kind.Role.TheVariants.{Client, Server};
 ghost use Rattle.iox_model.specs.declared.way.RequestState.TheVariants.{Closed, Named};
@@ -114,7 +114,7 @@ pub fn comes_and_goes(alloc: Global, id: UniqueSystemId) -> Result<(bool, usize)
     Ok((ports.find(2).is_some(), ports.room()))
 }
 
-/// A client of number 1, with room for what waits from so many ports that are gone.
+/// A client of number 1, with room for what is waiting from so many ports that are gone.
 pub fn one_client(alloc: Global, id: UniqueSystemId, room: usize) -> Result<Port, AllocError>
     ensures { IfOk result (λ p. (p.number ≡ 1) × (p.role ≡ Client)
         × (p.expired ≡ no_pipes room) × (p.incoming ≡ no_pipes 2)) }

@@ -145,7 +145,7 @@ without_first l =
     if has_returned l then without_returned l
     else (if has_waiting l then without_oldest l else record l { taken = drop 1 l.taken })
 
--- ---- for proofs of this crate alone
+-- ---- only for proofs of this crate
 
 -- one message waits no more, and is neither taken nor given back yet
 abbrev pub HasOneInHand : LaneState → Type 0

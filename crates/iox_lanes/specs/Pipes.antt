@@ -67,7 +67,7 @@ closed p lane id = with_state (λ s. closed_for s id) p lane
 abbrev pub hinted : PipeState → ℕ → ℕ → PipeState
 hinted p lane id = with_state (λ s. hinted_for s id) p lane
 
--- ---- for proofs of this crate alone
+-- ---- only for proofs of this crate
 
 -- whether something is left to get back on the lane of that number
 abbrev pub has_returned_at : List LaneState → ℕ → Bool

@@ -26,7 +26,7 @@ abbrev pub IsSameRegister : (old new : Registrations UniqueSystemId) → Type 0
 IsSameRegister old new =
     (new.service ≡ old.service) × (length new.slots ≡ length old.slots)
 
--- ---- for proofs of this crate alone
+-- ---- only for proofs of this crate
 
 -- each number is below that one
 abbrev pub AreBelow : ℕ → List ℕ → Type 0

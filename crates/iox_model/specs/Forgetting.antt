@@ -14,8 +14,8 @@ abbrev pub goes_to_dead : Fixed → ℕ → ℕ → Way → Bool
 goes_to_dead f node dead w =
     has_number w.sender (ports_of_node f node) && has_number w.receiver (ports_of_node f dead)
 
--- The state once nothing of the node's is outstanding to the dead node. What waits or was given
--- back is unchanged, and nobody takes it.
+-- The state once nothing of the node's is outstanding to the dead node. What is waiting or was
+-- given back is unchanged, and nobody takes it.
 abbrev pub forgets : State → ℕ → ℕ → State
 forgets s node dead = record s {
   fixed = record (s.fixed) { forgot = put_at s.fixed.forgot node (s.fixed.forgot node ++ dead ∷ []) };

@@ -31,7 +31,7 @@ abbrev pub EachCreatorIsAnswered : Type 0
 EachCreatorIsAnswered = (own given : MessageTypes) →
     (answer : Option Refusal) × IsAskedOfCreator own given answer
 
--- A refusal whose cause is replaced by itself is the same refusal.
+-- A refusal whose cause is replaced by the same cause is the same refusal.
 abbrev pub RefusalsKeepTheirNames : Type 0
 RefusalsKeepTheirNames = (refusal : Refusal) → with_cause (λ cause. cause) refusal ≡ refusal
 

@@ -1,4 +1,4 @@
-//! Callers of commands, proved from their clauses alone.
+//! Callers of commands, proved only from their clauses.
 ghost use Rattle.std.specs.Prelude.{◌≡◌, flat_map, length, true};
 ghost use Rattle.iox_model.specs.declared.call.Call.TheVariants.{Read, SendCopy};
 ghost use Rattle.iox_model.specs.declared.kind.Role.TheVariants as roles;

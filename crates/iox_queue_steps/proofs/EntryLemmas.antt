@@ -1,4 +1,4 @@
--- Entries of a schedule have one end each at a queue's machine, the queue stays where it stands, and what left comes before what waits.
+-- Entries of a schedule have one end each at a queue's machine, the queue stays where it stands, and what left comes before what is waiting.
 use Rattle.std.proofs.Common.{◌≡◌, ◌∙◌, ℕ, zero, suc, List, [], ◌∷◌, ◌++◌, ◌≤◌, length, refl, sym, ap, ap₂, subst, Some, None, Result, Ok, Err, OnOk, true≢false, slice_index_or, slice_set}
 use Rattle.std.proofs.lemmas.List.{map-id}
 use Rattle.iox_steps.specs.declared.access.Progress.{Progress}
@@ -103,7 +103,7 @@ schedule_stands old entries new all =
     (λ was number answer now same step. step_stands was number answer now step ∙ same)
     old entries new refl all
 
--- what left, and then what waits, is what was published
+-- what left, and then what is waiting, is what was published
 sides_order : (site : Site) (words : List ℕ) (a b : Side) (events : List QueueEvent) → BothAfterCalls site words a b events
     → (published events ≡ departed [] events ++ values site words) × (length (values site words) ≤ cells site)
 sides_order site words (Pusher pushes) (Popper pops) events played =

@@ -4,7 +4,7 @@ pub mod Registers
 pub mod Changes
 pub mod RegisteredPorts
 pub mod DynamicConfigs
--- for proofs of this crate alone
+-- only for proofs of this crate
 pub mod Standing
 -- how refusals are told, for the crates above
 pub use Rattle.iox_sets.specs.Refusals

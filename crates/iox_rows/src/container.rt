@@ -124,7 +124,7 @@ fn a_handle_of_another_container_removes_nothing(rt: HostRuntime) -> Result<(), 
     foreign_is_refused(&rt, &mut container, &mut other)
 }
 
-/// What the recovery answers, and what it asked about, if that is two values. It accepts 7 alone.
+/// What the recovery answers, and what it asked about, if that is two values. It accepts only 7.
 fn recover_sevens(container: &mut Container<u64>, owner: OwnerId) -> (ReleaseState, [u64; 2]) {
     let mut asked = [0; 2];
     let state = container.recover(

@@ -1,6 +1,6 @@
 //! Tests and callers of words, queues, sets and containers for one thread, by what their crates
-//! make public. So the gate proves each of those crates once, and the tests cost their own proofs
-//! alone.
+//! make public. So the gate proves each of those crates once, and the tests cost only their own
+//! proofs.
 #![tactic(auto)]
 
 #[cfg(test)]

@@ -262,7 +262,7 @@ fn command_of(alloc: Global, node: u64, asked: Asked) -> Result<Option<Command>,
     }))
 }
 
-/// What is asked by numbers alone, as a command.
+/// What is asked by numbers only, as a command.
 fn of_numbers(node: u64, asked: Asked) -> Command {
     match asked {
         Asked::Loan(number, elements) => PortCommand::Loan {

@@ -146,7 +146,7 @@ fn fills(rt: &impl Abort, ports: &mut Ports, place: u64) {
     holds(rt, ports.has_waiting(2, 0));
 }
 
-/// The first server gets what waits, and releases it, and the client gets it back.
+/// The first server gets what is waiting, and releases it, and the client gets it back.
 fn goes_back(rt: &impl Abort, ports: &mut Ports, place: u64) {
     let visits = ports.visit(2, 0, Wanted::Any, &NoLabel);
     equal(rt, visits, Visits::Got(1, 0, place));
@@ -218,7 +218,7 @@ fn requests_are_open_with_each_server(rt: HostRuntime) -> Result<(), Fail> {
     Ok(())
 }
 
-/// Client 1, with room for what waits from so many servers that are gone. Server 2 delivered
+/// Client 1, with room for what is waiting from so many servers that are gone. Server 2 delivered
 /// message 10 to it, and server 3 message 20.
 fn two_answered(rt: &impl Abort, alloc: Global, room: usize) -> Result<Ports, AllocError> {
     let mut ports = Ports::new(alloc, 1)?;

@@ -255,8 +255,8 @@ fn exchange(hub: &mut Numbers, client: &Asker, server: &Answerer) -> Option<Hear
     Some(heard)
 }
 
-/// The same of a new hub. The test ends if the second and third response are not told so, or if not
-/// the first alone is received.
+/// The same of a new hub. The test ends if the second and third response are not told so, or if
+/// not only the first is received.
 fn responses(
     rt: &impl Abort,
     alloc: Global,

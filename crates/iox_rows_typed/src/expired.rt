@@ -1,4 +1,4 @@
-//! What waits of servers that are gone, by typed ports.
+//! What is waiting of servers that are gone, by typed ports.
 
 use crate::exchange::{
     Active, Answerer, Asker, Exchange, NODE, Pending, answer, ask, hub_in, ports, receive, settings,
@@ -92,7 +92,7 @@ fn both_go(
     (first_sent && second_sent, told)
 }
 
-/// The same where the client keeps what waits of so many servers that are gone.
+/// The same where the client keeps what is waiting of so many servers that are gone.
 fn plays(rt: &impl Abort, alloc: Global, kept: usize, wanted: Told) -> Result<(), Fail> {
     let settings = Settings {
         client_expired: kept,

@@ -1,5 +1,5 @@
-//! A type of a user's own goes from a client to a server, proved from the clauses of typed ports
-//! alone.
+//! A type of a user's own goes from a client to a server, proved only from the clauses of
+//! typed ports.
 ghost use Rattle.std.specs.Prelude.{◌≡◌, IfSome};
 ghost use Rattle.iceoryx2_ports.specs.Hubs.{HasValue};
 ghost use Rattle.iceoryx2_ports.specs.Kind.TheVariants as kinds;

@@ -19,7 +19,7 @@ const SERVER_IS_FULL_FOR_A_LOAN: [Act; 4] = [
     Act::Whole(0, Ask::WriteRequest(3, 5), 1, Told::Done),
 ];
 
-/// The server receives the first one alone.
+/// The server receives only the first one.
 const FIRST_CAME: [Act; 7] = [
     Act::Lacks(0, 1, 0, 1),
     Act::Whole(1, Ask::Receive(1), 11, Told::Handle(2)),
@@ -33,7 +33,7 @@ const FIRST_CAME: [Act; 7] = [
 /// A request is pending.
 const PENDING: [Act; 1] = [Act::Whole(0, Ask::CopyRequest(0, 7), 19, Told::Handle(2))];
 
-/// The server receives it alone, and responds.
+/// The server receives only that one, and responds.
 const PENDING_CAME: [Act; 6] = [
     Act::Lacks(0, 1, 0, 1),
     Act::Whole(1, Ask::Receive(1), 11, Told::Handle(2)),
@@ -59,7 +59,7 @@ const CLIENT_IS_FULL_FOR_A_LOAN: [Act; 5] = [
     Act::Whole(1, Ask::WriteResponse(3, 10), 1, Told::Done),
 ];
 
-/// The client receives the first one alone, and sends another request.
+/// The client receives only the first one, and sends another request.
 const RESPONSE_CAME: [Act; 7] = [
     Act::Lacks(1, 0, 0, 1),
     Act::Whole(0, Ask::Receive(2), 10, Told::Handle(3)),
@@ -103,7 +103,7 @@ const SECOND_IS_FULL: [Act; 5] = [
     Act::Whole(0, Ask::WriteRequest(5, 6), 1, Told::Done),
 ];
 
-/// The servers have that one alone.
+/// The servers have only that one.
 const BOTH_HAVE_THE_FIRST: [Act; 6] = [
     Act::Lacks(0, 1, 0, 1),
     Act::Lacks(0, 2, 0, 1),

@@ -35,7 +35,7 @@ first_answered script rest whole sent player is stands =
     let first = ended_lines_are_first script rest ∙ ap (λ s. take (length (ended_lines script)) (ended_lines s)) is in
     subst (λ lines. IsTextOfLines lines (sent ++ player.answers.items)) first (ended_answered script sent player stands)
 
--- a write failed after a beginning of what waits
+-- a write failed after a beginning of what is waiting
 pub write_failed : (script rest whole sent more : List ℕ) (player : Player) → script ++ rest ≡ whole
     → IsAsFar script sent player → IsBeginningOf more player.answers.items
     → Stops Write whole (sent ++ more)

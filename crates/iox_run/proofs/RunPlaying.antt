@@ -37,7 +37,7 @@ Playing-taken writer writer' bytes rest rest' a b c playing taken less = record 
   count = omega (arith, playing.count);
 }
 
--- what waits is sent
+-- what is waiting is sent
 pub Playing-sent : (writer writer' writer'' : Option (List ℕ)) (bytes rest : List ℕ) (a b c : Player)
     → Playing writer writer' bytes rest a b
     → Sends writer' writer'' (SendsAll b.answers.items (Ok tt)) → Waits b c → IsSent c

@@ -13,7 +13,7 @@ use iox_types::identifiers::UniqueSystemId;
 use std::alloc::{AllocError, Global};
 use std::marker::Model;
 
-/// The number of the service: a session has one alone.
+/// The number of the service: a session has only one.
 const NUMBER: u64 = 0;
 
 /// A service of words, with the limits of scripts.

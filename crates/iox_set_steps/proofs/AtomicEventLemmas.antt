@@ -1,4 +1,4 @@
--- A step of a machine of a value is one event of the value; party 0 alone begins to store; and what is new holds.
+-- A step of a machine of a value is one event of the value; only party 0 begins to store; and what is new holds.
 use Rattle.std.proofs.Common.{ℕ, ◌+◌, ◌<◌, ◌≤◌, ◌^◌, List, [], Option, length, get_or, refl, sym, subst, ◌∙◌, inl, inr, Result, Ok, Err, IfOk, OnOk}
 use Rattle.std.proofs.lemmas.Bool.{cases_eq, eqb-true, eq-eqb, ne_eqb}
 use Rattle.iox_steps.specs.declared.access.Progress.{Progress}
@@ -160,7 +160,7 @@ storer_of : (size : ℕ) (old new : AtomicMachineState size) (number : ℕ) (cal
 storer_of size old new number (Store list) holds begun = eqb-true number 0 (sym (holds.parties number begun.party begun.is_party).role ∙ begun.begins_with.0)
 storer_of size old new number Load holds begun = tt
 
--- party 0 alone begins to store
+-- only party 0 begins to store
 pub storers_of : {A : Type 0} → (size : ℕ) (old new : AtomicMachineState size) (number : ℕ) (call : AtomicCall size) (result : Result A MachineError) → AtomicsHold size old → OnOk result (AtomicsBegun size old number call new) → OnOk result (MayCall number call)
 storers_of size old new number call (Ok answer) holds begun = storer_of size old new number call holds begun
 storers_of size old new number call (Err error) holds begun = tt

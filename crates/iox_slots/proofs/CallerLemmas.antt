@@ -1,5 +1,5 @@
 -- What callers may cite: how many have each slot after a change, what else is in it, and that calls
--- that hold and let go change holders alone.
+-- that hold and let go change only holders.
 use Rattle.std.specs.Prelude.{◌≡◌, ◌<◌, ℕ, ◌+◌, ◌-◌, zero, suc, Bool, true, false, ◌&&◌, if◌then◌else◌, ◌==◌, nat_lt, List, length, Option, Some, None, slice_get, refl}
 use Rattle.std.specs.Option.{option_map_or}
 use Rattle.std.proofs.Common.{sym, ap, ◌∙◌, arith, eqb-true, true≢false}
@@ -135,7 +135,7 @@ acquires pools P k free =
       changed = refl;
     }
 
--- ---- changes of holders alone
+-- ---- changes only of holders
 
 -- a change that keeps all but holders
 record KeepsMessage (f : SlotState → SlotState) : Type 0 where

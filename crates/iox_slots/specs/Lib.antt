@@ -1,4 +1,4 @@
 pub mod Slots
 pub mod Pools
--- for proofs of this crate alone
+-- only for proofs of this crate
 pub mod FreeLists

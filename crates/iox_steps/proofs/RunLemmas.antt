@@ -1,4 +1,4 @@
--- Events, one after another: what left, and then what waits, is what waited at first, and then what was published.
+-- Events, one after another: what left, and then what is waiting, is what waited at first, and then what was published.
 use Rattle.std.proofs.Common.{◌≡◌, ℕ, List, [], ◌∷◌, ◌++◌, refl, ap, sym, subst, ◌∙◌, append_assoc, append-nil}
 use Rattle.std.specs.Option.{option_to_list}
 use Rattle.iox_steps.specs.declared.site.Site.{Site}

@@ -1,5 +1,5 @@
 pub mod Lengths
 pub mod Stored
 pub mod Answering
--- for proofs of this crate alone
+-- only for proofs of this crate
 pub mod Cells

@@ -46,7 +46,7 @@ pub fn choosing()
     ensures shown { HoldersMayComeBackFirst }
 {}
 
-/// A loan's handle alone has its message, and as a write or its holder fills it the tables stay in
+/// Only a loan's handle has its message, and as a write or its holder fills it the tables stay in
 /// order.
 pub fn filling()
     ensures alone { LoansAreOfOneHandle }

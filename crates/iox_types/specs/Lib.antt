@@ -10,6 +10,6 @@ pub mod Parts
 pub mod Layouts
 pub mod PoolSizes
 pub mod FirstLimits
--- for proofs of this crate alone: what a trait asks for of its types
+-- only for proofs of this crate: what a trait asks for of its types
 pub mod IdentifierLaws
 pub mod HeaderLaws

@@ -187,7 +187,7 @@ impl Member {
         self.node.event(seen)
     }
 
-    /// Goes on with what its access found.
+    /// Continues with what its access found.
     #[inline(always)]
     pub(crate) fn go_on(&mut self, seen: u64) -> Option<NodeReply>
         requires may { (p : Setting) × FoundThere p self.old.node seen }

@@ -1,4 +1,4 @@
-//! Callers of a wire, proved from its clauses alone.
+//! Callers of a wire, proved only from its clauses.
 ghost use Rattle.std.specs.Prelude.{◌≡◌, ℕ, ◌<◌, ◌∷◌, ◌^◌, [], IfErr, IfOk, IfSome, IsTrue, List};
 ghost use Rattle.std.specs.Prelude.{None, OnErr, OnOk, Some, map, option_map, slice_get, true};
 ghost use Rattle.iox_wire_weaves.specs.Asking.{BeginIsWoven, BeginsItsCall, IsBeginRefusal};

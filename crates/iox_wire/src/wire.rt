@@ -276,7 +276,8 @@ impl Wire {
     }
 }
 
-/// What a step answers whose call continues. Written by itself it is zeros alone, in a few stores.
+/// What a step answers whose call continues. Written where it ends, it is zeros only, in a few
+/// stores.
 #[inline(always)]
 fn going() -> Result<Progress<NodeReply>, WireRefusal>
     ensures { result ≡ Ok Going }

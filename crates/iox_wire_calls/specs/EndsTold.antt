@@ -33,7 +33,7 @@ HeaderIsTold p held (endings.Receives v w slot header) =
     × (request_in v header ≡ (held w.sender slot).request) × AsksOn p v w header
 HeaderIsTold p held ending = Unit {0}
 
--- That header alone is to be told: what was written is a filled loan, a response answers the
+-- Only that header is to be told: what was written is a filled loan, a response answers the
 -- request, and a request that was sent is on a lane of its client, with states that name no other.
 abbrev pub EndsAreTold : Type 0
 EndsAreTold =

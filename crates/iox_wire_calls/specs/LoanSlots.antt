@@ -43,7 +43,7 @@ pub record LoansStand (p : Setting) (held : Pools) (x : Seat) : Type 0 where
   pub serials : (port slot : ℕ) → IsPortOfSeat p x port → IsInPool p port slot
       → HoldsSerial held x port slot
 
--- what a step is then still to be told: words of messages alone
+-- what a step is then still to be told: only words of messages
 abbrev pub WordsAreTold : Setting → Pools → State → Seat → ℕ → Local → Type 0
 WordsAreTold p held s x seen (LendEmpties o w place left) = Unit {0}
 WordsAreTold p held s x seen (LendStores o slot next) = Unit {0}

@@ -1,4 +1,4 @@
--- What is so of the place of a node's call, and of its table, by the node's own data alone.
+-- What is so of the place of a node's call, and of its table, only by the node's own data.
 use Rattle.std.specs.Prelude.{◌≡◌, ◌||◌, ℕ, Bool, true, false, ◌∷◌}
 use Rattle.iox_model.specs.declared.kind.Kind.{Kind}
 use Rattle.iox_model.specs.declared.kind.Kind.TheVariants.{ActiveRequest, PendingResponse, RequestMut, Response, ResponseMut}

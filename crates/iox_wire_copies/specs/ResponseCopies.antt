@@ -145,7 +145,7 @@ pub record LeadsTo
   pub over : answered p (sends p x loan true) ≡ option_map reply_in reply
   pub aimed : IsAimed p y.seat s
 
--- So it is for a loan whose way it was told of.
+-- So it is for a loan whose way it was told about.
 abbrev pub SendsTo :
     Seat → ResponseTerms → Entry → Placed → ResponseCopy → Option ResponseCopyReply → Type 0
 SendsTo x t loan y s reply = (p : Setting) → IsToldOf p loan t → LeadsTo p x loan y s reply

@@ -161,7 +161,7 @@ impl CopyLending {
         }
     }
 
-    /// Goes on after its access, which found `seen`. If it is over it says how.
+    /// Continues after its access, which found `seen`. If it is over it says how.
     #[inline(always)]
     pub fn go_on(&mut self, seat: &mut StoredSeat, seen: u64) -> Option<CopyLent>
         requires busy { is_busy self.old.local ≡ true }

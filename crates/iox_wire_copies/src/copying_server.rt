@@ -94,9 +94,9 @@ impl CopyingServer {
         }
     }
 
-    /// Goes on after its access, which found `seen`. If it is over it says what that answers. What
-    /// it gets back and what it sends is to be in use at the port's desk, and what it delivers is
-    /// to have room in the record of its way.
+    /// Continues after its access, which found `seen`. If it is over it says what that answers.
+    /// What it gets back and what it sends is to be in use at the port's desk, and what it delivers
+    /// is to have room in the record of its way.
     #[inline(always)]
     pub fn go_on(&mut self, seat: &mut StoredSeat, seen: u64) -> Option<ResponseCopyReply>
         requires busy { is_busy self.old.local ≡ true }

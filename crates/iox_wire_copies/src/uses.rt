@@ -1,4 +1,4 @@
-//! Callers, proved from the clauses alone.
+//! Callers, proved only from the clauses.
 ghost use Rattle.std.specs.Prelude.{ℕ, ◌≡◌, ◌+◌, ◌<◌, ◌≤◌, ◌^◌, Some};
 ghost use Rattle.std.specs.Prelude.{false, length, true};
 ghost use Rattle.iox_model.specs.declared.call.Call.TheVariants.{SendCopy};

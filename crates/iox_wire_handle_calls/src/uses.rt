@@ -1,4 +1,4 @@
-//! Callers, proved from the clauses alone.
+//! Callers, proved only from the clauses.
 ghost use Rattle.std.specs.Prelude.{◌≡◌, ◌+◌, ◌<◌, ◌^◌, ◌≤◌, Err, IfOk, IfSome, None, OnOk, Some, vec_capacity};
 ghost use Rattle.iox_model.specs.declared.call.Call.TheVariants.{IsConnected, Read, SetHint};
 ghost use Rattle.iox_model.specs.declared.call.WireCall.TheVariants.{Port};

@@ -1,4 +1,4 @@
--- No place of a call counts an access by itself: the courses of a call leave that count.
+-- No place of a call counts an access: the courses of a call leave that count.
 use Rattle.iox_steps.specs.declared.side.Pushing.TheVariants as pushing
 use Rattle.iox_wire_calls.specs.Courses as courses
 use Rattle.iox_wire_calls.specs.ReceiveCourses as receives

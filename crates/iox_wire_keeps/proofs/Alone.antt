@@ -1,4 +1,4 @@
--- A slot into which a node stores is its call's alone: its message is out on no way.
+-- A slot into which a node stores belongs only to its call: its message is out on no way.
 use Rattle.iox_wire_calls.specs.Ending.TheVariants as endings
 use Rattle.iox_laws.proofs.WeaveLedger.Truths.{false_if}
 use Rattle.iox_wire_calls.specs.Following.{LeavesNothing, Leaving, message_at}

@@ -198,7 +198,7 @@ module _ (p : Setting) (c : WireContents) (n seen : ℕ) (r : WireQueue) where
   with_one q event true = publishes_one event (c.queues q).write
   with_one q event false = omega arith
 
-  -- a node writes its own queues alone
+  -- a node writes only its own queues
   elsewhere : (program : Program) → MayRun p.layout n program → (pusher_of p.layout r == n) ≡ false → W program ≡ (c.queues r).write
   elsewhere (Pushes q place) may other = by_queue (same_queue r q) refl
     where

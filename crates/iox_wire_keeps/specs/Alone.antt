@@ -1,4 +1,4 @@
--- A slot into which a node stores is its call's alone.
+-- A slot into which a node stores belongs only to its call.
 use Rattle.iox_wire_keeps.specs.Stored.{IsWritten, StoresAt}
 use Rattle.iox_wire_calls.specs.Seat.{Seat}
 use Rattle.iox_wire_calls.specs.MomentsOf.{Pools}

@@ -1,5 +1,5 @@
 -- In reading order: what the accesses of nodes bound; slots that hold their messages, and what that
--- tells; that a slot which is stored is its call's alone; accesses, ends and begins; serials that desks
+-- tells; that a slot which is stored belongs only to its call; accesses, ends and begins; serials that desks
 -- tell; all of it on a wire, as it opens, after deaths, after each step, and as calls begin; and what
 -- the slots hold that an access names.
 pub mod Bounds

@@ -29,7 +29,7 @@ PayloadStands p c payload (endings.Lends o slot) =
     × StandFrom p c o.port slot (words_before_payload p o.port) payload (length payload)
 PayloadStands p c payload ending = Unit {0}
 
--- the slot that the end of the call fills is its call's alone
+-- the slot that the end of the call fills belongs only to its call
 abbrev pub EndsAlone : Setting → WireContents → (ℕ → Seat) → State → ℕ → Ending → Type 0
 EndsAlone p c seats s n ending =
     (port slot : ℕ) → StoresAt (Ends ending) port slot → IsAlone p c seats s n port slot

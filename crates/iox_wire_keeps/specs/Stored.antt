@@ -138,7 +138,7 @@ pub record HoldsStored (p : Setting) (held : Pools) (c : WireContents) (x : Seat
   pub call : CallIsStored p held c (message_at x.local)
   pub place : GoesThrough p held c x.local
 
--- what waits on a way is stored, as long as the sender counts there
+-- what is waiting on a way is stored, as long as the sender counts there
 abbrev pub WhatWaitsIsStored : Setting → Pools → WireContents → Fixed → Type 0
 WhatWaitsIsStored p held c f =
     (y : Way) (slot : ℕ) → IsWay p.layout.sizes y → is_counted_on f y ≡ true

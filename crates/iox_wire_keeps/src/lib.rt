@@ -1,4 +1,4 @@
-//! What begins, steps and deaths keep of a wire, from what stands alone.
+//! What begins, steps and deaths keep of a wire, only from what stands.
 //! The functions have nothing to do: each is there for its contract.
 #![tactic(auto)]
 
@@ -34,7 +34,7 @@ pub fn words_are_told()
     ensures { StoredWordsAreTold }
 {}
 
-/// A slot that a node stores is its call's alone.
+/// A slot that a node stores belongs only to its call.
 pub fn stored_slots_are_alone()
     ensures { StoredSlotsAreAlone }
 {}

@@ -14,7 +14,7 @@ ghost use Rattle.iox_wire_laws.specs.WireOwners.SentStates.{AccessesLeaveStates,
 ghost use Rattle.iox_wire_laws.specs.WireOwners.WorkedOwners.{WorkedAreReleased, WorkedHaveOwnStates};
 ghost use Rattle.iox_wire_laws.specs.WireOwners.WorkedOwners.{WorkedHaveRoom, WorkedIsFirm};
 
-/// A request state is opened by its client's node alone.
+/// A request state is opened only by its client's node.
 pub fn clients_open_their_states()
     ensures opened { OnlyClientsOpen }
     ensures others { OthersOpenNothing }

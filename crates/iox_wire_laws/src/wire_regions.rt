@@ -58,7 +58,7 @@ pub fn others_leave_what_is_owned()
     ensures { OthersLeaveOwned }
 {}
 
-/// The slot of a loan in the making is its call's alone.
+/// The slot of a loan in the making belongs only to its call.
 pub fn loans_have_own_slots()
     ensures own { LoansHaveOwnSlots }
     ensures handles { OwnSlotsAreNoHandles }

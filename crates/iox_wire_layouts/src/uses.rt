@@ -1,4 +1,4 @@
-//! A caller of the test of a plan, proved from its clause alone.
+//! A caller of the test of a plan, proved only from its clause.
 ghost use Rattle.std.specs.Prelude.{◌≡◌, IfSome};
 ghost use Rattle.iox_word_places.specs.Plans.{IsPlan};
 

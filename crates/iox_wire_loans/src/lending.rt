@@ -178,8 +178,8 @@ impl Lending {
         }
     }
 
-    /// Goes on after its access, which found `seen`. If it is over it says what that answers: where
-    /// it stored nothing, a refusal.
+    /// Continues after its access, which found `seen`. If it is over it says what that answers:
+    /// where it stored nothing, a refusal.
     #[inline(always)]
     pub fn go_on(&mut self, seat: &mut StoredSeat, seen: u64) -> Option<LendReply>
         requires busy { is_busy self.old.local ≡ true }

@@ -1,4 +1,4 @@
-//! Callers, proved from the clauses alone.
+//! Callers, proved only from the clauses.
 ghost use Rattle.std.specs.Prelude.{ℕ, ◌≡◌, ◌+◌, ◌<◌, ◌≤◌, ◌^◌, false, length, true};
 ghost use Rattle.iox_model.specs.declared.call.Call.TheVariants.{Loan};
 ghost use Rattle.iox_model.specs.Loans.{request_ways, response_ways};

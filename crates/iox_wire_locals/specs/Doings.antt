@@ -72,7 +72,7 @@ visits true x w left waiting = Again x w left waiting
 abbrev pub all_words : Message → Doing
 all_words m = Ended (doings.Tells (replies.Words (m.user ++ m.payload)))
 
--- `f` is what is fixed in the machine: of it the node's own part alone counts, which stays during
+-- `f` is what is fixed in the machine: of it only the node's own part counts, which stays during
 -- its call
 abbrev pub doing_of : Setting → Fixed → Pools → ℕ → Local → Option Doing
 doing_of p f held node Idle = None

@@ -1,4 +1,4 @@
--- Which access a node makes next: it follows from its place in the call alone.
+-- Which access a node makes next: it follows only from its place in the call.
 use Rattle.std.specs.Prelude.{ℕ, ◌+◌, ◌-◌, ◌^◌, true, false, if◌then◌else◌, ◌==◌, nat_lt, length, slice_index}
 use Rattle.iox_model.specs.declared.way.RequestState.{RequestState}
 use Rattle.iox_model.specs.declared.way.RequestState.TheVariants.{Closed, Named}

@@ -33,7 +33,7 @@ abbrev pub sends_entry : Seat → Entry → Bool → ℕ → Seat
 sends_entry x e true count = at_desk (gains x (sent_entry e count)) e.port counts_loan
 sends_entry x e false count = record x { table = with_entry (sent_entry e count) x.table }
 
--- a response's loan is gone, and its message is the receivers' alone
+-- a response's loan is gone, and its message belongs only to the receivers
 abbrev pub sends_away : Seat → Entry → Bool → Seat
 sends_away x e true = at_desk x e.port (λ d. uses_less e.slot (counts_loan d))
 sends_away x e false = at_desk (loses x e) e.port (uses_less e.slot)
@@ -66,7 +66,7 @@ settled p x (Receives v w slot header) =
     at_count (gains x (received_entry (next_handle p x) v w slot header)) w (λ n. n + 1)
 settled p x (Drops e) = loses (releases_message x e) e
 settled p x (Forgets dead) = if has_number dead x.forgot then x else forgets p x dead
--- an answer changes nothing, and what a write fills stands among the words alone
+-- an answer changes nothing, and what a write fills stands only among the words
 settled p x ending = x
 
 -- a request that its call copied has its number told as it is sent

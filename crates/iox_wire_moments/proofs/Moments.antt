@@ -79,7 +79,7 @@ tied_at h read f g a state y v here there = elim (cases_Bool (same_way v y)) [
 abbrev after_event : WireContents → WireQueue → QueueEvent → WireContents
 after_event c q event = with_queue c q (state_after event (c.queues q))
 
--- what waits, and what is in hand
+-- what is waiting, and what is in hand
 abbrev waiting_of : QueueState → List ℕ
 waiting_of state = state.waiting
 

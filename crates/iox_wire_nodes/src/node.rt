@@ -152,9 +152,9 @@ impl StoredNode {
         }
     }
 
-    /// Goes on after its access, which found `seen`. If its call is over it says what that answers.
-    /// There is to be room for what the call adds at its end, and what the access gets back,
-    /// delivers or gives up is to be in use.
+    /// Continues after its access, which found `seen`. If its call is over it says what that
+    /// answers. There is to be room for what the call adds at its end, and what the access gets
+    /// back, delivers or gives up is to be in use.
     #[inline(always)]
     pub fn go_on(&mut self, seen: u64) -> Option<NodeReply>
         requires busy { is_busy (seat_in self.old).local ≡ true }

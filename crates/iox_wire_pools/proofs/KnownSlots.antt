@@ -31,7 +31,7 @@ use Rattle.iox_wire_pools.proofs.SeatUses.{delivered, got_back}
 
 -- ---- records
 
--- the ways alone tell whose they are
+-- only the ways tell whose they are
 from_ways : (port : ℕ) (rs : List Recorded) → list_all (λ r. r.way.sender == port) rs ≡ list_all (λ v. v.sender == port) (ways_in rs)
 from_ways port [] = refl
 from_ways port (r ∷ rs) = ap (λ b. (r.way.sender == port) && b) (from_ways port rs)

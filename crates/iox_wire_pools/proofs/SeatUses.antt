@@ -107,7 +107,7 @@ unchanged x y port pool desks own counted =
           ∙ sym (uses_are y port n counted.desk now)) counted.counts;
     }
 
--- ---- own uses change alone
+-- ---- only own uses change
 
 -- Nothing that counts changes at the desk.
 pub desk_same : (x y : Seat) (q : ℕ) (change : Desk → Desk) → ChangesDesk x y q change

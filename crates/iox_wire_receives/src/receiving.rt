@@ -178,7 +178,7 @@ impl Receiving {
         }
     }
 
-    /// Goes on after its access, which found `seen`. If it is over it says what that answers.
+    /// Continues after its access, which found `seen`. If it is over it says what that answers.
     #[inline(always)]
     pub fn go_on(&mut self, seat: &mut StoredSeat, seen: u64) -> Option<ReceiveReply>
         requires busy { is_busy self.old.local ≡ true }

@@ -1,4 +1,4 @@
-//! Callers, proved from the clauses alone.
+//! Callers, proved only from the clauses.
 ghost use Rattle.std.specs.Prelude.{ℕ, ◌≡◌, ◌≢◌, ◌+◌, ◌<◌, ◌≤◌, ◌^◌, [], None, Some, true, vec_capacity};
 ghost use Rattle.iox_word_places.specs.Plans.{most_ways};
 ghost use Rattle.iox_model.specs.declared.call.Call.TheVariants.{Release};

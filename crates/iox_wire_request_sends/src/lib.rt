@@ -1,5 +1,5 @@
 //! The send of a request by a client of a wire, as single accesses: it gets back what it can, looks
-//! who is full, opens the request states, and delivers to each server in turn.
+//! who is full, opens the request states, and delivers to the servers one after another.
 #![tactic(auto)]
 
 mod at;

@@ -184,7 +184,7 @@ impl Requesting {
         }
     }
 
-    /// Goes on after its access, which found `seen`. If it is over it says what that answers. A
+    /// Continues after its access, which found `seen`. If it is over it says what that answers. A
     /// loan that is sent is told by a handle exactly where its own call made it. What it gets back
     /// is to be in use at the port's desk, and what it delivers is to have room in the record of
     /// its way.

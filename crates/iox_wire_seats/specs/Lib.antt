@@ -16,5 +16,5 @@ pub mod SlotEvents
 -- what a call leaves there that is kept beside the seat
 pub mod Keeps
 pub mod Lends
--- for proofs of this crate alone: where a party of a queue is
+-- only for proofs of this crate: where a party of a queue is
 pub mod Places

@@ -1,5 +1,5 @@
--- How a party of a queue keeps where it is: a name, and numbers beside it. For proofs of this crate
--- alone.
+-- How a party of a queue keeps where it is: a name, and numbers beside it. Only for proofs of this
+-- crate.
 use Rattle.std.specs.Prelude.{ℕ, Bool}
 use Rattle.iox_steps.specs.declared.push.Push.TheVariants as push
 use Rattle.iox_steps.specs.declared.push.FullLook.TheVariants as full_look

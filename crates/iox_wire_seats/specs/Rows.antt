@@ -38,7 +38,7 @@ pub record IsLowerBound (n : ℕ) (es : List Entry) (bound : ℕ) : Type 0 where
   pub lower : (k : ℕ) → k < bound → number_at es k < n
   pub others : (k : ℕ) → bound ≤ k → k < length es → n ≤ number_at es k
 
--- the entry at this place alone has that number
+-- only the entry at this place has that number
 abbrev pub IsOnlyAt : ℕ → List Entry → ℕ → Type 0
 IsOnlyAt n [] i = ⊥
 IsOnlyAt n (e ∷ es) zero = (e.number ≡ n) × AreAbove n es

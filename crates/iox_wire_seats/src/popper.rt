@@ -92,7 +92,7 @@ impl Popper {
         }
     }
 
-    /// Goes on after its access, which found `seen`, and tells the event of it.
+    /// Continues after its access, which found `seen`, and tells the event of it.
     #[inline(always)]
     pub fn advance(&mut self, site: Site, seen: u64) -> QueueEvent
         requires { site.base + size site < 2 ^ 64 }
@@ -174,7 +174,7 @@ fn takes(kind: QueueKind, read: u64, seen: u64) -> bool
     }
 }
 
-/// What the write position tells of what waits in a queue.
+/// What the write position tells about what is waiting in a queue.
 #[inline(always)]
 fn waiting_seen(site: Site, read: u64, write: u64) -> QueueEvent
     ensures { result ≡ waiting_event site read write }

@@ -114,7 +114,7 @@ impl Pusher {
         }
     }
 
-    /// Goes on after its access, which found `seen`, and tells the event of it.
+    /// Continues after its access, which found `seen`, and tells the event of it.
     #[inline(always)]
     pub fn advance(&mut self, site: Site, seen: u64) -> QueueEvent
         requires { site.base + size site < 2 ^ 64 }

@@ -252,7 +252,8 @@ impl StoredSeat {
         }
     }
 
-    /// Goes on after its access, which found `seen`. If its call is over it says what that answers.
+    /// Continues after its access, which found `seen`. If its call is over it says what that
+    /// answers.
     #[inline(always)]
     pub fn go_on(&mut self, seen: u64) -> Option<SeatReply>
         requires { self.old.seat.accesses + 1 < 2 ^ 64 }

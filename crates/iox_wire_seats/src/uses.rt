@@ -1,4 +1,4 @@
-//! Callers, proved from the clauses alone.
+//! Callers, proved only from the clauses.
 ghost use Rattle.std.specs.Prelude.{◌≡◌, ◌+◌, ◌<◌, ◌^◌, ◌++◌, ◌∷◌, [], IfOk, IfSome, List, Some, map, slice_index, ℕ};
 ghost use Rattle.iox_model.specs.declared.kind.Kind.TheVariants.{Response};
 ghost use Rattle.iox_model.specs.Messages.{response_way};

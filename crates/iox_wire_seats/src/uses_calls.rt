@@ -1,4 +1,4 @@
-//! Callers of whole calls, proved from the clauses alone.
+//! Callers of whole calls, proved only from the clauses.
 ghost use Rattle.std.specs.Prelude.{ℕ, ◌≡◌, ◌+◌, ◌<◌, ◌≤◌, ◌^◌, None, Some, false, length, option_map};
 ghost use Rattle.iox_model.specs.declared.call.Call.TheVariants.{HasHint, HasRequests, HasResponse};
 ghost use Rattle.iox_model.specs.declared.call.Call.TheVariants.{IsConnected, Read, Release, SetHint, Write};

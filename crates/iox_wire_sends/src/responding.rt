@@ -130,7 +130,7 @@ impl Responding {
         }
     }
 
-    /// Goes on after its access, which found `seen`. If it is over it says what that answers. The
+    /// Continues after its access, which found `seen`. If it is over it says what that answers. The
     /// loan and what it gets back are to be in use at the port's desk, and what it delivers is to
     /// have room in the record of its way.
     #[inline(always)]

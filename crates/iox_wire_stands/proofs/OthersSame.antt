@@ -64,7 +64,7 @@ module _ (s : State) (m n : ℕ) (y : Way) (k : ℕ) (mine : node_of_port s.fixe
   moved_else d (GetBack v j) c f = elsewhere v _ (back_own s m d v j c f)
   moved_else d mo c f = refl
 
-  -- a Forget clears ways of its own ports alone
+  -- a Forget clears only ways of its own ports
   forgets_else : (gone : ℕ) → HasOwnPorts s.fixed → (forgets s m gone).delivered y k ≡ s.delivered y k
   forgets_else gone own = by_case (goes_to_dead s.fixed m gone y) none
     where

@@ -168,7 +168,7 @@ module _ (p : Setting) (c : WireContents) (s : State) (queues : QueuesHaveSlots 
   messages_after y event way on low =
       with_messages y (state_after event (c.queues (MessageQueue y))) (after p y.sender (c.queues (MessageQueue y)) (message_queue y way on) event low)
 
-  -- of a returning queue what waits alone
+  -- of a returning queue only what is waiting
   only_waits : (y : Way) → IsWay p.layout.sizes y → is_counted_on s.fixed y ≡ true
       → AllIn p y.sender (record (c.queues (ReturningQueue y)) { hand = [] })
   only_waits y way on = record { waiting = λ slot. queues.returned y slot way on; in_hand = λ slot has. absurd (true≢false (sym has)) }

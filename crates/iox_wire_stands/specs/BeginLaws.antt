@@ -28,7 +28,7 @@ use Rattle.iox_wire_stands.specs.Nodes.{NodeStands}
 use Rattle.iox_wire_stands.specs.Runs.{Asked, GoesOnBy, Run}
 use Rattle.iox_wire_stands.specs.Stands.{AreNumbered, OwnersAre, Player, Stands}
 
--- What is asked of the node that begins the call, of its own data alone.
+-- What is asked of the node that begins the call, only of its own data.
 pub record MayBegin (p : Setting) (held : Pools) (s : State) (x : Seat) (call : WireCall)
     : Type 0 where
   pub rests : x.local ≡ Idle

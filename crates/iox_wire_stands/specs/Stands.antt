@@ -57,7 +57,7 @@ pub record Stands (p : Setting) (words : List ℕ) (players : ℕ → Player) (r
   pub numbers : AreNumbered p
   -- each port has a region for its messages
   pub regions : (port : ℕ) → has_number port p.layout.sizes.ports ≡ true → HasRegion p port
-  -- each returning queue has room for what waits, what is borrowed, and one more
+  -- each returning queue has room for what is waiting, what is borrowed, and one more
   pub rooms : (y : Way) → IsWay p.layout.sizes y
       → p.layout.capacity (ReturningQueue y)
       ≡ buffer_on r.last.state.fixed y + borrow_limit_on r.last.state.fixed y + 1

@@ -1,4 +1,4 @@
--- What is known of slots depends on the serials in them alone: a payload may change.
+-- What is known of slots depends only on the serials in them: a payload may change.
 use Rattle.std.specs.Prelude.{◌≤◌, map}
 use Rattle.std.proofs.Common.{◌≡◌, ℕ, Bool, true, false, if◌then◌else◌, List, refl, ap, sym, subst, ◌∙◌}
 use Rattle.iox_model.specs.declared.way.Way.{Way}

@@ -1,4 +1,4 @@
--- Steps that access a request state alone need not be told anything.
+-- Steps that access only a request state need not be told anything.
 use Rattle.std.specs.Prelude.{◌≡◌, ℕ, List, length, None}
 use Rattle.iox_model.specs.Joins.{not_living}
 use Rattle.iox_model.specs.Maps.{put_at}

@@ -56,7 +56,7 @@ tells_same w u port x z is same t = record {
   outstanding = λ y from. t.outstanding y from ∙ sym (same.outstanding y from);
 }
 
--- a port sends on its own ways alone
+-- a port sends only on its own ways
 pub from_port : (f : Fixed) (port : ℕ) (y : Way) → IsAmong y (ways_from f port) → y.sender ≡ port
 from_port f port y among = by_role (is_client (role_at f port)) among
   where

@@ -1,4 +1,4 @@
--- Each access keeps the words: what its own piece needs is shown of that alone, and all else stays.
+-- Each access keeps the words: what its own piece needs is shown only of that, and all else stays.
 use Rattle.std.proofs.Common.{◌≡◌, ℕ, ◌+◌, ◌<◌, ◌≤◌, true, false, if◌then◌else◌, ◌==◌, length, refl, ap, sym, subst, ◌∙◌, inl, inr, true≢false, eqb-true, eq-eqb, arith}
 use Rattle.std.proofs.lemmas.Bool.{cases_Bool}
 use Rattle.std.specs.Prelude.{slice_index}

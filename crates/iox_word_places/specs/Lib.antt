@@ -3,7 +3,7 @@
 pub mod Plans
 pub mod Refusals
 pub mod PlanLaws
--- for proofs of this crate alone: sums over ports, and the fields of a map
+-- only for proofs of this crate: sums over ports, and the fields of a map
 pub mod PortSums
 pub mod MapFields
 -- what the crates above cite of those below

@@ -1,4 +1,4 @@
-//! Callers of a map, proved from its clauses alone.
+//! Callers of a map, proved only from its clauses.
 ghost use Rattle.std.specs.Prelude.{◌≡◌, IfErr, IfOk, IsTrue, None};
 ghost use Rattle.iox_wire_words.specs.Programs.{site_of};
 ghost use Rattle.iox_word_map.specs.WordMaps.{MessageQueue, ReturningQueue};

@@ -16,7 +16,7 @@ use Rattle.iox_laws.specs.MessageLaws.Lists.{GivesThese}
 use Rattle.iox_laws.specs.MessageLaws.Orders.{WholeOnWires}
 use Rattle.iox_laws.proofs.MessageLaws.Lists.{leaves_out, gives_itself}
 
--- from what waits before, and what is put on from then on, come what is taken and what waits in the end
+-- from what waits before, and what is put on from then on, come what is taken and what is waiting in the end
 abbrev pub Comes : State → Way → List Message → List Message → Type 0
 Comes s y later taken = GivesThese (s.waiting y ++ later) taken
 

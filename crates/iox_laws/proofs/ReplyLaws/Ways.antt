@@ -38,7 +38,7 @@ or-in false b c = refl
 
 -- ---- a test of ways
 
--- the same test, but of the other ways alone
+-- the same test, but only of the other ways
 abbrev pub elsewhere : Way → (Way → Bool) → Way → Bool
 elsewhere w test v = not (same_way v w) && test v
 

@@ -29,7 +29,7 @@ use Rattle.iox_laws.specs.RunLaws.Traces.{unless_refused, beats_of_done, beats_o
 abbrev pub Relates : Type 1
 Relates = State → List Beat → State → Type 0
 
--- it holds along nothing, one after another, where nodes or ports alone change, along each call, and
+-- it holds along nothing, one after another, where only nodes or ports change, along each call, and
 -- where a loan is filled
 pub record IsAlong (R : Relates) : Type 0 where
   pub none : (s : State) → R s [] s
@@ -81,7 +81,7 @@ releases_along R a s node (n ∷ ns) t r =
     a.both s r.0 t (beats_of_call s node (Release n) Done r.0 r.1) (beats_of_releases r.0 node ns t r.2)
     (call_along R a s node (Release n) Done r.0 r.1) (releases_along R a r.0 node ns t r.2)
 
--- what changes members alone
+-- what changes only members
 quiet : (R : Relates) → IsAlong R → (q : Option Refusal) (s : State) (reply answer : Reply) (t : State) (x : Members)
     → UnlessRefused q s reply t ((reply ≡ answer) × (t ≡ with_members s x)) → R s [] t
 quiet R a (Some r) s reply answer t x u = subst (R s []) (sym u.1) (a.none s)

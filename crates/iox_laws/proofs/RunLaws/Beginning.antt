@@ -138,7 +138,7 @@ releases_holds f h p =
     (λ u. either (HoldsIn f) (same_kind h.kind PendingResponse) (closing h (states_of f h)) (Ended (Drops h))
     (λ v. closing_holds f h (states_of f h) p) (λ v. p))
 
--- a server receives by itself, a client by its pending responses
+-- a server itself receives, a client by its pending responses
 server_receives : (f : Fixed) (n : ℕ) (p : Port) → suits f.on_wire (Receive n) (kind_of (ThePort p)) ≡ true → is_client p.role ≡ false
 server_receives f n p e =
     by_cases (is_client p.role)

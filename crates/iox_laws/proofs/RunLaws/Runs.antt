@@ -88,7 +88,7 @@ made_calm s p is c = record {
   owned = made_owned s p is c.rests c.owned;
 }
 
--- ---- nodes alone
+-- ---- only nodes
 
 same_rests : (s t : State) → t.fixed ≡ s.fixed → t.waiting ≡ s.waiting → Rested s → Rested t
 same_rests s t fixed waiting r = record {

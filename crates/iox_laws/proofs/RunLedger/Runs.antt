@@ -50,7 +50,7 @@ done-kept s n call reply t k named d =
 pub made-kept : (s : State) (p : Port) → p.number ≡ s.fixed.next_number → Kept s → Kept (with_fixed s (with_port s.fixed p))
 made-kept s p new k = record { calm = made_calm s p new k.calm; books = made-books s p new k.calm k.books }
 
--- a step that changes nodes alone
+-- a step that changes only nodes
 members-books : (s : State) (x : Members) → Books s → Books (with_members s x)
 members-books s x b = record { hub = b.hub; fresh = b.fresh; hand = b.hand; idle = b.idle; counts = b.counts; within = b.within }
 

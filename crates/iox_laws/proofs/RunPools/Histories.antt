@@ -157,7 +157,7 @@ releases_go s n (k ∷ ks) t calm all r =
     let first : Goes s r.0 = call_goes s n (Release k) Done r.0 calm all r.1 in
     goes_after s r.0 t first (releases_go r.0 n ks t (whole_calm s n (Release k) Done r.0 calm r.1) first.unreduced r.2)
 
--- nodes alone change
+-- only nodes change
 members_go : (s t : State) (x : Members) → IsUnreducedHub s.fixed → t ≡ with_members s x → Goes s t
 members_go s t x all e = subst (Goes s) (sym e) (record { limits = refl; unreduced = all })
 

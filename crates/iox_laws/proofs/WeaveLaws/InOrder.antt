@@ -27,7 +27,7 @@ pub gives_itself : (xs : List ℕ) → Gives (xs ++ []) ([] ++ xs)
 gives_itself [] = tt
 gives_itself (x ∷ xs) = inl (refl, gives_itself xs)
 
--- from what waits before a beat, and what is put on from then on, come what is taken and what waits in the end
+-- from what waits before a beat, and what is put on from then on, come what is taken and what is waiting in the end
 abbrev pub Comes : State → Way → List ℕ → List ℕ → Type 0
 Comes s y later taken = Gives (serials_of (s.waiting y) ++ later) taken
 

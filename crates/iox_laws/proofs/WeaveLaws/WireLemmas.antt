@@ -19,7 +19,7 @@ released-wire s port e =
     ap (λ (b : Bool). if not b && (not (list_any (λ p. (p.number == port) && p.held) s.fixed.ports) && is_empty (handles_of s.fixed port))
     then disconnected s port else s) e
 
--- what waits, what was given back, what is in hand and what is named is the same, and the wire is open
+-- what is waiting, what was given back, what is in hand and what is named is the same, and the wire is open
 pub record Same (s t : State) : Type 0 where
   pub waiting : t.waiting ≡ s.waiting
   pub returned : t.returned ≡ s.returned

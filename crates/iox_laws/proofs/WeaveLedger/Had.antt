@@ -23,7 +23,7 @@ use Rattle.iox_laws.proofs.WeaveLedger.Views.{view, IsAt, node_in, way_of-receiv
 use Rattle.iox_laws.proofs.WeaveLedger.Senders.{FitsHandles, FitsDoing}
 use Rattle.iox_laws.proofs.WeaveLedger.Quiet.{IsQuiet, asked-quiet, emptying-quiet, looking-quiet, opening-quiet, loaning-quiet, visiting-quiet, checked-quiet, hinting-quiet, seeking-quiet}
 
--- the serials that a moment adds to what waits, is held, was given back; and those got back
+-- the serials that a moment adds to what is waiting, is held, was given back; and those got back
 abbrev pub put_on : Way → Moment → List ℕ
 put_on y (Deliver w m) = if_on y w m.serial
 put_on y m = []

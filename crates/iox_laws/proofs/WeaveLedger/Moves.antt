@@ -39,7 +39,7 @@ last-is : (x : Sending) (w : Way) (last : Option Way) → FitsLast x last → is
 last-is x w None p e = absurd (never false e refl)
 last-is x w (Some v) p e = subst (λ u. FitsLast x (Some u)) (sym (same_way-true w v e)) p
 
--- what waits is on its way
+-- what is waiting is on its way
 abbrev pub WaitsFit : State → Type 0
 WaitsFit s = (y : Way) (m : Message) → IsAmong m (s.waiting y) → OnWay s.fixed.ports y m
 

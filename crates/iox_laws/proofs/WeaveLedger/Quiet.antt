@@ -54,7 +54,7 @@ held-taken y hs ks = ap (λ gs. serials gs ++ ks) (filter-same (λ h. has_receiv
 pub held-handles : (y : Way) (hs : List Handle) → serials (filter (λ h. has_received y h && true) hs) ++ [] ≡ serials (filter (has_received y) hs)
 held-handles y hs = held-taken y hs [] ∙ append-nil (serials (filter (has_received y) hs))
 
--- its handles alone
+-- only its handles
 pub held-quiet : (y : Way) (hs : List Handle) (d : Doing) → IsQuiet d → held_on y hs (Some d) ≡ held_on y hs None
 held-quiet y hs (Ended (Receives x w m)) e = absurd (true≢false (sym e))
 held-quiet y hs (Ended (Drops h)) e = absurd (true≢false (sym e))

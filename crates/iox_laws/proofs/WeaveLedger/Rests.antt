@@ -1,4 +1,4 @@
--- The end of a call changes nothing of what was delivered, and a Forget alone who is forgotten.
+-- The end of a call changes nothing of what was delivered, and only a Forget changes who is forgotten.
 use Rattle.std.specs.Prelude.{◌≡◌, ℕ, ◌+◌, Bool, true, false, if◌then◌else◌, List, ◌⊎◌, refl}
 use Rattle.std.proofs.Common.{sym, subst, ap, inl, inr}
 use Rattle.iox_model.specs.Doings.{Outcome, Tells, Loans, Fills, Sends, FailsToSend, Receives, Drops, DropsPort, Forgets}

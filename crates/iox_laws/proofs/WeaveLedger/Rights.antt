@@ -144,7 +144,7 @@ swapped-sends v n h port k fits r (inr l) = elim (with-among h l.handle v.handle
       serial = sym q.1 ∙ sym (ap (λ (g : Handle). g.message.serial) e) ∙ l.serial;
     }
 
--- what rests on handles and loans alone
+-- what rests only on handles and loans
 same-sends : (v : View) (borrowed : Way → ℕ) (forgot : List ℕ) (port k : ℕ) → MaySend (record v { borrowed = borrowed; forgot = forgot }) port k
     → MaySend v port k
 same-sends v borrowed forgot port k (inl e) = inl e

@@ -1,4 +1,4 @@
--- A node by itself brings its call to the end.
+-- A node alone brings its call to the end.
 use Rattle.std.specs.Prelude.{◌≡◌, ℕ, ◌+◌, Bool, true, false, not, if◌then◌else◌, ◌==◌, nat_lt, nat_le, List, [], ◌∷◌, ◌++◌, length, map, Option, Some, None, refl}
 use Rattle.std.specs.List.{list_any}
 use Rattle.std.proofs.Common.{sym, subst, ap, ap₂, ◌∙◌, true≢false, arith}

@@ -58,7 +58,7 @@ no_more s (Look w shown) v p = le-refl (length (s.waiting v))
 
 -- ---- the ways that only a sender changes so
 
--- it delivers, evicts and gets back on its own ways alone
+-- it delivers, evicts and gets back only on its own ways
 abbrev IsOwnTouch : Fixed → ℕ → Moment → Type 0
 IsOwnTouch f node (Deliver w m) = IsPortOf f node w.sender
 IsOwnTouch f node (Evict w) = IsPortOf f node w.sender

@@ -1,4 +1,4 @@
--- What is said of limits, ports and the next number alone, and neither a number that is given out,
+-- What is said only of limits, ports and the next number, and neither a number that is given out,
 -- nor a port that goes, nor one whose value is released makes false, is kept by each call.
 use Rattle.std.specs.Prelude.{◌≡◌, ℕ, ◌+◌, ◌-◌, Bool, true, false, not, ◌==◌, List, map, filter, None}
 use Rattle.std.proofs.Common.{sym, subst}

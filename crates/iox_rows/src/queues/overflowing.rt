@@ -74,8 +74,8 @@ fn a_capacity_of_zero_or_past_the_memory_is_refused(rt: HostRuntime) -> Result<(
     Ok(())
 }
 
-/// Past the last position a number comes back, and what waits stays. No test comes there, so this
-/// is proved.
+/// Past the last position a number comes back, and what is waiting stays. No test comes there, so
+/// this is proved.
 pub fn past_the_last_position_a_number_comes_back(queue: &mut SafelyOverflowingIndexQueue)
     requires one { queue.old.capacity ≡ 1 }
     requires empty { queue.old.waiting ≡ [] }

@@ -60,7 +60,7 @@ fn lacks(
 }
 
 /// A client that is too large finds no memory, nor does a node whose join says so. Then there is
-/// the first node alone, and its first client has number 0.
+/// only the first node, and its first client has number 0.
 fn changes_nothing(
     rt: &impl Abort,
     alloc: Global,

@@ -1,4 +1,4 @@
-//! What waits of ports that are gone.
+//! What is waiting of ports that are gone.
 use super::{Asked, Given, Row, Told, plays_in, settings};
 use iox_control::Settings;
 use iox_model::reply::Refusal;
@@ -6,7 +6,8 @@ use std::alloc::Global;
 use std::process::Abort;
 use std::test::Fail;
 
-/// Two servers, and so many ports that are gone of which a client, and a server, keeps what waits.
+/// Two servers, and so many ports that are gone of which a client, and a server, keeps what is
+/// waiting.
 pub fn keeping(clients: usize, servers: usize) -> Settings {
     Settings {
         servers: 2,

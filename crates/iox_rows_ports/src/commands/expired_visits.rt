@@ -1,4 +1,4 @@
-//! In which order what waits of ports that are gone is received, and what of it stays.
+//! In which order what is waiting of ports that are gone is received, and what of it stays.
 use super::expired::keeping;
 use super::{Asked, Given, Row, Told, plays_in};
 use iox_control::Settings;
@@ -94,8 +94,8 @@ fn what_was_received_stays_where_no_pair_is_kept(rt: HostRuntime) -> Result<(), 
     plays_in(&rt, rt.alloc(), keeping(0, 0), TAKEN)
 }
 
-/// What waits of server 1 is an answer to a request that was given up, and what waits of server 2
-/// one to a later request. Server 2 goes, and then server 1.
+/// What is waiting of server 1 is an answer to a request that was given up, and what is waiting of
+/// server 2 one to a later request. Server 2 goes, and then server 1.
 const STALE: &[Row] = &[
     (0, Asked::Client(Given::Nothing), Told::Client(0)),
     (1, Asked::Server, Told::Server(1)),

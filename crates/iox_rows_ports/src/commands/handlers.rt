@@ -110,8 +110,8 @@ fn a_handler_follows_a_strategy_that_discards(rt: HostRuntime) -> Result<(), Fai
     )
 }
 
-/// What a second response is told, loaned or copied, where the first waits. The client receives the
-/// first alone.
+/// What a second response is told, loaned or copied, where the first waits. The client receives
+/// only the first.
 fn second_response(
     rt: &impl Abort,
     alloc: Global,

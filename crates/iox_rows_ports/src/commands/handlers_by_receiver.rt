@@ -1,4 +1,4 @@
-//! Whom a handler is asked about: each full server by itself, for its own client alone. Requests do
+//! Whom a handler is asked about: each full server singly, and only for its own client. Requests do
 //! not overflow, and a client has one active request: so a second request meets two full queues.
 
 use super::answering::AnswersAt;

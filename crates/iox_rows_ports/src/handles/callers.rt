@@ -1,4 +1,4 @@
-//! Callers of a table, proved from its clauses alone.
+//! Callers of a table, proved only from its clauses.
 ghost use Rattle.std.specs.Prelude.{◌≡◌, ◌+◌, ◌<◌, ◌≤◌, ◌^◌, IfOk, None, Some, true};
 ghost use Rattle.iox_handles.specs.Tables.{handle_at};
 

@@ -105,7 +105,7 @@ fn the_oldest_are_visited_first(rt: HostRuntime) -> Result<(), Fail> {
     Ok(())
 }
 
-/// Ends the test if the pipe of that rank has not this alone to get back.
+/// Ends the test unless the pipe of that rank has only this to get back.
 fn gets_back(rt: &impl Abort, expired: &mut Expired, rank: usize, place: u64) {
     equal(rt, expired.lane_to_get(rank), Some(0));
     equal(rt, expired.on_lane(rank, 0, &GetBack), Some(place));

@@ -48,7 +48,7 @@ fn visits(rt: &impl Abort, incoming: &mut Incoming, wanted: Visits) {
     equal(rt, seen, wanted);
 }
 
-/// Ends the test if the first sender cannot get back this alone.
+/// Ends the test unless the first sender can get back only this.
 fn gets_back(rt: &impl Abort, incoming: &mut Incoming, place: u64) {
     equal(rt, incoming.lane_to_get(11), Some(0));
     equal(rt, incoming.on_lane(11, 0, &GetBack), Some(place));

@@ -1,4 +1,4 @@
-//! Callers, proved from the clauses alone.
+//! Callers, proved only from the clauses.
 ghost use Rattle.std.specs.Prelude.{◌≡◌, ◌<◌, ◌+◌, ◌-◌, ◌^◌, IfOk, None, true};
 ghost use Rattle.iox_tables.specs.HubStates.Tables.{slot_at, slots_of};
 ghost use Rattle.iox_slots.specs.Pools.{free_count, has_slot};

@@ -1,4 +1,4 @@
-//! Callers of a store, proved from its clauses alone.
+//! Callers of a store, proved only from its clauses.
 ghost use Rattle.std.specs.Prelude.{◌≡◌, ◌≢◌, ◌<◌, ◌≤◌, IfOk, false, flat_map, length, true};
 ghost use Rattle.iox_store.specs.Stored.{stored_at};
 

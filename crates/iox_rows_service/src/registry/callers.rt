@@ -1,4 +1,4 @@
-//! Callers of the registers: what they rely on follows from the contracts alone.
+//! Callers of the registers: what they rely on follows only from the contracts.
 ghost use Rattle.std.specs.Prelude.{◌≡◌, IfOk, IfSome, None, Some, length};
 ghost use Rattle.iox_registry.specs.Registers.{listed, recovered};
 ghost use Rattle.iox_registry.specs.declared.remaining_owners.RemainingOwners.TheVariants.{NoMoreOwners};

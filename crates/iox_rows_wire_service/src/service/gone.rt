@@ -1,4 +1,4 @@
-//! What waits of ports that are gone.
+//! What is waiting of ports that are gone.
 use super::openers::fit;
 use super::starts::SETTINGS;
 use super::{Ask, Told, plays};
@@ -8,8 +8,8 @@ use std::process::Abort;
 use std::test::Fail;
 
 /// Two servers of node 1 answer one request with 10 and with 20. The first releases all that it
-/// has, and then the second. The client keeps what waits of so many servers that are gone, and is
-/// told this.
+/// has, and then the second. The client keeps what is waiting of so many servers that are gone, and
+/// is told this.
 fn then(
     rt: &impl Abort,
     alloc: Global,

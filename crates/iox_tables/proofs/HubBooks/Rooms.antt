@@ -47,7 +47,7 @@ id_bare pools place = ap (λ o. option_map_or (λ (p : PoolState). p.port_id) o 
     step (Some p) = refl
     step None = refl
 
--- pools that are the same but for holders differ in these alone
+-- pools that are the same but for holders differ only in these
 pub differ_in_holders : (old new : List (Option PoolState)) → bare_pools old ≡ bare_pools new → DifferInHolders old new
 differ_in_holders old new same = record {
   owners = same_owner old new same;

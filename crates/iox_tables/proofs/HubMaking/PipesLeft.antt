@@ -1,4 +1,4 @@
--- Which pipes are left, once a port is gone of which receivers keep what waits.
+-- Which pipes are left, once a port is gone of which receivers keep what is waiting.
 use Rattle.std.specs.Prelude.{◌≡◌, ℕ, zero, suc, ◌+◌, ◌<◌, ◌≤◌, Bool, true, false, not, ◌&&◌, ◌||◌, if◌then◌else◌, ◌==◌, nat_le, nat_lt, List, [], ◌∷◌, ◌++◌, drop, filter, length, map, Option, Some, None, is_some, refl}
 use Rattle.std.specs.Option.{option_map, option_map_or}
 use Rattle.std.proofs.Common.{sym, ap, ap₂, ◌∙◌, arith, true≢false, eqb-true, eq-eqb}

@@ -40,7 +40,7 @@ bare_pool p = record p { slots = map bare_slot p.slots }
 abbrev pub bare_pools : List (Option PoolState) → List (Option PoolState)
 bare_pools pools = map (option_map bare_pool) pools
 
--- Pools differ in holders alone: each slot has so many more.
+-- Pools differ only in holders: each slot has so many more.
 pub record HasMoreHolders (old new : List (Option PoolState)) (more : ℕ → ℕ → ℕ) : Type 0 where
   pub same : bare_pools old ≡ bare_pools new
   pub holders :
@@ -83,7 +83,7 @@ ResponsesKeepOrder =
 
 -- ---- releases
 
--- Pools differ in holders alone: the slot of the handle's message has one less.
+-- Pools differ only in holders: the slot of the handle's message has one less.
 pub record HasOneHolderLess (old new : List (Option PoolState)) (h : HandleState) : Type 0 where
   pub same : bare_pools old ≡ bare_pools new
   pub holders :

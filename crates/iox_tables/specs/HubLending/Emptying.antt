@@ -15,7 +15,7 @@ use Rattle.iox_tables.specs.HubBooks.Keeps.{bare_pools}
 use Rattle.iox_tables.specs.HubLoans.Lenders.{is_pool_dry, ways_by, with_got_back}
 use Rattle.iox_tables.specs.HubLending.Keeping.{HaveMessages, has_holder}
 
--- Pools differ in holders alone: each slot has so many less.
+-- Pools differ only in holders: each slot has so many less.
 pub record HasFewerHolders (old new : List (Option PoolState)) (fewer : ℕ → ℕ → ℕ) : Type 0 where
   pub same : bare_pools old ≡ bare_pools new
   pub holders :

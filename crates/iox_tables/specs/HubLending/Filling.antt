@@ -16,7 +16,7 @@ use Rattle.iox_tables.specs.HubBooks.Hubs.{AreInOrder}
 use Rattle.iox_tables.specs.HubLoans.Fillings.{IsOfOneHandle}
 use Rattle.iox_tables.specs.HubLending.Keeping.{HaveMessages}
 
--- A loan's handle alone has its message, so its words may change.
+-- Only a loan's handle has its message, so its words may change.
 abbrev pub LoansAreOfOneHandle : Type 0
 LoansAreOfOneHandle =
     (t : HubTables) (node n : ℕ) (h : HandleState) → AreInOrder t → IsHandle t node n h

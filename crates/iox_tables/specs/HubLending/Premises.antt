@@ -11,7 +11,7 @@ use Rattle.iox_tables.specs.HubLoans.Slots.{HasSlot, IsUnused}
 abbrev pub HandlesAreOnNodes : Type 0
 HandlesAreOnNodes = (t : HubTables) → AreInOrder t → AreOnNodes t
 
--- What the laws ask of a connected port: it keeps messages of its own pool alone, the pool tells
+-- What the laws ask of a connected port: it keeps only messages of its own pool, the pool tells
 -- whose it is, and it has a slot of each number below its size.
 pub record IsReadyToLend (t : HubTables) (p : PortState) : Type 0 where
   pub keeps : KeepsItsOwn t p

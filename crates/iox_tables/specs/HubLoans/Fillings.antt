@@ -20,7 +20,7 @@ use Rattle.iox_tables.specs.HubLoans.Slots.{SlotContents, IsOnNoLane, is_place, 
 
 -- ---- the words of one handle
 
--- One handle alone has the message in that slot: no lane has it, and no other handle.
+-- Only one handle has the message in that slot: no lane has it, and no other handle.
 pub record IsOfOneHandle (t : HubTables) (pool k : ℕ) : Type 0 where
   pub lanes : IsOnNoLane t pool k
   pub handles : length (filter (λ h. is_place pool k h.pool h.slot) t.handles) ≡ 1
@@ -29,7 +29,7 @@ pub record IsOfOneHandle (t : HubTables) (pool k : ℕ) : Type 0 where
 abbrev pub elements_of : HubTables → HandleState → ℕ
 elements_of t h = (slot_at t.pools h.pool h.slot).elements
 
--- Where one handle alone has a message, its words may become others, and its kind too: the machine
+-- Where only one handle has a message, its words may become others, and its kind too: the machine
 -- then changes that handle, and nothing else.
 abbrev pub WordsMayChange : Type 0
 WordsMayChange =

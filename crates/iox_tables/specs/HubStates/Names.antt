@@ -9,7 +9,7 @@ use Rattle.iox_tables.specs.HubStates.Tables.{HandleState, HubTables, PortState,
 use Rattle.iox_tables.specs.HubStates.States.{Given, fixed_of, handle_of, message_of, port_of}
 use Rattle.iox_tables.specs.HubStates.Wirings.{IsHandle}
 
--- The number names the handle, and a call of it is refused by its kind alone.
+-- The number names the handle, and a call of it is refused only by its kind.
 pub record NamesHandle (x : Given) (t : HubTables) (node n : ℕ) (h : HandleState) : Type 0 where
   pub names :
       subject (fixed_of x t) node n ≡ Some (TheHandle (handle_of x (message_of x t.pools) h))
@@ -23,7 +23,7 @@ EachHandleIsNamed =
     (x : Given) (t : HubTables) (node n : ℕ) (h : HandleState) → IsHandle t node n h
     → NamesHandle x t node n h
 
--- The number names the port, and a call of it is refused by its node and its role alone.
+-- The number names the port, and a call of it is refused only by its node and its role.
 pub record NamesPort (x : Given) (t : HubTables) (node n : ℕ) (p : PortState) : Type 0 where
   pub names : subject (fixed_of x t) node n ≡ Some (ThePort (port_of x p))
   pub refused :

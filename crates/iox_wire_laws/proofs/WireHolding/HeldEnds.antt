@@ -1,4 +1,4 @@
--- The end of a loan, whose slot nobody names yet, and of a write, whose slot is one entry's alone.
+-- The end of a loan, whose slot nobody names yet, and of a write, whose slot belongs only to one entry.
 use Rattle.std.specs.Prelude.{if◌then◌else◌}
 use Rattle.std.proofs.Common.{◌≡◌, ℕ, Bool, true, false, ◌==◌, ◌&&◌, List, Option, Some, None, refl, ap, sym, subst, ◌∙◌, eqb-true, eq-eqb, true≢false}
 use Rattle.iox_model.specs.Begins.{written}

@@ -1,4 +1,4 @@
--- What a node names depends on the ports and on the node's own part alone.
+-- What a node names depends only on the ports and on the node's own part.
 use Rattle.std.specs.Prelude.{◌⊎◌}
 use Rattle.std.proofs.Common.{◌≡◌, ℕ, Bool, true, false, ◌==◌, ap, sym, ◌∙◌, inl, inr}
 use Rattle.iox_model.specs.declared.way.Way.{Way}

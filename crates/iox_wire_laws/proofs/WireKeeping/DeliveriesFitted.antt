@@ -115,7 +115,7 @@ module _ (held : Pools) (x : Seat) (w : Way) (slot pool : ℕ) (fit : PoolFits h
   through false true c d f e = refl
   through false false c d f e = f e
 
-  -- the last part alone may have more
+  -- only the last part may have more
   parts : (a b c : Bool) {d : Bool} {P : Type 0} → (c ≡ true → (d ≡ true) ⊎ P) → (a || (b || c)) ≡ true → ((a || (b || d)) ≡ true) ⊎ P
   parts true b c f e = inl refl
   parts false true c f e = inl refl

@@ -1,4 +1,4 @@
--- Place by place: of what is fixed it is the node's own part alone that counts.
+-- Place by place: of what is fixed only the node's own part counts.
 use Rattle.std.specs.Prelude.{map, nat_le}
 use Rattle.std.proofs.Common.{◌≡◌, ℕ, Bool, true, false, if◌then◌else◌, ◌==◌, List, [], ◌∷◌, Some, refl, ap, sym, subst, ◌∙◌}
 use Rattle.iox_model.specs.declared.kind.Kind.TheVariants.{PendingResponse}

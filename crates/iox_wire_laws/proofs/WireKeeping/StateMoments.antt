@@ -87,7 +87,7 @@ module _ (p : Setting) (held : Pools) (c : WireContents) (s : State) (node : ℕ
       by_case true = refl
       by_case false = states v is
 
-  -- a state is replaced by itself
+  -- a state is replaced by the same state
   states_same : (r : RequestState) → r ≡ s.request_state w → (v : Way) → IsResponseWay p.layout.sizes v
       → c.state v ≡ state_word (put s.request_state w r v)
   states_same r same v is = by_case (same_way v w) (same_way-true v w)
@@ -96,7 +96,7 @@ module _ (p : Setting) (held : Pools) (c : WireContents) (s : State) (node : ℕ
       by_case true at = states v is ∙ ap (λ u. state_word (s.request_state u)) (at refl) ∙ ap state_word (sym same)
       by_case false at = states v is
 
-  -- a word is replaced by itself
+  -- a word is replaced by the same word
   word_same : (value : ℕ) → value ≡ c.state w → (v : Way) → put c.state w value v ≡ c.state v
   word_same value same v = by_case (same_way v w) (same_way-true v w)
     where

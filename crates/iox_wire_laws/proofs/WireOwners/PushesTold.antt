@@ -32,7 +32,7 @@ use Rattle.iox_wire_laws.proofs.WireOwners.Pushes.{deliveries_are_not_refused}
 
 -- ---- what is seen
 
--- neither full nor at its end: full alone matters where nothing overflows
+-- neither full nor at its end: full matters only where nothing overflows
 goes_on : (kind : QueueKind) (ended full : Bool) → (kind ≡ Index → (if ended then SeesEnd else (if full then SeesFull else SeesRoom)) ≡ SeesFull → ⊥)
     → ((if ended then SeesEnd else (if full then SeesFull else SeesRoom)) ≡ SeesEnd → ⊥) → is_refused kind ended full ≡ false
 goes_on kind true full not_full not_ended = absurd (not_ended refl)

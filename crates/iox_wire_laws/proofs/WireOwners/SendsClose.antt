@@ -30,7 +30,7 @@ abbrev pub IsFree : Local → Type 0
 IsFree (ReleaseCloses e w left) = ⊥
 IsFree local = Unit {0}
 
--- a node whose call closes request states of its own clients alone
+-- a node whose call closes only request states of its own clients
 pub record ClosesThere (p : Setting) (n : ℕ) (y : Seat) : Type 0 where
   pub closes : ClosesOwn p n y.local
 

@@ -1,4 +1,4 @@
--- What is owned depends on the node's own part of what is fixed alone.
+-- What is owned depends only on the node's own part of what is fixed.
 use Rattle.std.specs.Prelude.{not, ◌&&◌, nat_le, map, filter}
 use Rattle.std.specs.List.{list_any}
 use Rattle.std.proofs.Common.{◌≡◌, ℕ, Bool, true, false, ◌==◌, List, [], ◌∷◌, Option, Some, None, refl, ap, sym, subst, ◌∙◌, inl, inr, eq-eqb}

@@ -51,7 +51,7 @@ use Rattle.iox_wire_laws.proofs.WireRegions.SendCourses as sent
 abbrev roled : List Port → Role → List ℕ
 roled ports role = map (λ q. q.number) (filter (λ q. same_role q.role role) ports)
 
--- ports alone decide what fits
+-- only ports decide what fits
 layout_same : (p : Setting) (f g : Fixed) → g.ports ≡ f.ports → LayoutFits p f → LayoutFits p g
 layout_same p f g same fits = record {
   numbers = subst (λ (ports : List Port). AreDistinct (map (λ q. q.number) ports)) (sym same) fits.numbers;
@@ -69,7 +69,7 @@ pub layouts_stay_fit : LayoutsStayFit
 layouts_stay_fit p w u b reach beat fits =
     let h : Here w = here w reach in layout_same p w.state.fixed u.state.fixed (beat-ports w u b beat h.holding.fits) fits
 
--- the worked wire has ports 0 and 1, on nodes 0 and 1, and client 0 alone has lanes
+-- the worked wire has ports 0 and 1, on nodes 0 and 1, and only client 0 has lanes
 pub worked_layout_fits : WorkedLayoutFits
 worked_layout_fits = record {
   numbers = (refl, (refl, tt));

@@ -42,7 +42,7 @@ use Rattle.iox_wire_laws.specs.WireShows.EndsShow.{EndsShowTheWorld}
 use Rattle.iox_wire_laws.proofs.WireShows.NextPrograms.{words_same}
 use Rattle.iox_wire_laws.proofs.WireShows.StepsShow.{seat_put}
 
--- ports and limits alone decide what suits
+-- only ports and limits decide what suits
 suits_same : (l : WireLayout) (f g : Fixed) → g.ports ≡ f.ports → g.limits ≡ f.limits → Suits l f → Suits l g
 suits_same l f g ports limits suits = record {
   buffer = λ y way.
@@ -57,7 +57,7 @@ suits_same l f g ports limits suits = record {
     role : (y : Way) → role_at g y.sender ≡ role_at f y.sender
     role y = ap (λ (ports : List Port). option_map_or (λ (q : Port). q.role) (find (λ q. q.number == y.sender) ports) Client) ports
 
--- who lives is told by the members alone
+-- who lives is told only by the members
 living_by : (s t : State) → s.members ≡ t.members → (k : ℕ) → not_living s k ≡ not_living t k
 living_by s t members k = ap (λ m. not_living (record s { members = m }) k) members
 

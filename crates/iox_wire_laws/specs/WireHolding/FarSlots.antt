@@ -25,7 +25,7 @@ use Rattle.iox_wire_laws.specs.WireHolding.SlotsKnown.{HasEntry, NamesStand}
 abbrev pub IsInPool : Setting → (port slot : ℕ) → Type 0
 IsInPool p port slot = slot < (p.port port).pool
 
--- Queues have slots of their senders' pools alone.
+-- Queues have only slots of their senders' pools.
 pub record QueuesHaveSlots (p : Setting) (c : WireContents) (s : State) : Type 0 where
   pub waiting : (y : Way) (slot : ℕ) → IsWay p.layout.sizes y → is_counted_on s.fixed y ≡ true
       → has_number slot (c.queues (MessageQueue y)).waiting ≡ true → IsInPool p y.sender slot

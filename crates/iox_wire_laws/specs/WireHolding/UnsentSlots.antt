@@ -32,7 +32,7 @@ NewLoansAreUnnamed =
     → has_number slot (slots_held (seats n) o.port) ≡ false
     → IsUnnamed p c seats w.state o.port slot
 
--- The slot of a loan that was written is its entry's alone, where no two handles of its port have
+-- The slot of a loan that was written belongs only to its entry, where no two handles of its port have
 -- one slot.
 abbrev pub FilledLoansAreAlone : Type 0
 FilledLoansAreAlone =

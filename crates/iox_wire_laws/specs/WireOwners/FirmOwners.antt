@@ -30,7 +30,7 @@ abbrev pub ClosesOwn : Setting → ℕ → Local → Type 0
 ClosesOwn p node (ReleaseCloses e w left) = Each (IsOfNode p node) (w ∷ left)
 ClosesOwn p node local = Unit {0}
 
--- What the call owns at its place, and that it closes request states of its own clients alone.
+-- What the call owns at its place, and that it closes only request states of its own clients.
 pub record OwnsFirmly (p : Setting) (node : ℕ) (f : Fixed) (shown : Way → RequestState)
     (local : Local) : Type 0 where
   pub owns : Owns p node f shown local
@@ -54,7 +54,7 @@ FirmOwnersStay = StayOwners OwnsFirmly
 abbrev pub FirmOwnersGoOn : Type 0
 FirmOwnersGoOn = GoOnAsOwners OwnsFirmly
 
--- Whatever call a ready node begins, it closes request states of its own clients alone: so a call
+-- Whatever call a ready node begins, it closes only request states of its own clients: so a call
 -- that begins as the owner of its first place owns it firmly.
 abbrev pub CallsBeginFirmly : Type 0
 CallsBeginFirmly =

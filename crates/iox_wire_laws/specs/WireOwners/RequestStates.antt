@@ -1,4 +1,4 @@
--- Who changes a request state: its client's node alone opens it, others close it or give a hint.
+-- Who changes a request state: only its client's node opens it, others close it or give a hint.
 use Rattle.std.specs.Prelude.{◌≡◌, ℕ, ◌==◌, false}
 use Rattle.iox_model.specs.declared.way.RequestState.{RequestState}
 use Rattle.iox_model.specs.declared.way.RequestState.TheVariants.{Closed}
@@ -14,7 +14,7 @@ use Rattle.iox_laws.specs.WeaveWorlds.Worlds.{IsReachable}
 abbrev pub NamesNoOther : RequestState → ℕ → Type 0
 NamesNoOther shown id = closed_for shown id ≡ Closed
 
--- A request state is opened by the node of its client alone.
+-- A request state is opened only by the node of its client.
 abbrev pub OnlyClientsOpen : Type 0
 OnlyClientsOpen =
     (w u : World) (node id : ℕ) (y : Way) → IsReachable w → IsBeat w (Makes node (Open y id)) u

@@ -1,4 +1,4 @@
--- The slot of a loan in the making is its call's alone.
+-- The slot of a loan in the making belongs only to its call.
 use Rattle.std.specs.Prelude.{◌≡◌, ℕ, true, false, ◌==◌, ◌&&◌, List, ◌++◌, flat_map, Some}
 use Rattle.iox_model.specs.Handles.{is_own}
 use Rattle.iox_model.specs.Maps.{has_number}

@@ -65,7 +65,7 @@ impl Requesting {
         self.terms = terms;
     }
 
-    /// Begins to send a loan to the servers that it was told of. Its own call may have made it.
+    /// Begins to send a loan to the servers that it was told about. Its own call may have made it.
     pub fn start(&mut self, seat: &StoredSeat, loan: Entry, copied: bool)
         requires rests { is_busy self.old.local ≡ false }
         requires kind { is_request_loan loan.kind ≡ true }
