@@ -8,24 +8,46 @@ ghost use Rattle.iceoryx2_ports.specs.Hubs.{HasValue};
 ghost use Rattle.iceoryx2_ports.specs.Idling.{IsIdle};
 ghost use Rattle.iceoryx2_ports.specs.Kind.TheVariants as kinds;
 ghost use Rattle.iceoryx2_ports.specs.Reaching.{SomeCanCome};
+ghost use Rattle.iceoryx2_ports.specs.Reads.{message_in};
 ghost use Rattle.iceoryx2_ports.specs.Responses.{answerer_in, asker_in, is_open};
 ghost use Rattle.iceoryx2_ports.specs.Waiting.{AllCarry, client_in, server_of};
 
 use crate::{
     ActiveRequest, Client, Hub, LoanError, One, PendingResponse, PortFactoryClient,
-    PortFactoryServer, RequestSendError, Server, UniqueSystemId,
+    PortFactoryServer, RequestMut, RequestSendError, Server, UniqueSystemId,
 };
 use std::alloc::Global;
 
-/// A client loans a request, writes 456 and sends it. A server that was idle can receive just that,
-/// and the client, which was idle for each request, can wait for its response.
+/// A client loans a request and writes 456 to it. A server that was idle still is, and so is the
+/// client for this request, if it was for each.
+pub fn writes_456(
+    client: &Client<One<u64>, (), One<u64>, ()>,
+    server: &Server<One<u64>, (), One<u64>, ()>,
+    hub: &mut Hub<One<u64>, (), One<u64>, ()>,
+) -> Result<RequestMut<One<u64>, (), One<u64>, ()>, LoanError>
+    requires client { HasValue hub.old client.now.node client.now.number kinds.Client }
+    requires idle { IsIdle hub.old (server_of server.now.number) }
+    requires quiet { IsQuiet hub.old client.now.number }
+    ensures has { IfOk result (λ request.
+        HasValue hub.new request.node request.number kinds.RequestMut) }
+    ensures carries { IfOk result (λ request.
+        (message_in hub.new request.node request.number).payload ≡ 456 ∷ []) }
+    ensures idle { OnOk result (IsIdle hub.new (server_of server.now.number)) }
+    ensures waits { IfOk result (λ request.
+        IsIdle hub.new (client_in hub.new request.node request.number)) }
+{
+    let loan = client.loan_uninit(hub)?;
+    Ok(loan.write_payload(hub, 456))
+}
+
+/// A client writes 456 to a request and sends it. A server that was idle can receive just that, and
+/// the client, which was idle for each request, can wait for its response.
 pub fn asks_456(
     client: &Client<One<u64>, (), One<u64>, ()>,
     server: &Server<One<u64>, (), One<u64>, ()>,
     hub: &mut Hub<One<u64>, (), One<u64>, ()>,
 ) -> Result<PendingResponse<One<u64>, (), One<u64>, ()>, RequestSendError>
     requires client { HasValue hub.old client.now.node client.now.number kinds.Client }
-    requires server { HasValue hub.old server.now.node server.now.number kinds.Server }
     requires idle { IsIdle hub.old (server_of server.now.number) }
     requires quiet { IsQuiet hub.old client.now.number }
     ensures has { IfOk result (λ pending.
@@ -39,8 +61,7 @@ pub fn asks_456(
     ensures waits { IfOk result (λ pending.
         IsIdle hub.new (client_in hub.new pending.node pending.number)) }
 {
-    let loan = client.loan_uninit(hub)?;
-    let request = loan.write_payload(hub, 456);
+    let request = writes_456(client, server, hub)?;
     if hub.calls() >= 1 << 56 || !server.exists(hub) {
         request.release(hub);
         return Err(RequestSendError::from(LoanError::CallsSpent));
