@@ -18,8 +18,8 @@ use iox_control::Control;
 use iox_control_ending::end_loan;
 use iox_handles::Entry;
 
-/// Offers a loaned request, whose handle is looked for at the hint first, to all servers: all of
-/// its send but the disconnection of the client, where the loan is lost and nothing else of that is
+/// Offers this loaned request, which is looked for by its number, at the hint first, to all servers:
+/// all of its send but the disconnection of the client, where the loan is lost and nothing else of that is
 /// left. What is said of full servers counts only where requests do not overflow.
 pub fn offer_request<B: WhenFull>(
     control: &mut Control,
