@@ -18,9 +18,9 @@ use iox_control::Control;
 use iox_control_ending::end_loan;
 use iox_handles::Entry;
 
-/// Offers this loaned request, which is looked for by its number, at the hint first, to all servers:
-/// all of its send but the disconnection of the client, where the loan is lost and nothing else of that is
-/// left. What is said of full servers counts only where requests do not overflow.
+/// Offers this loaned request, which is looked for by its number, at the hint first, to all
+/// servers: all of its send but the disconnection of the client, where the loan is lost and nothing
+/// else of that is left. What is said of full servers counts only where requests do not overflow.
 pub fn offer_request<B: WhenFull>(
     control: &mut Control,
     node: u64,

@@ -18,9 +18,9 @@ use iox_control_releasing::disconnect_if_unused;
 use iox_handles::Entry;
 
 /// Sends this loaned request, which is looked for by its number, at the hint first, to all servers,
-/// and says to how many. Where it is lost, the client goes with it, if nothing else of that is left. Whether
-/// the send fails where a server is full, the caller says: that counts only where requests do not
-/// overflow.
+/// and says to how many. Where it is lost, the client goes with it, if nothing else of that is
+/// left. Whether the send fails where a server is full, the caller says: that counts only where
+/// requests do not overflow.
 pub fn send_request<B: WhenFull>(
     control: &mut Control,
     node: u64,

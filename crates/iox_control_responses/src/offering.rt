@@ -35,9 +35,9 @@ fn is_shut(control: &Control, way: Way) -> bool
 }
 
 /// Offers this loaned response to its client, and ends its handle, which is looked for by its
-/// number, at the hint first: all of its send but the disconnection of the server, where nothing else of that is left.
-/// Whether the send fails where the client is full, the caller says, by the server's handler or its
-/// strategy. That counts only where responses do not overflow.
+/// number, at the hint first: all of its send but the disconnection of the server, where nothing
+/// else of that is left. Whether the send fails where the client is full, the caller says, by the
+/// server's handler or its strategy. That counts only where responses do not overflow.
 pub fn offer_response(
     control: &mut Control,
     node: u64,

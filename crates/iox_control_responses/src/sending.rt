@@ -20,9 +20,9 @@ use iox_control_releasing::disconnect_if_unused;
 use iox_handles::Entry;
 
 /// Sends this loaned response to its client, and ends its handle, which is looked for by its
-/// number, at the hint first; the server goes with it, if nothing else of that is left. Whether the send fails where
-/// the client is full, the caller says: by the server's handler, or else by its strategy. That
-/// counts only where responses do not overflow.
+/// number, at the hint first; the server goes with it, if nothing else of that is left. Whether the
+/// send fails where the client is full, the caller says: by the server's handler, or else by its
+/// strategy. That counts only where responses do not overflow.
 pub fn send_response(
     control: &mut Control,
     node: u64,
