@@ -127,6 +127,26 @@ fn push_spaced(out: &mut Vec<u8>, number: u64) -> Result<(), AllocError>
     ensures written { OnOk result (out.new.items ≡ out.old.items ++ spaced number) }
     ensures begun { take (length out.old.items) out.new.items ≡ out.old.items }
 {
+    if number < 10 {
+        return out.extend_from_slice(&[b' ', b'0' + number as u8]);
+    }
+    if number < 100 {
+        let tens = b'0' + (number / 10) as u8;
+        let ones = b'0' + (number % 10) as u8;
+        return out.extend_from_slice(&[b' ', tens, ones]);
+    }
+    if number < 1000 {
+        let hundreds = b'0' + (number / 100) as u8;
+        let tens = b'0' + (number / 10 % 10) as u8;
+        let ones = b'0' + (number % 10) as u8;
+        return out.extend_from_slice(&[b' ', hundreds, tens, ones]);
+    }
+    push_long(out, number)
+}
+
+/// The same, at a greater cost.
+fn push_long(out: &mut Vec<u8>, number: u64) -> Result<(), AllocError>
+{
     out.push(b' ')?;
     let mut digits = Buffer::new();
     out.extend_from_slice(digits.format(number).as_bytes())

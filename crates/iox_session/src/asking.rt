@@ -46,6 +46,10 @@ fn elements(service: &Words, node: u64, number: u64, words: Vec<u64>) -> Element
     ensures { payload_for one_word one_word result
         ≡ payload_given (service_of service.now) node number words.items }
 {
+    // A client is found at once, where each handle is looked at for a number that none has.
+    if service.has(node, number, Kind::Client) {
+        return Elements::Requests(words);
+    }
     if service.has(node, number, Kind::ActiveRequest) {
         return Elements::Responses(words);
     }

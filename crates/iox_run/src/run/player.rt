@@ -111,6 +111,7 @@ impl Player {
     }
 
     /// Ends the line that has begun with these bytes, and answers it.
+    #[inline(always)]
     fn end_line(&mut self, alloc: Global, bytes: &[u8]) -> Result<(), AllocError>
         requires whole { HasNoLineFeed bytes.now }
         requires count { self.old.count + 1 < 2 ^ 64 }
@@ -162,6 +163,7 @@ fn keep(line: &mut Vec<u8>, bytes: &[u8]) -> Result<(), AllocError>
 }
 
 /// Answers the line of that number.
+#[inline(never)]
 fn answer(
     alloc: Global,
     session: &mut Session,
