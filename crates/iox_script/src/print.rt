@@ -10,6 +10,7 @@ use std::alloc::AllocError;
 use std::fmt;
 
 /// Appends a reply as a line. Where there is no memory, `out` is unchanged.
+#[inline(always)]
 pub fn push_reply(out: &mut Vec<u8>, reply: &ScriptReply) -> Result<(), AllocError>
     ensures written { OnOk result (out.new.items
         ≡ out.old.items ++ as_line (reply_text reply.now)) }
@@ -34,6 +35,7 @@ pub fn push_bad_line(out: &mut Vec<u8>, number: u64, cause: LineCause) -> Result
 
 /// Appends the line feed behind a text that was written from `start` on, or takes back what stands
 /// there of it.
+#[inline(always)]
 fn end_line(
     out: &mut Vec<u8>,
     start: usize,
@@ -52,6 +54,7 @@ fn end_line(
     ended
 }
 
+#[inline(always)]
 fn push_reply_text(out: &mut Vec<u8>, reply: &ScriptReply) -> Result<(), AllocError>
     ensures written { OnOk result (out.new.items ≡ out.old.items ++ reply_text reply.now) }
     ensures begun { take (length out.old.items) out.new.items ≡ out.old.items }
@@ -62,6 +65,7 @@ fn push_reply_text(out: &mut Vec<u8>, reply: &ScriptReply) -> Result<(), AllocEr
     }
 }
 
+#[inline(always)]
 fn push_service_text(out: &mut Vec<u8>, reply: &ServiceReply) -> Result<(), AllocError>
     ensures written { OnOk result (out.new.items ≡ out.old.items ++ service_text reply.now) }
     ensures begun { take (length out.old.items) out.new.items ≡ out.old.items }

@@ -5,10 +5,15 @@ ghost use Rattle.iox_session.specs.Shown.{session_of};
 ghost use Rattle.iox_run.specs.Standings.{AnswersLine};
 
 use super::cuts::first_line;
-use iox_script::{ParseError, parse, push_bad_line, push_reply};
+use iox_model::command::{Command, PortCommand};
+use iox_script::{
+    ParseError, Payload, ScriptCommand, parse, push_bad_line, push_reply, read_line, receive_line,
+    send_copy_line,
+};
 use iox_session::Session;
 use iox_streams::{Fault, send};
 use std::alloc::{AllocError, Global};
+use std::convert::Infallible;
 use std::io::Write;
 
 /// As many bytes of a line as tell what it says: it is too long, or this is all of it.
@@ -175,6 +180,71 @@ fn answer(
         (session_of session.old) (session_of session.new) answers.old.items answers.new.items) }
     ensures unchanged { OnErr result (answers.new.items ≡ answers.old.items) }
 {
+    if let Some((node, number)) = receive_line(line) {
+        return answer_receive(alloc, session, answers, node, number);
+    }
+    if let Some((node, number)) = read_line(line) {
+        return answer_read(alloc, session, answers, node, number);
+    }
+    if let Some((node, number, payload)) = send_copy_line(alloc, line) {
+        return answer_send_copy(alloc, session, answers, node, number, payload);
+    }
+    answer_other(alloc, session, answers, number, line)
+}
+
+#[inline(never)]
+fn answer_receive(
+    alloc: Global,
+    session: &mut Session,
+    answers: &mut Vec<u8>,
+    node: u64,
+    number: u64,
+) -> Result<(), AllocError> {
+    answer_port(alloc, session, answers, PortCommand::Receive { node, number })
+}
+
+#[inline(never)]
+fn answer_read(
+    alloc: Global,
+    session: &mut Session,
+    answers: &mut Vec<u8>,
+    node: u64,
+    number: u64,
+) -> Result<(), AllocError> {
+    answer_port(alloc, session, answers, PortCommand::Read { node, number })
+}
+
+#[inline(never)]
+fn answer_send_copy(
+    alloc: Global,
+    session: &mut Session,
+    answers: &mut Vec<u8>,
+    node: u64,
+    number: u64,
+    payload: Payload,
+) -> Result<(), AllocError> {
+    answer_port(alloc, session, answers, PortCommand::SendCopy { node, number, payload })
+}
+
+#[inline(always)]
+fn answer_port(
+    alloc: Global,
+    session: &mut Session,
+    answers: &mut Vec<u8>,
+    command: PortCommand<Payload, Infallible>,
+) -> Result<(), AllocError> {
+    let reply = session.play(alloc, ScriptCommand::Service(Command::Port(command)))?;
+    push_reply(answers, &reply)
+}
+
+#[inline(never)]
+fn answer_other(
+    alloc: Global,
+    session: &mut Session,
+    answers: &mut Vec<u8>,
+    number: u64,
+    line: &[u8],
+) -> Result<(), AllocError> {
     match parse(alloc, line) {
         Ok(command) => {
             let reply = session.play(alloc, command)?;

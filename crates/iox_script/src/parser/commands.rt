@@ -183,7 +183,7 @@ fn port(command: PortCommand<Payload, Infallible>) -> ScriptCommand
 }
 
 /// The words that are left, each a number.
-fn payload(alloc: Global, mut words: Words<'_>) -> Result<Payload, ParseError>
+pub(super) fn payload(alloc: Global, mut words: Words<'_>) -> Result<Payload, ParseError>
     ensures { IsMeaning result (numbers_of words.entry) }
 {
     let Ok(mut numbers) = Vec::with_capacity(alloc, words.most()) else {

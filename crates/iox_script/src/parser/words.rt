@@ -39,6 +39,11 @@ impl<'a> Words<'a> {
         (line, Words { rest: None })
     }
 
+    #[inline(always)]
+    pub(super) fn of(line: &'a [u8]) -> Words<'a> {
+        Words { rest: Some(line) }
+    }
+
     /// As many numbers as are left at most.
     #[inline(always)]
     pub(super) fn most(&self) -> usize
