@@ -168,7 +168,7 @@ fn keep(line: &mut Vec<u8>, bytes: &[u8]) -> Result<(), AllocError>
 }
 
 /// Answers the line of that number.
-#[inline(never)]
+#[inline(always)]
 fn answer(
     alloc: Global,
     session: &mut Session,
@@ -180,16 +180,12 @@ fn answer(
         (session_of session.old) (session_of session.new) answers.old.items answers.new.items) }
     ensures unchanged { OnErr result (answers.new.items ≡ answers.old.items) }
 {
-    if let Some((node, number)) = receive_line(line) {
-        return answer_receive(alloc, session, answers, node, number);
+    match line {
+        [b'r', b'e', b'c', ..] => answer_receive(alloc, session, answers, number, line),
+        [b'r', b'e', b'a', ..] => answer_read(alloc, session, answers, number, line),
+        [b's', b'e', b'n', ..] => answer_send_copy(alloc, session, answers, number, line),
+        _ => answer_other(alloc, session, answers, number, line),
     }
-    if let Some((node, number)) = read_line(line) {
-        return answer_read(alloc, session, answers, node, number);
-    }
-    if let Some((node, number, payload)) = send_copy_line(alloc, line) {
-        return answer_send_copy(alloc, session, answers, node, number, payload);
-    }
-    answer_other(alloc, session, answers, number, line)
 }
 
 #[inline(never)]
@@ -197,10 +193,15 @@ fn answer_receive(
     alloc: Global,
     session: &mut Session,
     answers: &mut Vec<u8>,
-    node: u64,
     number: u64,
+    line: &[u8],
 ) -> Result<(), AllocError> {
-    answer_port(alloc, session, answers, PortCommand::Receive { node, number })
+    match receive_line(line) {
+        Some((node, number)) => {
+            answer_port(alloc, session, answers, PortCommand::Receive { node, number })
+        }
+        None => answer_other(alloc, session, answers, number, line),
+    }
 }
 
 #[inline(never)]
@@ -208,10 +209,15 @@ fn answer_read(
     alloc: Global,
     session: &mut Session,
     answers: &mut Vec<u8>,
-    node: u64,
     number: u64,
+    line: &[u8],
 ) -> Result<(), AllocError> {
-    answer_port(alloc, session, answers, PortCommand::Read { node, number })
+    match read_line(line) {
+        Some((node, number)) => {
+            answer_port(alloc, session, answers, PortCommand::Read { node, number })
+        }
+        None => answer_other(alloc, session, answers, number, line),
+    }
 }
 
 #[inline(never)]
@@ -219,11 +225,15 @@ fn answer_send_copy(
     alloc: Global,
     session: &mut Session,
     answers: &mut Vec<u8>,
-    node: u64,
     number: u64,
-    payload: Payload,
+    line: &[u8],
 ) -> Result<(), AllocError> {
-    answer_port(alloc, session, answers, PortCommand::SendCopy { node, number, payload })
+    match send_copy_line(alloc, line) {
+        Some((node, number, payload)) => {
+            answer_port(alloc, session, answers, PortCommand::SendCopy { node, number, payload })
+        }
+        None => answer_other(alloc, session, answers, number, line),
+    }
 }
 
 #[inline(always)]

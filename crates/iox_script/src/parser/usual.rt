@@ -52,7 +52,8 @@ pub fn send_copy_line(alloc: Global, line: &[u8]) -> Option<(u64, u64, Payload)>
     if line.len() > MAX_LINE {
         return None;
     }
-    let rest = line.strip_prefix(b"send-copy ".as_slice())?;
+    let rest = line.strip_prefix(b"send-cop".as_slice())?;
+    let rest = rest.strip_prefix(b"y ".as_slice())?;
     let (node, rest) = number_before(rest)?;
     let (number, rest) = number_before(rest)?;
     let Ok(payload) = payload(alloc, Words::of(rest)) else { return None; };
