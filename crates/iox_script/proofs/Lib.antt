@@ -1,4 +1,5 @@
 pub mod LineLemmas
+mod UsualLemmas
 mod WordLemmas
 mod NumeralLemmas
 mod TextLemmas

@@ -1,5 +1,6 @@
 //! From an answer to its text.
 ghost use Rattle.std.specs.Prelude.{◌≡◌, ◌++◌, codes, length, take, flat_map, IsOk, OnOk, OnErr};
+ghost use Rattle.iox_model.specs.declared.reply.Reply.TheVariants.{Answer};
 ghost use Rattle.iox_script.specs.Texts.{as_line, bad_line_text, cause_text, refusal_text, reply_text, script_refusal_text, service_text, spaced};
 
 use crate::command::LineCause;
@@ -232,6 +233,8 @@ fn push_spaced(out: &mut Vec<u8>, number: u64) -> Result<(), AllocError>
 /// The same, at a greater cost.
 #[inline(never)]
 fn push_long(out: &mut Vec<u8>, number: u64) -> Result<(), AllocError>
+    ensures written { OnOk result (out.new.items ≡ out.old.items ++ spaced number) }
+    ensures begun { take (length out.old.items) out.new.items ≡ out.old.items }
 {
     out.push(b' ')?;
     let mut digits = Buffer::new();

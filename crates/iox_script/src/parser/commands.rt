@@ -92,10 +92,10 @@ pub(super) fn server(mut words: Words<'_>) -> Result<ScriptCommand, LineCause>
 pub(super) fn send_copy(alloc: Global, mut words: Words<'_>) -> Result<ScriptCommand, ParseError>
     ensures { IsMeaning result (command_of keywords.SendCopy words.entry) }
 {
-    let node = words.take_number()?;
-    let number = words.take_number()?;
-    let node = node?;
-    let number = number?;
+    let node = words.take()?;
+    let named = words.take()?;
+    let node = number(node)?;
+    let number = number(named)?;
     let payload = payload(alloc, words)?;
     Ok(port(PortCommand::SendCopy {
         node,
@@ -108,11 +108,11 @@ pub(super) fn send_copy(alloc: Global, mut words: Words<'_>) -> Result<ScriptCom
 pub(super) fn receive(mut words: Words<'_>) -> Result<ScriptCommand, LineCause>
     ensures { result ≡ command_of keywords.Receive words.entry }
 {
-    let node = words.take_number()?;
-    let number = words.take_number()?;
+    let node = words.take()?;
+    let named = words.take()?;
     words.finish()?;
-    let node = node?;
-    let number = number?;
+    let node = number(node)?;
+    let number = number(named)?;
     Ok(port(PortCommand::Receive { node, number }))
 }
 
@@ -120,11 +120,11 @@ pub(super) fn receive(mut words: Words<'_>) -> Result<ScriptCommand, LineCause>
 pub(super) fn read(mut words: Words<'_>) -> Result<ScriptCommand, LineCause>
     ensures { result ≡ command_of keywords.Read words.entry }
 {
-    let node = words.take_number()?;
-    let number = words.take_number()?;
+    let node = words.take()?;
+    let handle = words.take()?;
     words.finish()?;
-    let node = node?;
-    let number = number?;
+    let node = number(node)?;
+    let number = number(handle)?;
     Ok(port(PortCommand::Read { node, number }))
 }
 
@@ -183,18 +183,15 @@ fn port(command: PortCommand<Payload, Infallible>) -> ScriptCommand
 }
 
 /// The words that are left, each a number.
-pub(super) fn payload(alloc: Global, mut words: Words<'_>) -> Result<Payload, ParseError>
+fn payload(alloc: Global, mut words: Words<'_>) -> Result<Payload, ParseError>
     ensures { IsMeaning result (numbers_of words.entry) }
 {
-    let Ok(mut numbers) = Vec::with_capacity(alloc, words.most()) else {
+    let Ok(mut numbers) = Vec::with_capacity(alloc, words.len()) else {
         check_numbers(words)?;
         return Err(ParseError::WantOfMemory);
     };
-    while let Some(said) = words.next_number() {
-        if numbers.push(said?).is_err() {
-            check_numbers(words)?;
-            return Err(ParseError::WantOfMemory);
-        }
+    while let Some(word) = words.next_word() {
+        numbers.push(number(word)?).unwrap();
     }
     Ok(Payload::new(numbers))
 }

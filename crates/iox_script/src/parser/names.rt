@@ -8,16 +8,24 @@ use crate::command::{Key, Keyword, LineCause};
 pub(super) fn keyword(word: &[u8]) -> Option<Keyword>
     ensures { result ≡ keyword_of word.now }
 {
-    match word {
-        [b'r', b'e', b'a', b'd'] => Some(Keyword::Read),
-        [b'r', b'e', b'c', b'e', b'i', b'v', b'e'] => Some(Keyword::Receive),
-        [b's', b'e', b'n', b'd', b'-', b'c', b'o', b'p', b'y'] => Some(Keyword::SendCopy),
-        [b's', b'e', b't'] => Some(Keyword::Set),
-        [b'o', b'p', b'e', b'n'] => Some(Keyword::Open),
-        [b'c', b'r', b'e', b'a', b't', b'e'] => Some(Keyword::Create),
-        [b'c', b'l', b'i', b'e', b'n', b't'] => Some(Keyword::Client),
-        [b's', b'e', b'r', b'v', b'e', b'r'] => Some(Keyword::Server),
-        _ => None,
+    if word == b"set".as_slice() {
+        Some(Keyword::Set)
+    } else if word == b"create".as_slice() {
+        Some(Keyword::Create)
+    } else if word == b"open".as_slice() {
+        Some(Keyword::Open)
+    } else if word == b"client".as_slice() {
+        Some(Keyword::Client)
+    } else if word == b"server".as_slice() {
+        Some(Keyword::Server)
+    } else if word == b"send-copy".as_slice() {
+        Some(Keyword::SendCopy)
+    } else if word == b"receive".as_slice() {
+        Some(Keyword::Receive)
+    } else if word == b"read".as_slice() {
+        Some(Keyword::Read)
+    } else {
+        None
     }
 }
 

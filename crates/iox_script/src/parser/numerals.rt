@@ -4,26 +4,7 @@ ghost use Rattle.iox_script.specs.Numerals.{is_digit, number_below, number_of, i
 
 use crate::command::LineCause;
 
-/// A number below this has place for one digit more.
-const MOST: u64 = 1_000_000_000_000_000_000;
-
-/// The number that the first digits write, and how many these are: all that stand there, or as many
-/// as are sure to fit 64 bits.
-#[inline(always)]
-pub(super) fn first_digits(bytes: &[u8]) -> (u64, usize)
-{
-    let mut number = 0;
-    for (at, byte) in bytes.iter().enumerate() {
-        if !byte.is_ascii_digit() || number >= MOST {
-            return (number, at);
-        }
-        number = number * 10 + u64::from(*byte - b'0');
-    }
-    (number, bytes.len())
-}
-
 /// A number of 64 bits.
-#[inline(never)]
 pub(super) fn number(word: &[u8]) -> Result<u64, LineCause>
     ensures { result ≡ number_of word.now }
 {

@@ -2,7 +2,6 @@
 ghost use Rattle.std.specs.Prelude.{◌≡◌, ◌≤◌, length, count_by};
 ghost use Rattle.iox_script.specs.Lines.{is_space, words_of};
 
-use super::numerals::{first_digits, number};
 use crate::command::LineCause;
 use std::marker::Model;
 
@@ -39,17 +38,12 @@ impl<'a> Words<'a> {
         (line, Words { rest: None })
     }
 
-    #[inline(always)]
-    pub(super) fn of(line: &'a [u8]) -> Words<'a> {
-        Words { rest: Some(line) }
-    }
-
-    /// As many numbers as are left at most.
-    #[inline(always)]
-    pub(super) fn most(&self) -> usize
+    /// How many words are left.
+    pub(super) fn len(&self) -> usize
+        ensures { result ≡ length self.now }
     {
         match self.rest {
-            Some(rest) => rest.len() / 2 + 1,
+            Some(rest) => count_words(rest),
             None => 0,
         }
     }
@@ -73,36 +67,7 @@ impl<'a> Words<'a> {
         self.next_word().ok_or(LineCause::WrongCount)
     }
 
-    /// The number that the next word says, of a command that continues.
-    #[inline(always)]
-    pub(super) fn take_number(&mut self) -> Result<Result<u64, LineCause>, LineCause> {
-        match self.next_number() {
-            Some(said) => Ok(said),
-            None => Err(LineCause::WrongCount),
-        }
-    }
-
-    /// The number that the next word says, if one is left.
-    #[inline(always)]
-    pub(super) fn next_number(&mut self) -> Option<Result<u64, LineCause>> {
-        let rest = self.rest?;
-        let (found, digits) = first_digits(rest);
-        if digits > 0 {
-            if digits == rest.len() {
-                self.rest = None;
-                return Some(Ok(found));
-            }
-            if rest[digits] == b' ' {
-                self.rest = Some(&rest[digits + 1..]);
-                return Some(Ok(found));
-            }
-        }
-        let word = self.next_word()?;
-        Some(number(word))
-    }
-
     /// Whether a command with no more words ends here.
-    #[inline(always)]
     pub(super) fn finish(mut self) -> Result<(), LineCause>
         ensures ended { OnOk result (self.entry ≡ []) }
         ensures more { IfErr result (λ cause. (cause ≡ WrongCount)
@@ -115,3 +80,15 @@ impl<'a> Words<'a> {
     }
 }
 
+fn count_words(line: &[u8]) -> usize
+    ensures { result ≡ length (words_of line.now) }
+{
+    count_spaces(line) + 1
+}
+
+fn count_spaces(line: &[u8]) -> usize
+    ensures count { result ≡ count_by is_space line.now }
+    ensures within { result ≤ length line.now }
+{
+    line.iter().filter(|byte| **byte == b' ').count()
+}
