@@ -1,4 +1,5 @@
 pub mod LineLemmas
+mod DigitLemmas
 mod UsualLemmas
 mod WordLemmas
 mod NumeralLemmas

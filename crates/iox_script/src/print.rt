@@ -1,5 +1,5 @@
 //! From an answer to its text.
-ghost use Rattle.std.specs.Prelude.{◌≡◌, ◌++◌, codes, length, take, flat_map, IsOk, OnOk, OnErr};
+ghost use Rattle.std.specs.Prelude.{◌≡◌, ◌+◌, ◌<◌, ◌++◌, codes, length, take, flat_map, IsOk, OnOk, OnErr};
 ghost use Rattle.iox_model.specs.declared.reply.Reply.TheVariants.{Answer};
 ghost use Rattle.iox_script.specs.Texts.{as_line, bad_line_text, cause_text, refusal_text, reply_text, script_refusal_text, service_text, spaced};
 
@@ -207,6 +207,15 @@ fn push_named(out: &mut Vec<u8>, name: &[u8], number: u64) -> Result<(), AllocEr
     push_spaced(out, number)
 }
 
+/// The byte of a digit.
+#[inline(always)]
+fn digit(value: u64) -> u8
+    requires { value < 10 }
+    ensures { result ≡ 48 + value }
+{
+    b'0' + value as u8
+}
+
 /// Appends a space and a number.
 #[inline(always)]
 fn push_spaced(out: &mut Vec<u8>, number: u64) -> Result<(), AllocError>
@@ -214,23 +223,20 @@ fn push_spaced(out: &mut Vec<u8>, number: u64) -> Result<(), AllocError>
     ensures begun { take (length out.old.items) out.new.items ≡ out.old.items }
 {
     if number < 10 {
-        return out.extend_from_slice(&[b' ', b'0' + number as u8]);
+        return out.extend_from_slice(&[b' ', digit(number)]);
     }
-    if number < 100 {
-        let tens = b'0' + (number / 10) as u8;
-        let ones = b'0' + (number % 10) as u8;
-        return out.extend_from_slice(&[b' ', tens, ones]);
+    let tens = number / 10;
+    let ones = digit(number % 10);
+    if tens < 10 {
+        return out.extend_from_slice(&[b' ', digit(tens), ones]);
     }
-    if number < 1000 {
-        let hundreds = b'0' + (number / 100) as u8;
-        let tens = b'0' + (number / 10 % 10) as u8;
-        let ones = b'0' + (number % 10) as u8;
-        return out.extend_from_slice(&[b' ', hundreds, tens, ones]);
+    if tens < 100 {
+        return out.extend_from_slice(&[b' ', digit(tens / 10), digit(tens % 10), ones]);
     }
     push_long(out, number)
 }
 
-/// The same, at a greater cost.
+/// The same of any number, at a greater cost.
 #[inline(never)]
 fn push_long(out: &mut Vec<u8>, number: u64) -> Result<(), AllocError>
     ensures written { OnOk result (out.new.items ≡ out.old.items ++ spaced number) }
