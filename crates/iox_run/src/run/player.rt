@@ -1,19 +1,12 @@
 //! What a run keeps from one read to the next.
 ghost use Rattle.std.specs.Prelude.{◌≡◌, ◌+◌, ◌-◌, ◌++◌, length, take, OnOk, OnErr};
-ghost use Rattle.iox_script.specs.Grammar.{max_line, meaning};
-ghost use Rattle.iox_session.specs.Shown.{session_of};
-ghost use Rattle.iox_run.specs.Standings.{AnswersLine};
+ghost use Rattle.iox_script.specs.Grammar.{max_line};
 
+use super::answering::answer;
 use super::cuts::first_line;
-use iox_model::command::{Command, PortCommand};
-use iox_script::{
-    ParseError, Payload, ScriptCommand, parse, push_bad_line, push_reply, read_line, receive_line,
-    send_copy_line,
-};
 use iox_session::Session;
 use iox_streams::{Fault, send};
 use std::alloc::{AllocError, Global};
-use std::convert::Infallible;
 use std::io::Write;
 
 /// As many bytes of a line as tell what it says: it is too long, or this is all of it.
@@ -165,102 +158,4 @@ fn keep(line: &mut Vec<u8>, bytes: &[u8]) -> Result<(), AllocError>
 {
     let most = KEPT.saturating_sub(line.len()).min(bytes.len());
     line.extend_from_slice(&bytes[..most])
-}
-
-/// Answers the line of that number.
-#[inline(always)]
-fn answer(
-    alloc: Global,
-    session: &mut Session,
-    answers: &mut Vec<u8>,
-    number: u64,
-    line: &[u8],
-) -> Result<(), AllocError>
-    ensures answered { OnOk result (AnswersLine number (meaning line.now)
-        (session_of session.old) (session_of session.new) answers.old.items answers.new.items) }
-    ensures unchanged { OnErr result (answers.new.items ≡ answers.old.items) }
-{
-    match line {
-        [b'r', b'e', b'c', ..] => answer_receive(alloc, session, answers, number, line),
-        [b'r', b'e', b'a', ..] => answer_read(alloc, session, answers, number, line),
-        [b's', b'e', b'n', ..] => answer_send_copy(alloc, session, answers, number, line),
-        _ => answer_other(alloc, session, answers, number, line),
-    }
-}
-
-#[inline(never)]
-fn answer_receive(
-    alloc: Global,
-    session: &mut Session,
-    answers: &mut Vec<u8>,
-    number: u64,
-    line: &[u8],
-) -> Result<(), AllocError> {
-    match receive_line(line) {
-        Some((node, number)) => {
-            answer_port(alloc, session, answers, PortCommand::Receive { node, number })
-        }
-        None => answer_other(alloc, session, answers, number, line),
-    }
-}
-
-#[inline(never)]
-fn answer_read(
-    alloc: Global,
-    session: &mut Session,
-    answers: &mut Vec<u8>,
-    number: u64,
-    line: &[u8],
-) -> Result<(), AllocError> {
-    match read_line(line) {
-        Some((node, number)) => {
-            answer_port(alloc, session, answers, PortCommand::Read { node, number })
-        }
-        None => answer_other(alloc, session, answers, number, line),
-    }
-}
-
-#[inline(never)]
-fn answer_send_copy(
-    alloc: Global,
-    session: &mut Session,
-    answers: &mut Vec<u8>,
-    number: u64,
-    line: &[u8],
-) -> Result<(), AllocError> {
-    match send_copy_line(alloc, line) {
-        Some((node, number, payload)) => {
-            answer_port(alloc, session, answers, PortCommand::SendCopy { node, number, payload })
-        }
-        None => answer_other(alloc, session, answers, number, line),
-    }
-}
-
-#[inline(always)]
-fn answer_port(
-    alloc: Global,
-    session: &mut Session,
-    answers: &mut Vec<u8>,
-    command: PortCommand<Payload, Infallible>,
-) -> Result<(), AllocError> {
-    let reply = session.play(alloc, ScriptCommand::Service(Command::Port(command)))?;
-    push_reply(answers, &reply)
-}
-
-#[inline(never)]
-fn answer_other(
-    alloc: Global,
-    session: &mut Session,
-    answers: &mut Vec<u8>,
-    number: u64,
-    line: &[u8],
-) -> Result<(), AllocError> {
-    match parse(alloc, line) {
-        Ok(command) => {
-            let reply = session.play(alloc, command)?;
-            push_reply(answers, &reply)
-        }
-        Err(ParseError::Bad(cause)) => push_bad_line(answers, number, cause),
-        Err(ParseError::WantOfMemory) => Err(AllocError),
-    }
 }
