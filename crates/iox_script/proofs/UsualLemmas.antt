@@ -83,6 +83,16 @@ pub after-and : (front : List ℕ) (number : ℕ) (r : Result (List ℕ) LineCau
 after-and front number (Ok more) = ap Ok (sym (append_assoc front (number ∷ []) more))
 after-and front number (Err cause) = refl
 
+-- one number more, and a space behind it
+pub after_more : (front bytes others : List ℕ) (number : ℕ) (r : Result (List ℕ) LineCause) → after front (numbers_of (words_of bytes)) ≡ r
+    → numbers_of (words_of bytes) ≡ number_and number (numbers_of (words_of others)) → after (front ++ number ∷ []) (numbers_of (words_of others)) ≡ r
+after_more front bytes others number r same said = sym (after-and front number (numbers_of (words_of others))) ∙ ap (after front) (sym said) ∙ same
+
+-- and the last one
+pub after_last : (front bytes : List ℕ) (number : ℕ) (r : Result (List ℕ) LineCause) → after front (numbers_of (words_of bytes)) ≡ r
+    → numbers_of (words_of bytes) ≡ Ok (number ∷ []) → r ≡ Ok (front ++ number ∷ [])
+after_last front bytes number r same said = sym same ∙ ap (after front) said
+
 -- ---- what a line says
 
 parts : (r : Result ℕ LineCause) (s : Result (List ℕ) LineCause) (n : ℕ) (ns : List ℕ) → (r >>= (λ x. s >>= (λ xs. Ok (x ∷ xs)))) ≡ Ok (n ∷ ns)

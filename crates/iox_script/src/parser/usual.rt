@@ -80,17 +80,19 @@ fn all_numbers(alloc: Global, bytes: &[u8]) -> Option<Payload>
         return None;
     };
     let mut rest = bytes;
-    while let Some((number, others)) = number_before(rest) {
-        if numbers.push(number).is_err() {
+    'words: loop {
+        let (number, digits) = first_digits(rest);
+        if digits == 0 || numbers.push(number).is_err() {
             return None;
         }
-        rest = others;
+        if digits == rest.len() {
+            return Some(Payload::new(numbers));
+        }
+        if rest[digits] != b' ' {
+            return None;
+        }
+        rest = &rest[digits + 1..];
     }
-    let number = last_number(rest)?;
-    if numbers.push(number).is_err() {
-        return None;
-    }
-    Some(Payload::new(numbers))
 }
 
 /// The numbers of a line `receive NODE NUMBER`.
