@@ -1,5 +1,5 @@
 //! The answer to a line.
-ghost use Rattle.std.specs.Prelude.{◌≡◌, ℕ, Ok, OnOk, OnErr};
+ghost use Rattle.std.specs.Prelude.{◌≡◌, ℕ, OnOk, OnErr};
 ghost use Rattle.iox_model.specs.declared.command.Command.TheVariants.{Port};
 ghost use Rattle.iox_script.specs.Grammar.{meaning};
 ghost use Rattle.iox_script.specs.declared.command.ScriptCommand.TheVariants.{Service};

@@ -1,5 +1,5 @@
 //! What a run keeps from one read to the next.
-ghost use Rattle.std.specs.Prelude.{◌≡◌, ◌+◌, ◌-◌, ◌++◌, length, take, OnOk, OnErr};
+ghost use Rattle.std.specs.Prelude.{◌≡◌, ◌+◌, ◌-◌, ◌++◌, length, take, OnOk};
 ghost use Rattle.iox_script.specs.Grammar.{max_line};
 
 use super::answering::answer;
