@@ -6,6 +6,7 @@ use iox_model::command::PortCommand;
 use iox_types::identifiers::UniqueNodeId;
 
 /// The node that asks.
+#[inline(always)]
 pub(crate) fn asker<P, H>(command: &PortCommand<P, H>) -> u64
     ensures { result ≡ asker command.now }
 {
@@ -28,6 +29,7 @@ pub(crate) fn asker<P, H>(command: &PortCommand<P, H>) -> u64
 }
 
 /// Gives the command the id of its node, if it makes a port.
+#[inline(always)]
 pub(crate) fn put_id<P, H>(command: &mut PortCommand<P, H>, own: UniqueNodeId)
     ensures { command.new ≡ with_id own command.old }
 {

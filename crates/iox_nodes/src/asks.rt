@@ -70,6 +70,7 @@ impl<Q: Payload, QH: Words, P: Payload, PH: Words, H: Backpressure> Service<Q, Q
     }
 
     /// The same, where there is memory for a port, for what is read and for a message that grows.
+    #[inline(always)]
     pub(crate) fn try_port<C>(
         &mut self,
         alloc: Global,
@@ -93,6 +94,7 @@ impl<Q: Payload, QH: Words, P: Payload, PH: Words, H: Backpressure> Service<Q, Q
     }
 
     /// Whether the node has a port or a handle of that number and kind, which is not released.
+    #[inline(always)]
     pub fn has(&self, node: u64, number: u64, kind: Kind) -> bool
         ensures { result ≡ has (service_of self.now).fixed node number kind }
     {

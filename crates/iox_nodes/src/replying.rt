@@ -5,6 +5,7 @@ ghost use Rattle.iox_nodes.specs.Given.{reply_of};
 use iox_model::reply::{PortReply, Reply};
 
 /// The same reply.
+#[inline(always)]
 pub(crate) fn reply_of<L, C>(reply: PortReply<L, C>) -> Reply<L, C>
     ensures { result ≡ reply_of reply }
 {

@@ -19,6 +19,7 @@ use iox_words::Words;
 use std::alloc::{AllocError, Global};
 
 /// The reply to a join.
+#[inline(always)]
 fn joined<L, C>(answer: Result<u64, Refusal<C>>) -> Reply<L, C>
     ensures { result ≡ reply_to replies.Node answer }
 {
@@ -56,6 +57,7 @@ impl<Q: Payload, QH: Words, P: Payload, PH: Words, H: Backpressure> Service<Q, Q
     ///
     /// For a port that is too large, a service never has memory. Nor has it for a join once
     /// 2^64 - 1 nodes joined, or where what is asked says `WantOfMemory` itself.
+    #[inline(always)]
     pub fn try_serve<C: Copy>(
         &mut self,
         alloc: Global,

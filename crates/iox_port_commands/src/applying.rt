@@ -30,6 +30,7 @@ use iox_words::Words;
 use std::alloc::{AllocError, Global};
 
 /// Each command by its own call.
+#[inline(always)]
 fn dispatch<Q: Payload, QH: Words, P: Payload, PH: Words, H: Backpressure, C>(
     hub: &mut Hub<Q, QH, P, PH, H>,
     alloc: Global,
@@ -88,6 +89,7 @@ fn dispatch<Q: Payload, QH: Words, P: Payload, PH: Words, H: Backpressure, C>(
 /// It fails only where there is no memory for a port, for what is read, or for a message that has
 /// to grow, and changes nothing then. Its replies are those of the machine with memory. For a port
 /// that is too large, a hub never has memory.
+#[inline(always)]
 pub fn try_apply<Q: Payload, QH: Words, P: Payload, PH: Words, H: Backpressure, C>(
     hub: &mut Hub<Q, QH, P, PH, H>,
     alloc: Global,

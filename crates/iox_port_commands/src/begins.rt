@@ -23,7 +23,7 @@ const SPENT: u64 = 1 << 56;
 
 /// Of what kind the node's value of that number is, of which that may be asked, where it is one of
 /// these two and calls can still be counted.
-#[inline]
+#[inline(always)]
 fn begin_at_once<Q: Payload, QH: Words, P: Payload, PH: Words, H: Backpressure>(
     hub: &Hub<Q, QH, P, PH, H>,
     node: u64,
@@ -45,6 +45,7 @@ fn begin_at_once<Q: Payload, QH: Words, P: Payload, PH: Words, H: Backpressure>(
 /// Of what kind the node's value of that number is, of which that may be asked, as of values of
 /// these two kinds. Where it may not, the call is answered with the first reason, and nothing
 /// changes.
+#[inline(always)]
 pub(crate) fn begin<Q: Payload, QH: Words, P: Payload, PH: Words, H: Backpressure, C>(
     hub: &Hub<Q, QH, P, PH, H>,
     node: u64,

@@ -24,6 +24,7 @@ use std::alloc::AllocError;
 
 /// Sends a request of a client. It fails only where the message has to grow, and there is no memory
 /// for it.
+#[inline(always)]
 pub fn copy_request<Q: Payload, QH: Words, P: Payload, PH: Words, H: Backpressure, C>(
     hub: &mut Hub<Q, QH, P, PH, H>,
     node: u64,
@@ -57,6 +58,7 @@ pub fn copy_request<Q: Payload, QH: Words, P: Payload, PH: Words, H: Backpressur
 
 /// Sends a response to the client of an active request. It fails only where the message has to
 /// grow, and there is no memory for it.
+#[inline(always)]
 pub fn copy_response<Q: Payload, QH: Words, P: Payload, PH: Words, H: Backpressure, C>(
     hub: &mut Hub<Q, QH, P, PH, H>,
     node: u64,
@@ -90,6 +92,7 @@ pub fn copy_response<Q: Payload, QH: Words, P: Payload, PH: Words, H: Backpressu
 
 /// Sends a message with copies of these elements: a request of a client, or a response to an active
 /// request. It fails only where the message has to grow, and there is no memory for it.
+#[inline(always)]
 pub(crate) fn send_copy<Q: Payload, QH: Words, P: Payload, PH: Words, H: Backpressure, C>(
     hub: &mut Hub<Q, QH, P, PH, H>,
     node: u64,

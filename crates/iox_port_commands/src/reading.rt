@@ -16,6 +16,7 @@ use iox_words::Words;
 use std::alloc::{AllocError, Global};
 
 /// The words of a request, where there is memory for them.
+#[inline(always)]
 fn read_request<Q: Payload, QH: Words, P: Payload, PH: Words, H: Backpressure, C>(
     hub: &Hub<Q, QH, P, PH, H>,
     alloc: Global,
@@ -35,6 +36,7 @@ fn read_request<Q: Payload, QH: Words, P: Payload, PH: Words, H: Backpressure, C
 }
 
 /// The words of a response, where there is memory for them.
+#[inline(always)]
 fn read_response<Q: Payload, QH: Words, P: Payload, PH: Words, H: Backpressure, C>(
     hub: &Hub<Q, QH, P, PH, H>,
     alloc: Global,
@@ -55,6 +57,7 @@ fn read_response<Q: Payload, QH: Words, P: Payload, PH: Words, H: Backpressure, 
 
 /// The words of a handle's message: those of its user header, and then those of its elements. It
 /// fails only where there is no memory for them.
+#[inline(always)]
 pub fn read<Q: Payload, QH: Words, P: Payload, PH: Words, H: Backpressure, C>(
     hub: &Hub<Q, QH, P, PH, H>,
     alloc: Global,

@@ -13,6 +13,7 @@ use iox_store::Payload;
 use iox_words::Words;
 
 /// Receives a request for a server, or a response for a pending response.
+#[inline(always)]
 pub fn receive<Q: Payload, QH: Words, P: Payload, PH: Words, H: Backpressure, C>(
     hub: &mut Hub<Q, QH, P, PH, H>,
     node: u64,

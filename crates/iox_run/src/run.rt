@@ -3,6 +3,7 @@ ghost use Rattle.std.specs.Prelude.{OnOk};
 ghost use Rattle.std.specs.Io.KnownBytes.{IsAtEnd};
 ghost use Rattle.iox_run.specs.Runs.{Plays};
 
+mod answering;
 mod cuts;
 mod player;
 

@@ -18,7 +18,7 @@ pub number_below-after : (bound : ℕ) (word : List ℕ) → 0 < length word →
 number_below-after bound [] some = absurd (omega arith)
 number_below-after bound (byte ∷ word) some = rw (lt-ltb 0 (length (byte ∷ word)) some)
 
-digit_value-digit : (byte : ℕ) → is_digit byte ≡ true → digit_value byte ≡ byte - 48
+pub digit_value-digit : (byte : ℕ) → is_digit byte ≡ true → digit_value byte ≡ byte - 48
 digit_value-digit byte digit = grind (arith, nat_tests)
 
 digits_value_after-ge : (number : ℕ) (rest : List ℕ) → number ≤ digits_value_after 10 number rest

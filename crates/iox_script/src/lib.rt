@@ -9,6 +9,7 @@ mod print;
 mod reply;
 
 pub use command::{Key, Keyword, LineCause, ScriptCommand, ServiceCommand};
+pub use parser::usual::{read_line, receive_line, send_copy_line};
 pub use parser::{ParseError, parse};
 pub use payload::{Payload, Text};
 pub use print::{push_bad_line, push_reply};

@@ -6,6 +6,7 @@ mod commands;
 mod names;
 mod numerals;
 mod texts;
+pub mod usual;
 mod words;
 
 use crate::command::{Keyword, LineCause, ScriptCommand};

@@ -42,10 +42,15 @@ fn unhandled(options: PortOptions<Infallible>) -> PortOptions<()>
 }
 
 /// The words as elements: through an active request those of a response, else those of a request.
+#[inline(always)]
 fn elements(service: &Words, node: u64, number: u64, words: Vec<u64>) -> Elements<u64, u64>
     ensures { payload_for one_word one_word result
         ≡ payload_given (service_of service.now) node number words.items }
 {
+    // A client is found at once, where each handle is looked at for a number that none has.
+    if service.has(node, number, Kind::Client) {
+        return Elements::Requests(words);
+    }
     if service.has(node, number, Kind::ActiveRequest) {
         return Elements::Responses(words);
     }
@@ -53,6 +58,7 @@ fn elements(service: &Words, node: u64, number: u64, words: Vec<u64>) -> Element
 }
 
 /// What is asked of a port or a handle.
+#[inline(always)]
 fn at_port(service: &Words, command: PortCommand<Payload, Infallible>) -> AtPort
     requires { CanBeAsked (Port command) }
     ensures { Some (command_given {C = Infallible} one_word one_word (shown_by following) no_cause
@@ -85,6 +91,7 @@ fn at_port(service: &Words, command: PortCommand<Payload, Infallible>) -> AtPort
 }
 
 /// What a line asks of the service.
+#[inline(always)]
 pub(crate) fn asked(service: &Words, command: ServiceCommand) -> Asked
     requires { CanBeAsked command }
     ensures { Some (command_given one_word one_word (shown_by following) no_cause result)
@@ -98,6 +105,7 @@ pub(crate) fn asked(service: &Words, command: ServiceCommand) -> Asked
 }
 
 /// Whether a line makes a port that is too large.
+#[inline(always)]
 pub(crate) fn makes_large(command: &ServiceCommand) -> bool
     requires { CanBeAsked command.now }
     ensures { (requests responses : Bool)

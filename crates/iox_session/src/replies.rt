@@ -10,6 +10,7 @@ use std::alloc::AllocError;
 use std::convert::Infallible;
 
 /// The same reply.
+#[inline(always)]
 fn reply_of(reply: Reply<Vec<u64>, Infallible>) -> ServiceReply
     ensures { nodes.reply_given no_cause reply ≡ reply_given result }
 {
@@ -29,6 +30,7 @@ fn reply_of(reply: Reply<Vec<u64>, Infallible>) -> ServiceReply
 }
 
 /// The reply, or that a port is too large, for which a service never has memory.
+#[inline(always)]
 pub(crate) fn told(
     answer: Result<Reply<Vec<u64>, Infallible>, AllocError>,
     large: bool,

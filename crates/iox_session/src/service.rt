@@ -53,6 +53,7 @@ impl Service {
     }
 
     /// Answers a command. Where there is no memory, all stays.
+    #[inline(always)]
     pub(crate) fn serve(
         &mut self,
         alloc: Global,

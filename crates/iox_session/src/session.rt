@@ -56,6 +56,7 @@ impl Session {
     }
 
     /// Plays a command. A command that is refused, or that finds no memory, changes nothing.
+    #[inline(always)]
     pub fn play(&mut self, alloc: Global, command: ScriptCommand) -> Result<ScriptReply, AllocError>
         requires said { IsSaid command }
         ensures played { IfOk result (λ reply.

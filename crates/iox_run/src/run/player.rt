@@ -1,11 +1,9 @@
 //! What a run keeps from one read to the next.
-ghost use Rattle.std.specs.Prelude.{◌≡◌, ◌+◌, ◌-◌, ◌++◌, length, take, OnOk, OnErr};
-ghost use Rattle.iox_script.specs.Grammar.{max_line, meaning};
-ghost use Rattle.iox_session.specs.Shown.{session_of};
-ghost use Rattle.iox_run.specs.Standings.{AnswersLine};
+ghost use Rattle.std.specs.Prelude.{◌≡◌, ◌+◌, ◌-◌, ◌++◌, length, take, OnOk};
+ghost use Rattle.iox_script.specs.Grammar.{max_line};
 
+use super::answering::answer;
 use super::cuts::first_line;
-use iox_script::{ParseError, parse, push_bad_line, push_reply};
 use iox_session::Session;
 use iox_streams::{Fault, send};
 use std::alloc::{AllocError, Global};
@@ -111,6 +109,7 @@ impl Player {
     }
 
     /// Ends the line that has begun with these bytes, and answers it.
+    #[inline(always)]
     fn end_line(&mut self, alloc: Global, bytes: &[u8]) -> Result<(), AllocError>
         requires whole { HasNoLineFeed bytes.now }
         requires count { self.old.count + 1 < 2 ^ 64 }
@@ -159,26 +158,4 @@ fn keep(line: &mut Vec<u8>, bytes: &[u8]) -> Result<(), AllocError>
 {
     let most = KEPT.saturating_sub(line.len()).min(bytes.len());
     line.extend_from_slice(&bytes[..most])
-}
-
-/// Answers the line of that number.
-fn answer(
-    alloc: Global,
-    session: &mut Session,
-    answers: &mut Vec<u8>,
-    number: u64,
-    line: &[u8],
-) -> Result<(), AllocError>
-    ensures answered { OnOk result (AnswersLine number (meaning line.now)
-        (session_of session.old) (session_of session.new) answers.old.items answers.new.items) }
-    ensures unchanged { OnErr result (answers.new.items ≡ answers.old.items) }
-{
-    match parse(alloc, line) {
-        Ok(command) => {
-            let reply = session.play(alloc, command)?;
-            push_reply(answers, &reply)
-        }
-        Err(ParseError::Bad(cause)) => push_bad_line(answers, number, cause),
-        Err(ParseError::WantOfMemory) => Err(AllocError),
-    }
 }

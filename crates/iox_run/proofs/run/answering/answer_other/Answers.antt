@@ -1,19 +1,23 @@
-use Rattle.std.proofs.Common.{◌≡◌, Ok, Err, refl, sym, subst}
+use Rattle.std.proofs.Common.{◌≡◌, Err, refl, sym, subst}
 use Rattle.std.proofs.lemmas.Result.{on_ok_weaker}
 use Rattle.iox_script.specs.Grammar.{meaning}
 use Rattle.iox_session.proofs.Said.{what_a_line_says_is_said}
 use Rattle.iox_session.specs.Shown.{session_of}
 use Rattle.iox_run.specs.Answers.{IsLineAnswered}
-use Rattle.iox_run.proofs.run.player.answer.Goals as goal
+use Rattle.iox_run.specs.Standings.{AnswersLine}
+use Rattle.iox_run.proofs.run.answering.answer_other.Goals as goal
 
 pub play-requires : goal.play-requires
 play-requires c = record { said = what_a_line_says_is_said c.args.line.now c.in-Ok.command c.in-Ok.ensures }
 
-pub returns-in_ok-reply-in-Ok-clause-answered : goal.returns-in_ok-reply-in-Ok-clause-answered
-returns-in_ok-reply-in-Ok-clause-answered c =
-    let reply = c.in_ok-reply-in-Ok.reply in
-    let answered = subst (λ said. IsLineAnswered (session_of c.args.session.now) said (Ok reply) (session_of c.play.new.self)) (sym c.in-Ok.ensures) c.in_ok-reply-in-Ok.ensures.played in
-    on_ok_weaker c.push_reply.result (λ written. (Ok reply, answered, written)) c.push_reply.ensures.written
+pub returns-in-Ok-clause-answered : goal.returns-in-Ok-clause-answered
+returns-in-Ok-clause-answered c =
+    on_ok_weaker c.play.result
+    (λ told.
+    subst
+    (λ said. AnswersLine c.args.number said (session_of c.args.session.now) (session_of c.play.new.session) c.args.answers.now.items c.play.new.answers.items)
+    (sym c.in-Ok.ensures) (told c.args.number))
+    c.play.ensures.answered
 
 pub returns-in-Err-Bad-clause-answered : goal.returns-in-Err-Bad-clause-answered
 returns-in-Err-Bad-clause-answered c =
