@@ -113,7 +113,7 @@ abbrev label_in : SlotState → Label
 label_in s = record { lane = s.lane; request = s.request }
 
 -- pools that differ only in holders have the same labels
-labels_same : (old new : List (Option PoolState)) (place k : ℕ) → bare_pools old ≡ bare_pools new → labels_of old place k ≡ labels_of new place k
+pub labels_same : (old new : List (Option PoolState)) (place k : ℕ) → bare_pools old ≡ bare_pools new → labels_of old place k ≡ labels_of new place k
 labels_same old new place k same =
     ap label_in (sym (slot_bare old place k)) ∙ ap (λ ps. label_in (slot_at ps place k)) same ∙ ap label_in (slot_bare new place k)
 

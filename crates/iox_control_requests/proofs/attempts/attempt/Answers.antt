@@ -1,7 +1,7 @@
 use Rattle.std.proofs.Common.{◌∙◌, false, sym, true}
 use Rattle.std.proofs.lemmas.Option.{same_Some}
 use Rattle.iox_control.specs.Entries.{handle_state}
-use Rattle.iox_control_requests.proofs.Emptied.{calls_then, counts_then, ended_bare, ended_is, fails_then, got_back, is_loan_then, nothing_returned, only_loan, sent_then, still_named, the_port, waits_then}
+use Rattle.iox_control_requests.proofs.Emptied.{calls_then, counts_then, ended_bare, ended_is, fails_then, got_back, is_loan_then, labels_same, nothing_returned, only_loan, sent_then, still_named, the_port, waits_then}
 use Rattle.iox_control_requests.proofs.attempts.attempt.Goals as goal
 
 pub retrieve_all_unless-requires-clause-there : goal.retrieve_all_unless-requires-clause-there
@@ -11,7 +11,7 @@ retrieve_all_unless-requires-clause-there g c =
 pub retrieve_all_unless-requires-clause-alone : goal.retrieve_all_unless-requires-clause-alone
 retrieve_all_unless-requires-clause-alone g c p there alone =
     only_loan c.args.control.now c.args.entry.node c.args.entry.number (handle_state c.args.entry) c.requires.order c.requires.named c.requires.kind p there
-    (sym c.has_one_out.ensures ∙ alone)
+    (sym c.has_one_out-alone.ensures ∙ alone)
 
 pub end_loan-requires-clause-loan : goal.end_loan-requires-clause-loan
 end_loan-requires-clause-loan g c =
@@ -37,6 +37,12 @@ send_to_all-requires-clause-calls g c =
 pub send_to_all-requires-clause-named : goal.send_to_all-requires-clause-named
 send_to_all-requires-clause-named g c =
     still_named c.args.control.now c.args.entry.node c.args.entry.number (handle_state c.args.entry) c.requires.order c.requires.named c.requires.kind c.retrieve_all_unless.new.control (got_back c.args.control.now c.args.entry.node c.args.entry.number (handle_state c.args.entry) c.requires.order c.requires.named c.requires.kind c.retrieve_all_unless.new.control c.retrieve_all_unless.ensures.left)
+
+pub send_to_all-requires-clause-label : goal.send_to_all-requires-clause-label
+send_to_all-requires-clause-label g c =
+    c.label-label.ensures
+    ∙ labels_same c.args.control.now.tables.pools c.retrieve_all_unless.new.control.tables.pools c.args.entry.pool c.args.entry.slot
+    (c.retrieve_all_unless.ensures.back (the_port c.args.control.now c.args.entry.node c.args.entry.number (handle_state c.args.entry) c.requires.order c.requires.named c.requires.kind).0 (the_port c.args.control.now c.args.entry.node c.args.entry.number (handle_state c.args.entry) c.requires.order c.requires.named c.requires.kind).1).same
 
 pub send_to_all-requires-clause-returned : goal.send_to_all-requires-clause-returned
 send_to_all-requires-clause-returned g c =

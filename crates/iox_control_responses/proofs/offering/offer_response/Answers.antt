@@ -48,7 +48,7 @@ retrieve_unless-requires-clause-alone c alone =
     only_loan c.args.control.now c.args.node c.args.number c.requires.order c.requires.calls c.requires.response c.requires.order.buffers.responses c.args.entry c.requires.entry c.args.fails
     (response_way c.args.entry.client c.label-label.result.lane c.args.entry.port)
     (ap (λ (l : Label). response_way c.args.entry.client l.lane c.args.entry.port) c.label-label.ensures)
-    c.is_shut-shut.result c.is_shut-shut.ensures.shut c.is_shut-shut.ensures.sound (sym c.has_one_out.ensures ∙ alone)
+    c.is_shut-shut.result c.is_shut-shut.ensures.shut c.is_shut-shut.ensures.sound (sym c.has_one_out-alone.ensures ∙ alone)
 
 pub hand_over-requires-clause-loan : goal.hand_over-requires-clause-loan
 hand_over-requires-clause-loan c =
