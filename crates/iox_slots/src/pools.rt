@@ -12,6 +12,8 @@ ghost use Rattle.iox_slots.specs.Pools.{Acquires, free_count, freed_by_one, has_
 ghost use Rattle.iox_slots.specs.Pools.{is_taken_at, place_for_one, with_one_more, with_pool, with_slot, without_pool, Takes};
 ghost use Rattle.iox_slots.specs.Slots.{held, is_taken, let_go, new_pool, slot_in, taken, with_slot_of, written};
 
+mod leaving;
+
 use crate::place::{
     acquire_in, free_len_of, hold_in, ids_of, is_untouched, len_of, let_go_in, port_of, slot_of,
     take_in, write_in,
