@@ -2,9 +2,7 @@
 use Rattle.std.specs.Prelude.{◌≡◌, ℕ, ◌+◌, ◌-◌, ◌*◌, ◌/◌, ◌<◌, ◌^◌, nat_lt, true}
 use Rattle.std.proofs.Common.{arith}
 use Rattle.std.proofs.Math.Nat.{div-mul-le_self}
-use Rattle.std.specs.Int.Bits.{bit_or}
 use Rattle.std.proofs.lemmas.Bool.{lt-ltb}
-use Rattle.std.proofs.lemmas.Nat.{le_or_l, le_or_r}
 
 -- parts and elements that are small fit together
 pub small_fits : (hs ha us ua ea payload : ℕ) → hs < 2 ^ 60 → ha < 2 ^ 60 → us < 2 ^ 60 → ua < 2 ^ 60 → ea < 2 ^ 60 → payload < 2 ^ 60
@@ -12,7 +10,3 @@ pub small_fits : (hs ha us ua ea payload : ℕ) → hs < 2 ^ 60 → ha < 2 ^ 60 
 small_fits hs ha us ua ea payload a b c d e f =
     let down = div-mul-le_self (hs + us + (ua - 1) + payload + (ea - 1) + (ha - 1)) ha in
     lt-ltb _ _ (omega (arith, down, a, b, c, d, e, f))
-
--- each of the two is below what both in one are below
-pub both_below : (a b : ℕ) → bit_or a b < 2 ^ 60 → (a < 2 ^ 60) × (b < 2 ^ 60)
-both_below a b low = (let more = le_or_l a b in omega (arith, more, low), let more = le_or_r a b in omega (arith, more, low))

@@ -17,18 +17,12 @@ fn bytes_with(header: Part, user: Part, element: Part, payload: u128) -> u128
     header.size as u128 + user.size as u128 + before_user + payload + before_payload
 }
 
-/// Whether all parts are so small that a message of them can be addressed. One test tells it.
-#[tactic(auto, using(crate::proofs::LayoutLemmas::are_below))]
-#[inline(always)]
-fn are_small(header: Part, user: Part, element: Part) -> bool
-    ensures header { IsTrue result → (header.size < 2 ^ 60) × (header.alignment < 2 ^ 60) }
-    ensures user { IsTrue result → (user.size < 2 ^ 60) × (user.alignment < 2 ^ 60) }
-    ensures element { IsTrue result → (element.size < 2 ^ 60) × (element.alignment < 2 ^ 60) }
+/// Whether the part is so small that a message of such parts can be addressed.
+#[inline]
+fn is_small(part: Part) -> bool
+    ensures { IsTrue result → (part.size < 2 ^ 60) × (part.alignment < 2 ^ 60) }
 {
-    let of_header = header.size | header.alignment;
-    let of_user = user.size | user.alignment;
-    let of_element = element.size | element.alignment;
-    (of_header | of_user | of_element) < 1 << 60
+    part.size < 1 << 60 && part.alignment < 1 << 60
 }
 
 /// Whether a message of so many elements has fewer than 2^63 bytes, wherever its parts have to
@@ -62,7 +56,7 @@ pub(crate) fn has_layout(header: Part, user: Part, element: Part, elements: u64)
         (2 ^ 63) }
 {
     let payload = elements as u128 * element.size as u128;
-    if payload < 1 << 60 && are_small(header, user, element) {
+    if payload < 1 << 60 && is_small(header) && is_small(user) && is_small(element) {
         return true;
     }
     can_be_addressed(header, user, element, elements)
