@@ -9,7 +9,7 @@ use Rattle.iox_model.specs.Messages.{closed_for, request_way, response_way}
 use Rattle.iox_tables.specs.HubStates.Tables.{HandleState, HubTables}
 use Rattle.iox_tables.specs.HubStates.Changes.{with_lanes, with_states}
 use Rattle.iox_tables.specs.HubStates.Ends.{with_dropped}
-use Rattle.iox_tables.specs.HubStates.Releases.{lane_of, pending_states, request_of, with_given_back, with_request_closed, way_to_client}
+use Rattle.iox_tables.specs.HubStates.Releases.{pending_states, request_of, with_given_back, with_request_closed, way_to_client}
 use Rattle.iox_tables.specs.HubStates.Wirings.{numbers_of_role}
 use Rattle.iox_tables.specs.HubBooks.Handles.{way_in}
 

@@ -1,12 +1,10 @@
-use Rattle.std.specs.Prelude.{◌≡◌, IfSome, Some, false, refl, true}
+use Rattle.std.specs.Prelude.{◌≡◌, IfSome, false, refl, true}
 use Rattle.std.specs.Option.{option_map_or}
-use Rattle.std.proofs.Common.{ap, subst, sym, ◌∙◌}
-use Rattle.iox_tables.specs.HubStates.Tables.{HandleState, HubTables, port_in}
-use Rattle.iox_tables.specs.HubStates.Wirings.{handle_in}
+use Rattle.std.proofs.Common.{ap, subst, sym}
+use Rattle.iox_tables.specs.HubStates.Tables.{HubTables, port_in}
 use Rattle.iox_control.specs.Controls.{ControlState}
 use Rattle.iox_control.specs.Entries.{handle_state}
 use Rattle.iox_control_releasing.specs.Goings.{ArePoolsThere}
-use Rattle.iox_control_releasing.specs.Named.{IsNamed}
 use Rattle.iox_control_releasing.proofs.Ended.{ended}
 use Rattle.iox_control_releasing.proofs.Kept.{kept_end}
 use Rattle.iox_control_releasing.proofs.StillThere.{pools_there, port_after}
