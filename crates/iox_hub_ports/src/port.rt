@@ -1,6 +1,6 @@
 //! A connected port, and what comes to it.
 ghost use Rattle.std.specs.Option.{option_map};
-ghost use Rattle.std.specs.Prelude.{◌≡◌, ◌<◌, ◌+◌, ◌^◌, ◌-◌, IfSome, None, Some, List, is_some, length, option_copied, slice_get, ℕ, true};
+ghost use Rattle.std.specs.Prelude.{◌≡◌, ◌<◌, ◌+◌, ◌^◌, ◌-◌, IfSome, None, Some, is_some, length, option_copied, slice_get, true};
 ghost use Rattle.iox_tables.specs.HubStates.Asks.{waits_for};
 ghost use Rattle.iox_tables.specs.HubStates.Receives.{both_visits, visited_port};
 ghost use Rattle.iox_tables.specs.Visits.TheVariants.{AtLimit};
