@@ -127,7 +127,7 @@ impl Port {
     }
 
     /// Takes a step on the lane of that number, of the pipe from this sender.
-    #[inline]
+    #[inline(always)]
     pub fn on_lane<S: LaneStep>(&mut self, sender: u64, lane: usize, step: &S) -> S::Answer
         ensures told { result
             ≡ on_lane_from (S.told step.now) (S.none step.now) self.old sender lane }
@@ -140,7 +140,7 @@ impl Port {
     }
 
     /// Takes a step on the request state of that lane, beside the pipe from this sender.
-    #[inline]
+    #[inline(always)]
     pub fn on_state<S: StateStep>(&mut self, sender: u64, lane: usize, step: &S)
         ensures { self.new ≡ with_state_from (S.changed step.now) self.old sender lane }
     {
