@@ -110,9 +110,13 @@ impl<Q: Payload, QH: Words, P: Payload, PH: Words, H: Backpressure> Hub<Q, QH, P
         ensures tidy { IsTrue result
             → StaysTidy self.old.control.tables self.new.control.tables }
     {
-        let Some(ending) =
-            iox_control_releasing::release(&mut self.control, node, number, kind, hint)
-        else {
+        let Some(ending) = iox_control_releasing::release(
+            &mut self.control,
+            node,
+            number,
+            kind,
+            hint,
+        ) else {
             return false;
         };
         self.drop_both(ending);
