@@ -1,15 +1,12 @@
-use Rattle.std.specs.Prelude.{◌≡◌, Some, refl}
+use Rattle.std.specs.Prelude.{refl}
 use Rattle.std.proofs.Common.{ap, subst, sym, ◌∙◌, true≢false}
 use Rattle.std.proofs.lemmas.Option.{same_Some}
 use Rattle.iox_model.specs.declared.call.Call.TheVariants.{Release}
 use Rattle.iox_model.specs.declared.reply.Reply.TheVariants.{Done}
-use Rattle.iox_tables.specs.HubStates.Tables.{HandleState, port_in}
 use Rattle.iox_control.specs.Controls.{ControlState}
 use Rattle.iox_control.specs.Entries.{handle_state}
 use Rattle.iox_control_releasing.specs.Goings.{StaysTidy}
-use Rattle.iox_hub.specs.Hubs.{HubState, IsHub, with_control}
 use Rattle.iox_hub.specs.Keeping.{IsOther}
-use Rattle.iox_hub.specs.Sending.{with_words_left}
 use Rattle.iox_hub.proofs.GoesOn.{hub_goes_on, whole_of_hub}
 use Rattle.iox_hub.proofs.KeepingCalls.{released_keeps}
 use Rattle.iox_hub.proofs.Named.{found_is_handle}
