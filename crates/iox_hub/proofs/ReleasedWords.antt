@@ -15,6 +15,7 @@ use Rattle.iox_tables.specs.HubBooks.Hubs.{AreInOrder}
 use Rattle.iox_tables.specs.HubLoans.Questions.{kind_by, kind_in, kind_of_role}
 use Rattle.iox_control.specs.Controls.{ControlState}
 use Rattle.iox_control.specs.Removals.{if_still}
+use Rattle.iox_control_releasing.specs.Goings.{ArePoolsThere}
 use Rattle.iox_hub.specs.Hubs.{HubState, IsHub, with_control}
 use Rattle.iox_hub.specs.Keeping.{Keeps}
 use Rattle.iox_hub.specs.Sending.{with_words_left}
@@ -48,6 +49,25 @@ module _ {h : HubState} (hub : IsHub h) (c : ControlState) (new : HubState) (a :
   others_keep P order None stay left kept = subst (Keeps P h) (sym (stay refl)) kept
   others_keep P order (Some k) stay left kept =
       left_keeps P h (with_words_left mid a) new order k left (left_keeps P h mid (with_words_left mid a) order a refl kept)
+
+-- the same, told of the handle that was there
+pub words_so : {h : HubState} (hub : IsHub h) (c : ControlState) (new : HubState) (e : HandleState) (place : Option ℕ) → (place ≡ None → new ≡ with_control h c)
+    → IfSome place (λ k. new ≡ with_words_left (with_words_left (with_control h c) e.pool) k)
+    → ((p : PortState) → port_in h.control.tables.ports e.port ≡ Some p → IfSome place (λ k. k ≡ p.pool))
+    → (place ≡ None → ArePoolsThere h.control.tables.ports c.tables.pools e)
+    → (k : HandleState) → e ≡ k → (p : PortState) → port_in h.control.tables.ports k.port ≡ Some p
+    → new ≡ with_words_left (with_words_left (with_control h new.control) k.pool) p.pool
+words_so {h} hub c new e place stay left same there k is p at =
+    let port : port_in h.control.tables.ports e.port ≡ Some p = ap (λ (g : HandleState). port_in h.control.tables.ports g.port) is ∙ at in
+    subst (λ (g : HandleState). new ≡ with_words_left (with_words_left (with_control h new.control) g.pool) p.pool) is
+    (words_go hub c new e.pool place p.pool stay left (same p port) (λ none. ((there none).message, (there none).port p port)))
+
+-- where the tables stay, so does the hub
+pub none_new : {h : HubState} → IsHub h → {c : ControlState} → c ≡ h.control → with_control h c ≡ h
+none_new {h} hub same = ap (λ (d : ControlState). with_control h d) same
+
+pub still_hub : {h : HubState} → IsHub h → {c : ControlState} → c ≡ h.control → IsHub (with_control h c)
+still_hub {h} hub same = subst (λ (d : ControlState). IsHub (with_control h d)) (sym same) hub
 
 -- ---- what is told of the handle
 
