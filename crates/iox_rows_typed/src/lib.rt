@@ -40,4 +40,6 @@ mod refusals;
 #[cfg(test)]
 mod rounds;
 #[cfg(test)]
+mod trips;
+#[cfg(test)]
 mod uses_own_type;
