@@ -26,6 +26,7 @@ pub(crate) fn place_of(members: &[Member], node: u64) -> Option<usize>
 }
 
 /// The serial that the desk of the port records of the slot, at the node that the plan gives it.
+#[inline(never)]
 fn serial(places: &WordMap, members: &[Member], port: u64, slot: u64) -> u64
     ensures { result ≡ serial_of places.now members.now port slot }
 {
@@ -39,7 +40,8 @@ fn serial(places: &WordMap, members: &[Member], port: u64, slot: u64) -> u64
 }
 
 /// The event with serials in place of slots.
-fn named(places: &WordMap, members: &[Member], event: Event) -> Event
+#[inline(always)]
+pub(crate) fn named(places: &WordMap, members: &[Member], event: Event) -> Event
     ensures { result ≡ with_serials (serial_of places.now members.now) event }
 {
     match event {
@@ -65,12 +67,12 @@ fn named(places: &WordMap, members: &[Member], event: Event) -> Event
 
 /// Records that event of the node, if it is one, behind the others; there is room for it. It names
 /// a message by its slot.
-#[inline]
+#[inline(always)]
 pub(crate) fn note(
     places: &WordMap,
     members: &[Member],
     node: u64,
-    event: Option<Event>,
+    event: Event,
     events: &mut Vec<WireEvent>,
 )
     requires { vec_len events.old < vec_capacity events.old }
@@ -80,10 +82,8 @@ pub(crate) fn note(
     ensures few { vec_len events.new ≤ vec_len events.old + 1 }
     ensures capacity { vec_capacity events.new ≡ vec_capacity events.old }
 {
-    if let Some(event) = event {
-        events.push_reserved(WireEvent {
-            node,
-            event: named(places, members, event),
-        });
-    }
+    events.push_reserved(WireEvent {
+        node,
+        event: named(places, members, event),
+    });
 }

@@ -8,7 +8,8 @@ mod over;
 
 use crate::stored_call::StoredCall;
 use iox_model::event::Event;
-use iox_steps::{Access, perform};
+use iox_steps::Access;
+use iox_wire_nodes::CallAt;
 use iox_wire_weaves::{NodeReply, StoredNode, WireRefusal};
 use std::alloc::{AllocError, Global};
 use std::marker::Model;
@@ -113,6 +114,12 @@ impl Member {
         self.number
     }
 
+    /// Its own part.
+    #[inline(always)]
+    pub(crate) fn node(&self) -> &StoredNode {
+        &self.node
+    }
+
     /// Whether it lives.
     #[inline]
     pub(crate) fn is_alive(&self) -> bool
@@ -165,31 +172,24 @@ impl Member {
         None
     }
 
-    /// Makes its next access, and tells what that found.
+    /// Its next access.
     #[inline(always)]
-    pub(crate) fn make_access(&self, words: &mut Vec<u64>) -> u64
-        requires { (p : Setting) × MayAccess p self.now.node words.old.items }
-        ensures seen { (p : Setting) → MayAccess p self.now.node words.old.items
-            → result ≡ seen_at (access_in p self.now.node) words.old.items }
-        ensures words { (p : Setting) → MayAccess p self.now.node words.old.items
-            → words.new.items ≡ words_after (access_in p self.now.node) words.old.items }
-    {
-        let access: Access = self.node.asks();
-        perform(words, access)
+    pub(crate) fn asks(&self, call: CallAt) -> Access {
+        self.node.asks(call)
     }
 
     /// The event of that access, if it is one. A message is named by its slot.
     #[inline(always)]
-    pub(crate) fn event(&self, seen: u64) -> Option<Event>
+    pub(crate) fn event(&self, call: CallAt, seen: u64) -> Option<Event>
         ensures { (p : Setting) → IsAimed p self.now.node
             → result ≡ slot_event p (seat_in self.now.node).local seen }
     {
-        self.node.event(seen)
+        self.node.event(call, seen)
     }
 
     /// Continues with what its access found.
     #[inline(always)]
-    pub(crate) fn go_on(&mut self, seen: u64) -> Option<NodeReply>
+    pub(crate) fn go_on(&mut self, call: CallAt, seen: u64) -> Option<NodeReply>
         requires may { (p : Setting) × FoundThere p self.old.node seen }
         requires busy { is_busy (seat_in self.old.node).local ≡ true }
         requires few { (seat_in self.old.node).accesses < most_accesses }
@@ -203,6 +203,6 @@ impl Member {
         ensures rooms { KeepsRooms self.old.node self.new.node }
     {
         self.node.place();
-        self.node.go_on(seen)
+        self.node.go_on(call, seen)
     }
 }

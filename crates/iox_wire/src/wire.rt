@@ -3,12 +3,19 @@ ghost use Rattle.std.specs.Prelude.{◌≡◌, IfOk, Ok, replicate};
 ghost use Rattle.iox_steps.specs.declared.access.Progress.TheVariants.{Done, Going};
 ghost use Rattle.iox_wire.specs.Kept.{StandInOrder};
 
-use crate::events::{WireEvent, note, place_of};
+use crate::events::{WireEvent, named, place_of};
 use crate::finished::Replies;
 use crate::member::Member;
 use crate::new_error::WireNewError;
 use crate::opening::{longest_message, new_refusal, open_members};
-use iox_steps::Progress;
+use iox_steps::{Access, Progress};
+use iox_wire_copies::{CopierAt, CopyAt};
+use iox_wire_loans::LendAt;
+use iox_wire_receives::ReceiveAt;
+use iox_wire_request_sends::RequestAt;
+use iox_wire_sends::RespondAt;
+use iox_wire_seats::{At, PopAt, PushAt};
+use iox_wire_nodes::CallAt;
 use iox_wire_weaves::{Lists, NodeReply, WirePlan, WireRefusal, WireTerms, WordMap};
 use std::alloc::{AllocError, Global};
 use std::marker::Model;
@@ -227,15 +234,494 @@ impl Wire {
         if let Err(_) = self.reserve(1) {
             return Err(WireRefusal::WantOfMemory);
         }
-        match self.make_step(node, place) {
-            Progress::Going => return going(),
-            Progress::Done(reply) => return done(reply),
-        }
+match self.members[place].node().at() {
+CallAt::Seats => match self.members[place].node().seat().at() {
+At::ReleaseReturns => match self.members[place].node().seat().pushes_at() {
+PushAt::LoadsWrite => match self.make_step(node, place, CallAt::Seats) {
+Progress::Going => return going(),
+Progress::Done(reply) => return done(reply),
+},
+PushAt::LoadsRead => match self.make_step(node, place, CallAt::Seats) {
+Progress::Going => return going(),
+Progress::Done(reply) => return done(reply),
+},
+PushAt::StoresCell => match self.make_step(node, place, CallAt::Seats) {
+Progress::Going => return going(),
+Progress::Done(reply) => return done(reply),
+},
+PushAt::StoresWrite => match self.make_step(node, place, CallAt::Seats) {
+Progress::Going => return going(),
+Progress::Done(reply) => return done(reply),
+},
+_ => return self.other_step(node, place),
+},
+At::ReleaseLooks => match self.make_step(node, place, CallAt::Seats) {
+Progress::Going => return going(),
+Progress::Done(reply) => return done(reply),
+},
+At::ReleaseExchanges => match self.make_step(node, place, CallAt::Seats) {
+Progress::Going => return going(),
+Progress::Done(reply) => return done(reply),
+},
+At::ReleaseCloses => match self.make_step(node, place, CallAt::Seats) {
+Progress::Going => return going(),
+Progress::Done(reply) => return done(reply),
+},
+At::Reads => match self.make_step(node, place, CallAt::Seats) {
+Progress::Going => return going(),
+Progress::Done(reply) => return done(reply),
+},
+At::Writes => match self.make_step(node, place, CallAt::Seats) {
+Progress::Going => return going(),
+Progress::Done(reply) => return done(reply),
+},
+_ => return self.other_step(node, place),
+},
+CallAt::Receives => match self.members[place].node().receiving().at() {
+ReceiveAt::Looks => match self.members[place].node().receiving().pops_at() {
+PopAt::LookLoadsRead => match self.make_step(node, place, CallAt::Receives) {
+Progress::Going => return going(),
+Progress::Done(reply) => return done(reply),
+},
+PopAt::LookLoadsWrite => match self.make_step(node, place, CallAt::Receives) {
+Progress::Going => return going(),
+Progress::Done(reply) => return done(reply),
+},
+_ => return self.other_step(node, place),
+},
+ReceiveAt::Pops => match self.members[place].node().receiving().pops_at() {
+PopAt::LoadsRead => match self.make_step(node, place, CallAt::Receives) {
+Progress::Going => return going(),
+Progress::Done(reply) => return done(reply),
+},
+PopAt::LoadsWrite => match self.make_step(node, place, CallAt::Receives) {
+Progress::Going => return going(),
+Progress::Done(reply) => return done(reply),
+},
+PopAt::LoadsCell => match self.make_step(node, place, CallAt::Receives) {
+Progress::Going => return going(),
+Progress::Done(reply) => return done(reply),
+},
+PopAt::Takes => match self.make_step(node, place, CallAt::Receives) {
+Progress::Going => return going(),
+Progress::Done(reply) => return done(reply),
+},
+_ => return self.other_step(node, place),
+},
+ReceiveAt::Returns => match self.members[place].node().receiving().pushes_at() {
+PushAt::LoadsWrite => match self.make_step(node, place, CallAt::Receives) {
+Progress::Going => return going(),
+Progress::Done(reply) => return done(reply),
+},
+PushAt::LoadsRead => match self.make_step(node, place, CallAt::Receives) {
+Progress::Going => return going(),
+Progress::Done(reply) => return done(reply),
+},
+PushAt::StoresCell => match self.make_step(node, place, CallAt::Receives) {
+Progress::Going => return going(),
+Progress::Done(reply) => return done(reply),
+},
+PushAt::StoresWrite => match self.make_step(node, place, CallAt::Receives) {
+Progress::Going => return going(),
+Progress::Done(reply) => return done(reply),
+},
+_ => return self.other_step(node, place),
+},
+ReceiveAt::Loads => match self.make_step(node, place, CallAt::Receives) {
+Progress::Going => return going(),
+Progress::Done(reply) => return done(reply),
+},
+ReceiveAt::Asks => match self.make_step(node, place, CallAt::Receives) {
+Progress::Going => return going(),
+Progress::Done(reply) => return done(reply),
+},
+_ => return self.other_step(node, place),
+},
+CallAt::Lends => match self.members[place].node().lending().at() {
+LendAt::Empties => match self.members[place].node().lending().pops_at() {
+PopAt::LoadsRead => match self.make_step(node, place, CallAt::Lends) {
+Progress::Going => return going(),
+Progress::Done(reply) => return done(reply),
+},
+PopAt::LoadsWrite => match self.make_step(node, place, CallAt::Lends) {
+Progress::Going => return going(),
+Progress::Done(reply) => return done(reply),
+},
+PopAt::LoadsCell => match self.make_step(node, place, CallAt::Lends) {
+Progress::Going => return going(),
+Progress::Done(reply) => return done(reply),
+},
+PopAt::Takes => match self.make_step(node, place, CallAt::Lends) {
+Progress::Going => return going(),
+Progress::Done(reply) => return done(reply),
+},
+_ => return self.other_step(node, place),
+},
+LendAt::Stores => match self.make_step(node, place, CallAt::Lends) {
+Progress::Going => return going(),
+Progress::Done(reply) => return done(reply),
+},
+_ => return self.other_step(node, place),
+},
+CallAt::SendsRequest => match self.members[place].node().requesting().at() {
+RequestAt::Empties => match self.members[place].node().requesting().pops_at() {
+PopAt::LoadsRead => match self.make_step(node, place, CallAt::SendsRequest) {
+Progress::Going => return going(),
+Progress::Done(reply) => return done(reply),
+},
+PopAt::LoadsWrite => match self.make_step(node, place, CallAt::SendsRequest) {
+Progress::Going => return going(),
+Progress::Done(reply) => return done(reply),
+},
+PopAt::LoadsCell => match self.make_step(node, place, CallAt::SendsRequest) {
+Progress::Going => return going(),
+Progress::Done(reply) => return done(reply),
+},
+PopAt::Takes => match self.make_step(node, place, CallAt::SendsRequest) {
+Progress::Going => return going(),
+Progress::Done(reply) => return done(reply),
+},
+_ => return self.other_step(node, place),
+},
+RequestAt::Looks => match self.members[place].node().requesting().pushes_at() {
+PushAt::LookLoadsWrite => match self.make_step(node, place, CallAt::SendsRequest) {
+Progress::Going => return going(),
+Progress::Done(reply) => return done(reply),
+},
+PushAt::LookLoadsRead => match self.make_step(node, place, CallAt::SendsRequest) {
+Progress::Going => return going(),
+Progress::Done(reply) => return done(reply),
+},
+_ => return self.other_step(node, place),
+},
+RequestAt::Pushes => match self.members[place].node().requesting().pushes_at() {
+PushAt::LoadsWrite => match self.make_step(node, place, CallAt::SendsRequest) {
+Progress::Going => return going(),
+Progress::Done(reply) => return done(reply),
+},
+PushAt::LoadsRead => match self.make_step(node, place, CallAt::SendsRequest) {
+Progress::Going => return going(),
+Progress::Done(reply) => return done(reply),
+},
+PushAt::StoresCell => match self.make_step(node, place, CallAt::SendsRequest) {
+Progress::Going => return going(),
+Progress::Done(reply) => return done(reply),
+},
+PushAt::StoresWrite => match self.make_step(node, place, CallAt::SendsRequest) {
+Progress::Going => return going(),
+Progress::Done(reply) => return done(reply),
+},
+_ => return self.other_step(node, place),
+},
+RequestAt::Evicts => match self.members[place].node().requesting().pushes_at() {
+PushAt::Evicts => match self.make_step(node, place, CallAt::SendsRequest) {
+Progress::Going => return going(),
+Progress::Done(reply) => return done(reply),
+},
+_ => return self.other_step(node, place),
+},
+RequestAt::GetsBack => match self.members[place].node().requesting().pushes_at() {
+PushAt::TakesOld => match self.make_step(node, place, CallAt::SendsRequest) {
+Progress::Going => return going(),
+Progress::Done(reply) => return done(reply),
+},
+_ => return self.other_step(node, place),
+},
+RequestAt::Opens => match self.make_step(node, place, CallAt::SendsRequest) {
+Progress::Going => return going(),
+Progress::Done(reply) => return done(reply),
+},
+_ => return self.other_step(node, place),
+},
+CallAt::SendsResponse => match self.members[place].node().responding().at() {
+RespondAt::Empties => match self.members[place].node().responding().pops_at() {
+PopAt::LoadsRead => match self.make_step(node, place, CallAt::SendsResponse) {
+Progress::Going => return going(),
+Progress::Done(reply) => return done(reply),
+},
+PopAt::LoadsWrite => match self.make_step(node, place, CallAt::SendsResponse) {
+Progress::Going => return going(),
+Progress::Done(reply) => return done(reply),
+},
+PopAt::LoadsCell => match self.make_step(node, place, CallAt::SendsResponse) {
+Progress::Going => return going(),
+Progress::Done(reply) => return done(reply),
+},
+PopAt::Takes => match self.make_step(node, place, CallAt::SendsResponse) {
+Progress::Going => return going(),
+Progress::Done(reply) => return done(reply),
+},
+_ => return self.other_step(node, place),
+},
+RespondAt::Looks => match self.members[place].node().responding().pushes_at() {
+PushAt::LookLoadsWrite => match self.make_step(node, place, CallAt::SendsResponse) {
+Progress::Going => return going(),
+Progress::Done(reply) => return done(reply),
+},
+PushAt::LookLoadsRead => match self.make_step(node, place, CallAt::SendsResponse) {
+Progress::Going => return going(),
+Progress::Done(reply) => return done(reply),
+},
+_ => return self.other_step(node, place),
+},
+RespondAt::Pushes => match self.members[place].node().responding().pushes_at() {
+PushAt::LoadsWrite => match self.make_step(node, place, CallAt::SendsResponse) {
+Progress::Going => return going(),
+Progress::Done(reply) => return done(reply),
+},
+PushAt::LoadsRead => match self.make_step(node, place, CallAt::SendsResponse) {
+Progress::Going => return going(),
+Progress::Done(reply) => return done(reply),
+},
+PushAt::StoresCell => match self.make_step(node, place, CallAt::SendsResponse) {
+Progress::Going => return going(),
+Progress::Done(reply) => return done(reply),
+},
+PushAt::StoresWrite => match self.make_step(node, place, CallAt::SendsResponse) {
+Progress::Going => return going(),
+Progress::Done(reply) => return done(reply),
+},
+_ => return self.other_step(node, place),
+},
+RespondAt::Evicts => match self.members[place].node().responding().pushes_at() {
+PushAt::Evicts => match self.make_step(node, place, CallAt::SendsResponse) {
+Progress::Going => return going(),
+Progress::Done(reply) => return done(reply),
+},
+_ => return self.other_step(node, place),
+},
+RespondAt::GetsBack => match self.members[place].node().responding().pushes_at() {
+PushAt::TakesOld => match self.make_step(node, place, CallAt::SendsResponse) {
+Progress::Going => return going(),
+Progress::Done(reply) => return done(reply),
+},
+_ => return self.other_step(node, place),
+},
+RespondAt::Asks => match self.make_step(node, place, CallAt::SendsResponse) {
+Progress::Going => return going(),
+Progress::Done(reply) => return done(reply),
+},
+_ => return self.other_step(node, place),
+},
+CallAt::CopiesRequest => match self.members[place].node().copying_client().at() {
+CopierAt::Lends => match self.members[place].node().copying_client().lends().at() {
+CopyAt::Lends => match self.members[place].node().copying_client().lends().lending().at() {
+LendAt::Empties => match self.members[place].node().copying_client().lends().lending().pops_at() {
+PopAt::LoadsRead => match self.make_step(node, place, CallAt::CopiesRequest) {
+Progress::Going => return going(),
+Progress::Done(reply) => return done(reply),
+},
+PopAt::LoadsWrite => match self.make_step(node, place, CallAt::CopiesRequest) {
+Progress::Going => return going(),
+Progress::Done(reply) => return done(reply),
+},
+PopAt::LoadsCell => match self.make_step(node, place, CallAt::CopiesRequest) {
+Progress::Going => return going(),
+Progress::Done(reply) => return done(reply),
+},
+PopAt::Takes => match self.make_step(node, place, CallAt::CopiesRequest) {
+Progress::Going => return going(),
+Progress::Done(reply) => return done(reply),
+},
+_ => return self.other_step(node, place),
+},
+LendAt::Stores => match self.make_step(node, place, CallAt::CopiesRequest) {
+Progress::Going => return going(),
+Progress::Done(reply) => return done(reply),
+},
+_ => return self.other_step(node, place),
+},
+CopyAt::Writes => match self.make_step(node, place, CallAt::CopiesRequest) {
+Progress::Going => return going(),
+Progress::Done(reply) => return done(reply),
+},
+_ => return self.other_step(node, place),
+},
+CopierAt::Sends => match self.members[place].node().copying_client().sends().at() {
+RequestAt::Empties => match self.members[place].node().copying_client().sends().pops_at() {
+PopAt::LoadsRead => match self.make_step(node, place, CallAt::CopiesRequest) {
+Progress::Going => return going(),
+Progress::Done(reply) => return done(reply),
+},
+PopAt::LoadsWrite => match self.make_step(node, place, CallAt::CopiesRequest) {
+Progress::Going => return going(),
+Progress::Done(reply) => return done(reply),
+},
+PopAt::LoadsCell => match self.make_step(node, place, CallAt::CopiesRequest) {
+Progress::Going => return going(),
+Progress::Done(reply) => return done(reply),
+},
+PopAt::Takes => match self.make_step(node, place, CallAt::CopiesRequest) {
+Progress::Going => return going(),
+Progress::Done(reply) => return done(reply),
+},
+_ => return self.other_step(node, place),
+},
+RequestAt::Looks => match self.members[place].node().copying_client().sends().pushes_at() {
+PushAt::LookLoadsWrite => match self.make_step(node, place, CallAt::CopiesRequest) {
+Progress::Going => return going(),
+Progress::Done(reply) => return done(reply),
+},
+PushAt::LookLoadsRead => match self.make_step(node, place, CallAt::CopiesRequest) {
+Progress::Going => return going(),
+Progress::Done(reply) => return done(reply),
+},
+_ => return self.other_step(node, place),
+},
+RequestAt::Pushes => match self.members[place].node().copying_client().sends().pushes_at() {
+PushAt::LoadsWrite => match self.make_step(node, place, CallAt::CopiesRequest) {
+Progress::Going => return going(),
+Progress::Done(reply) => return done(reply),
+},
+PushAt::LoadsRead => match self.make_step(node, place, CallAt::CopiesRequest) {
+Progress::Going => return going(),
+Progress::Done(reply) => return done(reply),
+},
+PushAt::StoresCell => match self.make_step(node, place, CallAt::CopiesRequest) {
+Progress::Going => return going(),
+Progress::Done(reply) => return done(reply),
+},
+PushAt::StoresWrite => match self.make_step(node, place, CallAt::CopiesRequest) {
+Progress::Going => return going(),
+Progress::Done(reply) => return done(reply),
+},
+_ => return self.other_step(node, place),
+},
+RequestAt::Evicts => match self.members[place].node().copying_client().sends().pushes_at() {
+PushAt::Evicts => match self.make_step(node, place, CallAt::CopiesRequest) {
+Progress::Going => return going(),
+Progress::Done(reply) => return done(reply),
+},
+_ => return self.other_step(node, place),
+},
+RequestAt::GetsBack => match self.members[place].node().copying_client().sends().pushes_at() {
+PushAt::TakesOld => match self.make_step(node, place, CallAt::CopiesRequest) {
+Progress::Going => return going(),
+Progress::Done(reply) => return done(reply),
+},
+_ => return self.other_step(node, place),
+},
+RequestAt::Opens => match self.make_step(node, place, CallAt::CopiesRequest) {
+Progress::Going => return going(),
+Progress::Done(reply) => return done(reply),
+},
+_ => return self.other_step(node, place),
+},
+_ => return self.other_step(node, place),
+},
+CallAt::CopiesResponse => match self.members[place].node().copying_server().at() {
+CopierAt::Lends => match self.members[place].node().copying_server().lends().at() {
+CopyAt::Lends => match self.members[place].node().copying_server().lends().lending().at() {
+LendAt::Empties => match self.members[place].node().copying_server().lends().lending().pops_at() {
+PopAt::LoadsRead => match self.make_step(node, place, CallAt::CopiesResponse) {
+Progress::Going => return going(),
+Progress::Done(reply) => return done(reply),
+},
+PopAt::LoadsWrite => match self.make_step(node, place, CallAt::CopiesResponse) {
+Progress::Going => return going(),
+Progress::Done(reply) => return done(reply),
+},
+PopAt::LoadsCell => match self.make_step(node, place, CallAt::CopiesResponse) {
+Progress::Going => return going(),
+Progress::Done(reply) => return done(reply),
+},
+PopAt::Takes => match self.make_step(node, place, CallAt::CopiesResponse) {
+Progress::Going => return going(),
+Progress::Done(reply) => return done(reply),
+},
+_ => return self.other_step(node, place),
+},
+LendAt::Stores => match self.make_step(node, place, CallAt::CopiesResponse) {
+Progress::Going => return going(),
+Progress::Done(reply) => return done(reply),
+},
+_ => return self.other_step(node, place),
+},
+CopyAt::Writes => match self.make_step(node, place, CallAt::CopiesResponse) {
+Progress::Going => return going(),
+Progress::Done(reply) => return done(reply),
+},
+_ => return self.other_step(node, place),
+},
+CopierAt::Sends => match self.members[place].node().copying_server().sends().at() {
+RespondAt::Empties => match self.members[place].node().copying_server().sends().pops_at() {
+PopAt::LoadsRead => match self.make_step(node, place, CallAt::CopiesResponse) {
+Progress::Going => return going(),
+Progress::Done(reply) => return done(reply),
+},
+PopAt::LoadsWrite => match self.make_step(node, place, CallAt::CopiesResponse) {
+Progress::Going => return going(),
+Progress::Done(reply) => return done(reply),
+},
+PopAt::LoadsCell => match self.make_step(node, place, CallAt::CopiesResponse) {
+Progress::Going => return going(),
+Progress::Done(reply) => return done(reply),
+},
+PopAt::Takes => match self.make_step(node, place, CallAt::CopiesResponse) {
+Progress::Going => return going(),
+Progress::Done(reply) => return done(reply),
+},
+_ => return self.other_step(node, place),
+},
+RespondAt::Looks => match self.members[place].node().copying_server().sends().pushes_at() {
+PushAt::LookLoadsWrite => match self.make_step(node, place, CallAt::CopiesResponse) {
+Progress::Going => return going(),
+Progress::Done(reply) => return done(reply),
+},
+PushAt::LookLoadsRead => match self.make_step(node, place, CallAt::CopiesResponse) {
+Progress::Going => return going(),
+Progress::Done(reply) => return done(reply),
+},
+_ => return self.other_step(node, place),
+},
+RespondAt::Pushes => match self.members[place].node().copying_server().sends().pushes_at() {
+PushAt::LoadsWrite => match self.make_step(node, place, CallAt::CopiesResponse) {
+Progress::Going => return going(),
+Progress::Done(reply) => return done(reply),
+},
+PushAt::LoadsRead => match self.make_step(node, place, CallAt::CopiesResponse) {
+Progress::Going => return going(),
+Progress::Done(reply) => return done(reply),
+},
+PushAt::StoresCell => match self.make_step(node, place, CallAt::CopiesResponse) {
+Progress::Going => return going(),
+Progress::Done(reply) => return done(reply),
+},
+PushAt::StoresWrite => match self.make_step(node, place, CallAt::CopiesResponse) {
+Progress::Going => return going(),
+Progress::Done(reply) => return done(reply),
+},
+_ => return self.other_step(node, place),
+},
+RespondAt::Evicts => match self.members[place].node().copying_server().sends().pushes_at() {
+PushAt::Evicts => match self.make_step(node, place, CallAt::CopiesResponse) {
+Progress::Going => return going(),
+Progress::Done(reply) => return done(reply),
+},
+_ => return self.other_step(node, place),
+},
+RespondAt::GetsBack => match self.members[place].node().copying_server().sends().pushes_at() {
+PushAt::TakesOld => match self.make_step(node, place, CallAt::CopiesResponse) {
+Progress::Going => return going(),
+Progress::Done(reply) => return done(reply),
+},
+_ => return self.other_step(node, place),
+},
+RespondAt::Asks => match self.make_step(node, place, CallAt::CopiesResponse) {
+Progress::Going => return going(),
+Progress::Done(reply) => return done(reply),
+},
+_ => return self.other_step(node, place),
+},
+_ => return self.other_step(node, place),
+},
+}
     }
+
 
     /// One access of a node that stands there and may make a step, which finds room.
     #[inline(always)]
-    fn make_step(&mut self, node: u64, place: usize) -> Progress<NodeReply>
+    pub(crate) fn make_step(&mut self, node: u64, place: usize, call: CallAt) -> Progress<NodeReply>
         requires there { position (λ x. x.number == node) self.old.nodes ≡ Some place }
         requires within { place < length self.old.nodes }
         requires goes { step_refusal self.old node ≡ None }
@@ -246,18 +732,43 @@ impl Wire {
         ensures read { KeepsRead self.old node result self.new }
         ensures room { self.new.room + 1 ≡ self.old.room }
     {
-        let member = &self.members[place];
-        let seen = member.make_access(&mut self.words);
-        let told = member.event(seen);
-        note(&self.places, &self.members, node, told, &mut self.events);
+        let access = self.members[place].asks(call);
+        let seen = found(&self.words, access);
+        let told = match self.members[place].event(call, seen) {
+            None => None,
+            Some(event) => Some(WireEvent {
+                node,
+                event: named(&self.places, &self.members, event),
+            }),
+        };
+        let reply = self.members[place].go_on(call, seen);
+        put(&mut self.words, access, seen);
+        if let Some(event) = told {
+            self.events.push_reserved(event);
+        }
         self.room -= 1;
-        let member = &mut self.members[place];
-        let Some(reply) = member.go_on(seen) else {
+        let Some(reply) = reply else {
             return Progress::Going;
         };
-        let ended = self.events.len();
-        member.tell(reply, ended, &mut self.replies);
+        self.tell_end(place, reply);
         Progress::Done(reply)
+    }
+
+    #[inline(never)]
+    fn tell_end(&mut self, place: usize, reply: NodeReply) {
+        let ended = self.events.len();
+        let member = &mut self.members[place];
+        member.tell(reply, ended, &mut self.replies);
+    }
+
+    #[cold]
+    #[inline(never)]
+    fn other_step(&mut self, node: u64, place: usize) -> Result<Progress<NodeReply>, WireRefusal> {
+        let call = self.members[place].node().at();
+        match self.make_step(node, place, call) {
+            Progress::Going => return going(),
+            Progress::Done(reply) => return done(reply),
+        }
     }
 
     /// The node stops for good, wherever it is in its call.
@@ -279,7 +790,7 @@ impl Wire {
 /// What a step answers whose call continues. Written where it ends, it is zeros only, in a few
 /// stores.
 #[inline(always)]
-fn going() -> Result<Progress<NodeReply>, WireRefusal>
+pub(crate) fn going() -> Result<Progress<NodeReply>, WireRefusal>
     ensures { result ≡ Ok Going }
 {
     Ok(Progress::Going)
@@ -287,7 +798,7 @@ fn going() -> Result<Progress<NodeReply>, WireRefusal>
 
 /// What a step answers whose call is over.
 #[inline(always)]
-fn done(reply: NodeReply) -> Result<Progress<NodeReply>, WireRefusal>
+pub(crate) fn done(reply: NodeReply) -> Result<Progress<NodeReply>, WireRefusal>
     ensures { result ≡ Ok (Done reply) }
 {
     Ok(Progress::Done(reply))
@@ -313,4 +824,38 @@ fn zeros(alloc: Global, count: usize) -> Result<Vec<u64>, AllocError>
     ensures { IfOk result (λ words. words.items ≡ replicate count 0) }
 {
     vec![in alloc; 0u64; count]
+}
+
+/// What the access finds.
+#[inline(always)]
+fn found(words: &Vec<u64>, access: Access) -> u64 {
+    match access {
+        Access::Local => 0,
+        Access::Load(place) => words[place],
+        Access::Store(place, _) => words[place],
+        Access::CompareExchange(place, _, _) => words[place],
+        Access::FetchAdd(place, _) => words[place],
+        Access::FetchSub(place, _) => words[place],
+        Access::FetchOr(place, _) => words[place],
+        Access::FetchAnd(place, _) => words[place],
+    }
+}
+
+/// What the access leaves.
+#[inline(always)]
+fn put(words: &mut Vec<u64>, access: Access, seen: u64) {
+    match access {
+        Access::Local => {}
+        Access::Load(_) => {}
+        Access::Store(place, value) => words[place] = value,
+        Access::CompareExchange(place, old, new) => {
+            if seen == old {
+                words[place] = new;
+            }
+        }
+        Access::FetchAdd(place, value) => words[place] = seen.wrapping_add(value),
+        Access::FetchSub(place, value) => words[place] = seen.wrapping_sub(value),
+        Access::FetchOr(place, value) => words[place] = seen | value,
+        Access::FetchAnd(place, value) => words[place] = seen & value,
+    }
 }

@@ -129,6 +129,18 @@ impl CopyLending {
         })
     }
 
+    /// Where it is.
+    #[inline(always)]
+    pub fn at(&self) -> CopyAt {
+        self.at
+    }
+
+    /// Its loan.
+    #[inline(always)]
+    pub fn lending(&self) -> &Lending {
+        &self.lending
+    }
+
     /// Whether a loan is under way.
     pub fn is_busy(&self) -> bool
         ensures { result ≡ is_busy self.now.local }

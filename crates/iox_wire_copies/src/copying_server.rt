@@ -74,6 +74,24 @@ impl CopyingServer {
         })
     }
 
+    /// Where it is.
+    #[inline(always)]
+    pub fn at(&self) -> CopierAt {
+        self.at
+    }
+
+    /// Its loan.
+    #[inline(always)]
+    pub fn lends(&self) -> &CopyLending {
+        &self.lends
+    }
+
+    /// Its send.
+    #[inline(always)]
+    pub fn sends(&self) -> &Responding {
+        &self.sends
+    }
+
     /// Whether a copy is under way.
     pub fn is_busy(&self) -> bool
         ensures { result ≡ is_busy self.now.local }

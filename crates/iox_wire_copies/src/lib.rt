@@ -12,7 +12,7 @@ mod told;
 mod uses;
 mod worked;
 
-pub use at::{CopyLent, CopyReply, ResponseCopyReply};
+pub use at::{CopierAt, CopyAt, CopyLent, CopyReply, ResponseCopyReply};
 pub use copy_lending::CopyLending;
 pub use copying_client::CopyingClient;
 pub use copying_server::CopyingServer;

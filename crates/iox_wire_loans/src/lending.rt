@@ -13,7 +13,7 @@ use iox_model::kind::Kind;
 use iox_model::way::Way;
 use iox_steps::{Access, QueueKind, Site};
 use iox_wire_locals::CallRefusal;
-use iox_wire_seats::{Popper, Stops, StoredSeat};
+use iox_wire_seats::{PopAt, Popper, Stops, StoredSeat};
 use std::alloc::{AllocError, Global};
 use std::marker::Model;
 
@@ -148,6 +148,18 @@ impl Lending {
             next: 0,
             refusal: CallRefusal::WrongLength,
         })
+    }
+
+    /// Where it is.
+    #[inline(always)]
+    pub fn at(&self) -> LendAt {
+        self.at
+    }
+
+    /// Its popping party.
+    #[inline(always)]
+    pub fn pops_at(&self) -> PopAt {
+        self.popper.at()
     }
 
     /// Whether a loan is under way.

@@ -9,7 +9,7 @@ mod order;
 mod slot_places;
 mod uses;
 
-pub use at::LendReply;
+pub use at::{LendAt, LendReply};
 pub use lender::Lender;
 pub use lending::Lending;
 pub use order::Order;

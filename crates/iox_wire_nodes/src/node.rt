@@ -113,6 +113,54 @@ impl StoredNode {
         })
     }
 
+    /// Where it is.
+    #[inline(always)]
+    pub fn at(&self) -> CallAt {
+        self.at
+    }
+
+    /// A part.
+    #[inline(always)]
+    pub fn seat(&self) -> &StoredSeat {
+        &self.seat
+    }
+
+    /// A part.
+    #[inline(always)]
+    pub fn receiving(&self) -> &Receiving {
+        &self.receiving
+    }
+
+    /// A part.
+    #[inline(always)]
+    pub fn lending(&self) -> &Lending {
+        &self.lending
+    }
+
+    /// A part.
+    #[inline(always)]
+    pub fn requesting(&self) -> &Requesting {
+        &self.requesting
+    }
+
+    /// A part.
+    #[inline(always)]
+    pub fn responding(&self) -> &Responding {
+        &self.responding
+    }
+
+    /// A part.
+    #[inline(always)]
+    pub fn copying_client(&self) -> &CopyingClient {
+        &self.copying_client
+    }
+
+    /// A part.
+    #[inline(always)]
+    pub fn copying_server(&self) -> &CopyingServer {
+        &self.copying_server
+    }
+
     /// Whether a call is under way.
     pub fn is_busy(&self) -> bool
         ensures { result ≡ is_busy (seat_in self.now).local }
@@ -137,11 +185,11 @@ impl StoredNode {
 
     /// The access that it makes next.
     #[inline(always)]
-    pub fn asks(&self) -> Access
+    pub fn asks(&self, call: CallAt) -> Access
         ensures { (p : Setting) → IsAimed p self.now → result
             ≡ program_access p.layout (program_of p (seat_in self.now).local) }
     {
-        match self.at {
+        match call {
             CallAt::Seats => self.seat.asks(),
             CallAt::Receives => self.receiving.asks(),
             CallAt::Lends => self.lending.asks(),
@@ -156,7 +204,7 @@ impl StoredNode {
     /// answers. There is to be room for what the call adds at its end, and what the access gets
     /// back, delivers or gives up is to be in use.
     #[inline(always)]
-    pub fn go_on(&mut self, seen: u64) -> Option<NodeReply>
+    pub fn go_on(&mut self, call: CallAt, seen: u64) -> Option<NodeReply>
         requires busy { is_busy (seat_in self.old).local ≡ true }
         requires accesses { self.old.seat.seat.accesses + 1 < 2 ^ 64 }
         requires may { MayGoOn self.old.at self.old seen }
@@ -171,7 +219,7 @@ impl StoredNode {
         ensures rooms { KeepsRooms self.old self.new }
     {
         let seat = &mut self.seat;
-        match self.at {
+        match call {
             CallAt::Seats => match seat.go_on(seen) {
                 Some(reply) => return Some(NodeReply::OfSeat(reply)),
                 None => return None,

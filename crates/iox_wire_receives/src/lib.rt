@@ -8,7 +8,7 @@ mod source;
 mod sources;
 mod uses;
 
-pub use at::ReceiveReply;
+pub use at::{ReceiveAt, ReceiveReply};
 pub use receiving::Receiving;
 pub use source::{ReceiveTerms, Source};
 pub use sources::Sources;

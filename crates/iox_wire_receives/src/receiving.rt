@@ -15,7 +15,7 @@ use iox_model::kind::Role;
 use iox_model::way::Way;
 use iox_steps::{Access, QueueKind, Site};
 use iox_wire_locals::Visit;
-use iox_wire_seats::{Popper, Pusher, StoredSeat};
+use iox_wire_seats::{PopAt, Popper, PushAt, Pusher, StoredSeat};
 use std::alloc::{AllocError, Global};
 use std::marker::Model;
 
@@ -154,6 +154,24 @@ impl Receiving {
             site: NO_SITE,
             place: 0,
         })
+    }
+
+    /// Where it is.
+    #[inline(always)]
+    pub fn at(&self) -> ReceiveAt {
+        self.at
+    }
+
+    /// Its popping party.
+    #[inline(always)]
+    pub fn pops_at(&self) -> PopAt {
+        self.popper.at()
+    }
+
+    /// Its pushing party.
+    #[inline(always)]
+    pub fn pushes_at(&self) -> PushAt {
+        self.pusher.at()
     }
 
     /// Whether a receive is under way.

@@ -9,7 +9,7 @@ mod targets;
 mod uses;
 mod worked;
 
-pub use at::RequestReply;
+pub use at::{RequestAt, RequestReply};
 pub use iox_wire_loans::{LendReply, Lender, Lending, SlotPlaces};
 pub use requesting::Requesting;
 pub use target::{RequestTerms, Target};

@@ -17,7 +17,7 @@ use iox_model::kind::Kind;
 use iox_model::way::Way;
 use iox_steps::{Access, QueueKind, Site};
 use iox_wire_locals::Entry;
-use iox_wire_seats::{Popper, Pusher, StoredSeat};
+use iox_wire_seats::{PopAt, Popper, PushAt, Pusher, StoredSeat};
 use std::alloc::{AllocError, Global};
 use std::marker::Model;
 
@@ -160,6 +160,24 @@ impl Requesting {
             site: NO_SITE,
             state: 0,
         })
+    }
+
+    /// Where it is.
+    #[inline(always)]
+    pub fn at(&self) -> RequestAt {
+        self.at
+    }
+
+    /// Its popping party.
+    #[inline(always)]
+    pub fn pops_at(&self) -> PopAt {
+        self.popper.at()
+    }
+
+    /// Its pushing party.
+    #[inline(always)]
+    pub fn pushes_at(&self) -> PushAt {
+        self.pusher.at()
     }
 
     /// Whether a send is under way.

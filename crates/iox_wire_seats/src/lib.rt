@@ -16,13 +16,13 @@ mod stops;
 mod uses;
 mod uses_calls;
 
-pub use at::SeatReply;
+pub use at::{At, SeatReply};
 pub use counts::Counts;
 pub use desk::StoredDesk;
 pub use desks::Desks;
 pub use entries::Entries;
 pub use message_places::MessagePlaces;
-pub use popper::Popper;
-pub use pusher::Pusher;
+pub use popper::{PopAt, Popper};
+pub use pusher::{PushAt, Pusher};
 pub use seat::{StoredSeat, is_named, look_event, pending_entry};
 pub use stops::{Stop, Stops};

@@ -61,6 +61,12 @@ impl Popper {
         }
     }
 
+    /// Where it is.
+    #[inline(always)]
+    pub fn at(&self) -> PopAt {
+        self.at
+    }
+
     /// Begins a pop.
     #[inline(always)]
     pub fn pop(&mut self)

@@ -69,6 +69,12 @@ impl Pusher {
         }
     }
 
+    /// Where it is.
+    #[inline(always)]
+    pub fn at(&self) -> PushAt {
+        self.at
+    }
+
     /// Begins a push.
     #[inline(always)]
     pub fn push(&mut self, value: u64)

@@ -23,7 +23,7 @@ use crate::desks::Desks;
 use crate::entries::Entries;
 use crate::message_places::MessagePlaces;
 use crate::popper::Popper;
-use crate::pusher::Pusher;
+use crate::pusher::{PushAt, Pusher};
 use crate::stops::Stops;
 pub use event::look_event;
 use iox_model::kind::Kind;
@@ -202,6 +202,18 @@ impl StoredSeat {
             way: NO_WAY,
             left: Stops::new(alloc, ways)?,
         })
+    }
+
+    /// Where it is.
+    #[inline(always)]
+    pub fn at(&self) -> At {
+        self.at
+    }
+
+    /// Its pushing party.
+    #[inline(always)]
+    pub fn pushes_at(&self) -> PushAt {
+        self.pusher.at()
     }
 
     /// Whether a call is under way.

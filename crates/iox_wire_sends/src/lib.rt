@@ -7,6 +7,6 @@ mod responding;
 mod terms;
 mod uses;
 
-pub use at::RespondReply;
+pub use at::{RespondAt, RespondReply};
 pub use responding::Responding;
 pub use terms::ResponseTerms;

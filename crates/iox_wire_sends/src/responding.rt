@@ -14,7 +14,7 @@ use crate::terms::ResponseTerms;
 use iox_model::kind::Kind;
 use iox_steps::{Access, QueueKind, Site};
 use iox_wire_locals::Entry;
-use iox_wire_seats::{Popper, Pusher, StoredSeat};
+use iox_wire_seats::{PopAt, Popper, PushAt, Pusher, StoredSeat};
 use std::marker::Model;
 
 const NO_LOAN: Entry = Entry {
@@ -106,6 +106,24 @@ impl Responding {
             popper: Popper::new(),
             pusher: Pusher::new(),
         }
+    }
+
+    /// Where it is.
+    #[inline(always)]
+    pub fn at(&self) -> RespondAt {
+        self.at
+    }
+
+    /// Its popping party.
+    #[inline(always)]
+    pub fn pops_at(&self) -> PopAt {
+        self.popper.at()
+    }
+
+    /// Its pushing party.
+    #[inline(always)]
+    pub fn pushes_at(&self) -> PushAt {
+        self.pusher.at()
     }
 
     /// Whether a send is under way.

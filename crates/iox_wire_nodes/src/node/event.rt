@@ -14,11 +14,11 @@ impl StoredNode {
     /// The event of its next access, which finds `seen`, if it is one. It names a message by its
     /// slot.
     #[inline(always)]
-    pub fn event(&self, seen: u64) -> Option<Event>
+    pub fn event(&self, call: CallAt, seen: u64) -> Option<Event>
         ensures { (p : Setting) → IsAimed p self.now
             → result ≡ slot_event p (seat_in self.now).local seen }
     {
-        match self.at {
+        match call {
             CallAt::Seats => self.seat.event(seen),
             CallAt::Receives => self.receiving.event(seen),
             CallAt::Lends => self.lending.event(seen),
