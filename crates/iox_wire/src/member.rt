@@ -34,7 +34,7 @@ pub(crate) struct Member {
     // the words of that call, as far as there is room for them, those of its last read that is
     // over, and for how many there is room
     words: Vec<u64>,
-    read: Vec<u64>,
+    pub(crate) read: Vec<u64>,
     longest: usize,
 }
 
