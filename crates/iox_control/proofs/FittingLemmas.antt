@@ -4,7 +4,7 @@ use Rattle.std.specs.Option.{option_and_then, option_map}
 use Rattle.std.proofs.Common.{sym, ap, ◌∙◌, eqb-true}
 use Rattle.std.proofs.lemmas.Option.{none-some, same_Some}
 use Rattle.iox_handles.specs.declared.entry.Entry.{Entry}
-use Rattle.iox_handles.specs.Tables.{Contents, IsSound, changed, handle_at, handle_of, has_that, of_kind, with_kind}
+use Rattle.iox_handles.specs.Tables.{Contents, IsSound, changed, handle_at, handle_of, has_that, of_kind, turned}
 use Rattle.iox_model.specs.declared.kind.Kind.{Kind}
 use Rattle.iox_hub_ports.specs.HubStates.Ends.{with_changed}
 use Rattle.iox_hub_ports.specs.HubStates.Tables.{PoolState}
@@ -38,12 +38,12 @@ abbrev fits_in : List (Option PoolState) → Option ℕ → Entry → Option Kin
 fits_in pools elements e = kind_fitting pools elements (handle_state e)
 
 pub fitted_told : (pools : List (Option PoolState)) (elements : Option ℕ) (old : Contents) (node n : ℕ) (result : Option Entry) → IsSound old
-    → result ≡ option_and_then (with_kind (fits_in pools elements)) (handle_of old node n)
+    → result ≡ option_and_then (turned (fits_in pools elements)) (handle_of old node n)
     → option_map handle_state result ≡ option_and_then (fitted pools elements) (handle_in (handles_of old) node n)
 fitted_told pools elements old node n result sound told =
     ap (option_map handle_state) told ∙ step (handle_of old node n) ∙ ap (option_and_then (fitted pools elements)) (entry_of old node n (handle_of old node n) sound refl)
   where
-    step : (o : Option Entry) → option_map handle_state (option_and_then (with_kind (fits_in pools elements)) o)
+    step : (o : Option Entry) → option_map handle_state (option_and_then (turned (fits_in pools elements)) o)
         ≡ option_and_then (fitted pools elements) (option_map handle_state o)
     step None = refl
     step (Some e) = same_fit pools elements e (fits_in pools elements e)
@@ -53,7 +53,7 @@ module _ (settings : Settings) (calls next made : ℕ) (ports : PortsState) (old
   all handles = control_of settings calls next made ports handles pools
 
   pub fitted_changed : (new : Contents) (elements : Option ℕ) (node n : ℕ) (result : Option Entry)
-      → result ≡ option_and_then (with_kind (fits_in pools elements)) (handle_of old node n)
+      → result ≡ option_and_then (turned (fits_in pools elements)) (handle_of old node n)
       → IfSome result (λ h. new ≡ changed old h)
       → IfSome result (λ h. all new ≡ with_tables (all old) (with_changed (all old).tables (handle_state h)))
   fitted_changed new elements node n None told left = tt
@@ -68,7 +68,7 @@ module _ (settings : Settings) (calls next made : ℕ) (ports : PortsState) (old
           let number : n ≡ h.number = sym (number_of old.handles n e (sym own.0)) ∙ ap (λ (k : Entry). k.number) (sym is) in
           changes settings calls next made ports old pools new e h left (own.0 ∙ ap (handle_at old) number) (ap (λ (k : Entry). k.node) (sym is))
 
-      by_handle : (o : Option Entry) → handle_of old node n ≡ o → Some h ≡ option_and_then (with_kind (fits_in pools elements)) o
+      by_handle : (o : Option Entry) → handle_of old node n ≡ o → Some h ≡ option_and_then (turned (fits_in pools elements)) o
           → all new ≡ with_tables (all old) (with_changed (all old).tables (handle_state h))
       by_handle None at said = absurd (none-some h (sym said))
       by_handle (Some e) at said = by_kind e (fits_in pools elements e) (sym at) said

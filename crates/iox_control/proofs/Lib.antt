@@ -11,3 +11,5 @@ pub mod HintKept
 pub mod ChangeLemmas
 pub mod RoomLemmas
 pub mod FittingLemmas
+pub mod RemovalLemmas
+pub mod KindLemmas

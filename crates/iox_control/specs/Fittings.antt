@@ -7,8 +7,8 @@ use Rattle.iox_hub_ports.specs.HubBooks.Handles.{is_loan}
 use Rattle.iox_hub_ports.specs.HubStates.Tables.{HandleState, PoolState, slot_at}
 
 -- the kind of a loan once it is filled; no other handle may be
-abbrev pub kind_filled : Kind → Option Kind
-kind_filled kind = if is_loan kind then Some (filled_kind kind) else None
+abbrev pub filled_if_loan : Kind → Option Kind
+filled_if_loan kind = if is_loan kind then Some (filled_kind kind) else None
 
 -- whether the message in that slot has so many elements
 abbrev pub has_elements : List (Option PoolState) → ℕ → ℕ → Option ℕ → Bool
@@ -18,7 +18,7 @@ has_elements pools pool slot elements =
 -- the kind that a loan gets, where its message has so many elements
 abbrev pub kind_fitting : List (Option PoolState) → Option ℕ → HandleState → Option Kind
 kind_fitting pools elements h =
-    if has_elements pools h.pool h.slot elements then kind_filled h.kind else None
+    if has_elements pools h.pool h.slot elements then filled_if_loan h.kind else None
 
 -- the handle of a loan that is filled so, if it is one and has so many elements
 abbrev pub fitted : List (Option PoolState) → Option ℕ → HandleState → Option HandleState

@@ -3,3 +3,4 @@ pub mod Entries
 pub mod Controls
 pub mod Replies
 pub mod Fittings
+pub mod Removals

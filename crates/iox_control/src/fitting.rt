@@ -6,7 +6,7 @@ ghost use Rattle.iox_hub_ports.specs.HubStates.Ends.{with_changed};
 ghost use Rattle.iox_hub_ports.specs.HubStates.Wirings.{handle_in};
 ghost use Rattle.iox_control.specs.Controls.{with_tables};
 ghost use Rattle.iox_control.specs.Entries.{handle_state};
-ghost use Rattle.iox_control.specs.Fittings.{fitted, has_elements, kind_filled, kind_fitting};
+ghost use Rattle.iox_control.specs.Fittings.{fitted, has_elements, filled_if_loan, kind_fitting};
 
 use crate::control::Control;
 use iox_handles::{Entry, KindChange};
@@ -23,7 +23,7 @@ struct Fitting<'a> {
 /// The kind of a loan once it is filled. No other handle may be.
 #[inline]
 fn filled_kind(kind: Kind) -> Option<Kind>
-    ensures kind { result ≡ kind_filled kind }
+    ensures kind { result ≡ filled_if_loan kind }
     ensures group { IfSome result (λ filled. group_of filled ≡ group_of kind) }
 {
     match kind {

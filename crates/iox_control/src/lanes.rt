@@ -114,6 +114,7 @@ impl Control {
 
     /// Gives a message of the way back that its receiver has, and says whether it had it. Its slot
     /// stays as it is.
+    #[inline(always)]
     pub fn give_back(&mut self, way: Way, slot: u64) -> bool
         ensures taken { result ≡ on_way (λ l. is_taken l slot) false self.old.tables.ports way }
         ensures released { self.new
@@ -144,6 +145,7 @@ impl Control {
     }
 
     /// Closes the request on the way, if it is the open one.
+    #[inline(always)]
     pub fn close(&mut self, way: Way, id: u64)
         ensures { self.new ≡ with_tables self.old
             (with_states (λ r. closed_for r id) self.old.tables (way ∷ [])) }

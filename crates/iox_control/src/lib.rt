@@ -9,6 +9,7 @@ mod parts;
 mod questions;
 mod received;
 mod receives;
+mod removals;
 mod settings;
 mod slots;
 pub mod uses;

@@ -1,13 +1,13 @@
 //! Single changes of slots and of handles.
 ghost use Rattle.std.specs.List.{list_any};
-ghost use Rattle.std.specs.Prelude.{◌≡◌, ◌==◌, ◌<◌, IfSome, IsSome, None, ◌↔◌, filter, map};
+ghost use Rattle.std.specs.Prelude.{◌≡◌, ◌==◌, ◌<◌, IfSome, IsSome, None, ◌↔◌, filter, map, true};
 ghost use Rattle.std.specs.Bool.{OnFalse};
 ghost use Rattle.std.specs.Option.{option_map};
 ghost use Rattle.iox_handles.specs.Least.{least};
 ghost use Rattle.iox_hub_ports.specs.HubStates.Ends.{with_changed};
 ghost use Rattle.iox_hub_ports.specs.HubStates.Wirings.{handle_in};
-ghost use Rattle.iox_slots.specs.Pools.{Acquires, free_count, has_slot, is_taken_at, with_slot};
-ghost use Rattle.iox_slots.specs.Slots.{let_go, written};
+ghost use Rattle.iox_slots.specs.Pools.{Acquires, Takes, free_count, has_slot, is_idle, is_taken_at, with_slot};
+ghost use Rattle.iox_slots.specs.Slots.{let_go, taken, written};
 ghost use Rattle.iox_control.specs.Controls.{with_handle_dropped, with_pools, with_tables};
 ghost use Rattle.iox_control.specs.Entries.{handle_state};
 
@@ -27,6 +27,45 @@ impl Control {
         ensures unchanged { result ≡ None → self.new ≡ self.old }
     {
         self.pools.acquire(pool)
+    }
+
+    /// One has a slot that nobody had, with that message, and this is its number. It is `None`
+    /// exactly if there is none, and then nothing changes.
+    #[inline(always)]
+    pub fn take(
+        &mut self,
+        pool: usize,
+        serial: u64,
+        lane: u64,
+        request: u64,
+        elements: u64,
+    ) -> Option<u64>
+        ensures taken { IfSome result (λ k. Takes self.old.tables.pools pool k
+            (taken serial lane request elements) self.new.tables.pools) }
+        ensures left { self.new ≡ with_pools self.old self.new.tables.pools }
+        ensures full { result ≡ None ↔ free_count self.old.tables.pools pool ≡ 0 }
+        ensures unchanged { result ≡ None → self.new ≡ self.old }
+    {
+        self.pools.take(pool, serial, lane, request, elements)
+    }
+
+    /// The same, where nobody has any slot of the pool.
+    #[inline(always)]
+    pub fn take_first(
+        &mut self,
+        pool: usize,
+        serial: u64,
+        lane: u64,
+        request: u64,
+        elements: u64,
+    ) -> Option<u64>
+        ensures idle { IsSome result → is_idle self.old.tables.pools pool ≡ true }
+        ensures taken { IfSome result (λ k. Takes self.old.tables.pools pool k
+            (taken serial lane request elements) self.new.tables.pools) }
+        ensures left { self.new ≡ with_pools self.old self.new.tables.pools }
+        ensures unchanged { result ≡ None → self.new ≡ self.old }
+    {
+        self.pools.take_first(pool, serial, lane, request, elements)
     }
 
     /// Writes another message into a slot, and says whether there is such a slot. Who has the slot

@@ -35,7 +35,7 @@ use Rattle.iox_slots.specs.Pools.{with_slot}
 use Rattle.iox_slots.specs.Slots.{let_go}
 use Rattle.iox_control.specs.Controls.{ControlState, IsControl, with_tables}
 use Rattle.iox_control_lending.specs.declared.asked.Asked.{Asked}
-use Rattle.iox_control_lending.proofs.SlotLemmas.{written_once}
+use Rattle.iox_control_copies.proofs.WrittenOnce.{written_once}
 use Rattle.iox_control_responses.proofs.Lanes.{IsReady, delivers_is}
 use Rattle.iox_control_copies.specs.Answers.{IsPushed, way_of, with_copy_pushed, with_copy_sent}
 use Rattle.iox_control_copies.proofs.Kept.{keeps}

@@ -2,6 +2,7 @@ pub mod Pushed
 pub mod Kept
 pub mod Free
 pub mod Lanes
+pub mod WrittenOnce
 pub mod InLine
 pub mod Outcomes
 pub mod Named

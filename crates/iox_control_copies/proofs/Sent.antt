@@ -39,7 +39,7 @@ use Rattle.iox_tables.proofs.HubBooks.Used.{once_on}
 use Rattle.iox_tables.specs.HubLending.Emptying.{AreGotBack, with_back}
 use Rattle.iox_tables.specs.HubLending.Lending.{MayLend}
 use Rattle.iox_tables.proofs.HubLending.Back.{back_in_order}
-use Rattle.iox_tables.proofs.HubLending.Bared.{differ, messages_same, put_same}
+use Rattle.iox_tables.proofs.HubLending.Bared.{messages_same, put_same}
 use Rattle.iox_tables.proofs.HubLending.OneMore.{lanes_same, role_same, there_same}
 use Rattle.iox_tables.specs.HubLoans.CopySends.{IsCopyToMake, copied, copy_sending, is_lender_awaited, with_copy, with_words}
 use Rattle.iox_tables.specs.HubLoans.Lenders.{Lender, with_got_back}

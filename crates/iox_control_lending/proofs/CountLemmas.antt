@@ -1,7 +1,8 @@
 -- Handles are counted as the table keeps them.
-use Rattle.std.specs.Prelude.{◌≡◌, ℕ, ◌+◌, ◌<◌, ◌≤◌, ◌-◌, ◌&&◌, ◌||◌, ◌==◌, nat_le, nat_lt, suc, Bool, true, false, if◌then◌else◌, List, [], ◌∷◌, map, filter, find, length, Option, Some, refl}
+use Rattle.std.specs.Prelude.{◌≡◌, ℕ, ◌+◌, ◌*◌, ◌<◌, ◌≤◌, ◌-◌, ◌&&◌, ◌||◌, ◌==◌, nat_le, nat_lt, suc, Bool, true, false, if◌then◌else◌, List, [], ◌∷◌, map, filter, find, length, Option, Some, refl}
 use Rattle.std.specs.List.{list_any, range_with_len}
 use Rattle.std.proofs.Common.{ap, ◌∙◌, sym, arith, true≢false}
+use Rattle.std.proofs.Math.Nat.{le-mul_of_pos_right}
 use Rattle.std.proofs.lemmas.Bool.{lt-ltb}
 use Rattle.iox_model.specs.declared.kind.Kind.{Kind}
 use Rattle.iox_model.specs.declared.kind.Kind.TheVariants.{PendingResponse, RequestMut, RequestMutUninit, ResponseMut, ResponseMutUninit}
@@ -139,3 +140,13 @@ search_ends test n i below e =
   where
     more : (n i : ℕ) → i < n → n - i ≡ suc (n - (i + 1))
     more n i below = omega (arith, below)
+
+-- fewer than the first of the three are fewer than their product, where the others are not 0
+pub fewer_than_all : (a b c m : ℕ) → m < a → 0 < b → 0 < c → false ≡ nat_le (a * b * c) m
+fewer_than_all a b c m few some more =
+    let one : a ≤ a * b = le-mul_of_pos_right a some in
+    let two : a * b ≤ a * b * c = le-mul_of_pos_right (a * b) more in
+    not_over (a * b * c) m (omega (arith, few, one, two))
+  where
+    not_over : (k n : ℕ) → n < k → false ≡ nat_le k n
+    not_over k n less = grind (arith, less)

@@ -40,7 +40,7 @@ use Rattle.iox_control.proofs.WholeLemmas.{is_whole_of}
 use Rattle.iox_control_lending.specs.declared.asked.Place.{Place}
 use Rattle.iox_control_lending.specs.declared.asked.Written.{Written}
 use Rattle.iox_control_lending.specs.declared.asked.Written.TheVariants as written
-use Rattle.iox_control_lending.specs.Fills.{IsFilled, IsLoan, IsMisfit, Writes, fits_loan, given_written, kind_after, reply_of_write}
+use Rattle.iox_control_lending.specs.Fills.{IsLoan, Writes, fits_loan, given_written, kind_after, reply_of_write}
 use Rattle.iox_control_lending.proofs.MadeLemmas.{have_messages}
 
 -- ---- kinds of loans
@@ -159,21 +159,6 @@ module _ (c new : ControlState) (node n : ℕ) (loan : IsLoan c.tables node n) (
   after_left all kind after is h there =
       kind_left kind is h there
       ∙ ap (λ k. with_tables c (with_kind c.tables h k)) (after ∙ ap (λ (k : HandleState). kind_after all k.kind) (same_Some (handle_state e) h (found ∙ there)))
-
-  pub filled_left : (elements : Option ℕ) (ok : Bool) (kind : Kind) → ok ≡ fits_loan c.tables (handle_state e) elements → ok ≡ true → kind ≡ filled_kind e.kind
-      → new ≡ with_tables c (with_kind c.tables (handle_state e) kind)
-      → (h : HandleState) → handle_in c.tables.handles node n ≡ Some h → IsFilled c h elements (record { pool = e.pool; slot = e.slot }) new
-  filled_left elements ok kind told is filled left h there =
-      subst (λ k. IsFilled c k elements (record { pool = e.pool; slot = e.slot }) new) (same_Some (handle_state e) h (found ∙ there)) (record {
-        fits = sym told ∙ is;
-        at = refl;
-        left = left ∙ ap (λ k. with_tables c (with_kind c.tables (handle_state e) k)) filled;
-      })
-
-  pub misfit_left : (elements : Option ℕ) (ok : Bool) → ok ≡ fits_loan c.tables (handle_state e) elements → ok ≡ false → new ≡ c
-      → (h : HandleState) → handle_in c.tables.handles node n ≡ Some h → IsMisfit c h elements new
-  misfit_left elements ok told is same h there =
-      subst (λ k. IsMisfit c k elements new) (same_Some (handle_state e) h (found ∙ there)) (record { fits = sym told ∙ is; left = same })
 
   pub after_keeps : (all : Bool) → IsControl c → ((h : HandleState) → handle_in c.tables.handles node n ≡ Some h → new ≡ with_tables c (with_kind c.tables h (kind_after all h.kind))) → IsControl new
   after_keeps all order left =

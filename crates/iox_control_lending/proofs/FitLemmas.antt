@@ -11,7 +11,7 @@ use Rattle.iox_tables.specs.HubStates.Tables.{HandleState}
 use Rattle.iox_tables.specs.HubStates.Wirings.{handle_in}
 use Rattle.iox_control.specs.Controls.{ControlState, IsControl, with_tables}
 use Rattle.iox_control.specs.Entries.{handle_state}
-use Rattle.iox_control.specs.Fittings.{fitted, kind_filled}
+use Rattle.iox_control.specs.Fittings.{fitted, filled_if_loan}
 use Rattle.iox_control_lending.specs.declared.asked.Place.{Place}
 use Rattle.iox_control_lending.specs.Fills.{IsFilled, IsLoan, IsMisfit, fits_loan}
 use Rattle.iox_control_lending.proofs.FillLemmas.{filled_same, kind_keeps, loan_kind}
@@ -28,7 +28,7 @@ module _ (c new : ControlState) (node n : ℕ) (loan : IsLoan c.tables node n) (
   filled_fit e told left h there =
       step (fits_loan c.tables h elements) refl (told ∙ ap (option_and_then (fitted c.tables.pools elements)) there)
     where
-      step : (b : Bool) → fits_loan c.tables h elements ≡ b → Some (handle_state e) ≡ turned h (if b then kind_filled h.kind else None)
+      step : (b : Bool) → fits_loan c.tables h elements ≡ b → Some (handle_state e) ≡ turned h (if b then filled_if_loan h.kind else None)
           → IsFilled c h elements (record { pool = e.pool; slot = e.slot }) new
       step false is said = absurd (none-some (handle_state e) (sym said))
       step true is said =
@@ -47,7 +47,7 @@ module _ (c new : ControlState) (node n : ℕ) (loan : IsLoan c.tables node n) (
   misfit_fit told left h there =
       step (fits_loan c.tables h elements) refl (told ∙ ap (option_and_then (fitted c.tables.pools elements)) there)
     where
-      step : (b : Bool) → fits_loan c.tables h elements ≡ b → None ≡ turned h (if b then kind_filled h.kind else None) → IsMisfit c h elements new
+      step : (b : Bool) → fits_loan c.tables h elements ≡ b → None ≡ turned h (if b then filled_if_loan h.kind else None) → IsMisfit c h elements new
       step true is said =
           absurd
           (none-some (record h { kind = filled_kind h.kind })

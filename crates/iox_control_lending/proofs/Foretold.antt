@@ -4,7 +4,6 @@ use Rattle.std.specs.List.{range_with_len}
 use Rattle.std.specs.Option.{option_map, option_map_or}
 use Rattle.std.proofs.Common.{sym, ap, subst, ◌∙◌, arith, eqb-true, true≢false}
 use Rattle.std.proofs.lemmas.Option.{none-some, same_Some}
-use Rattle.iox_model.specs.declared.kind.Role.{Role}
 use Rattle.iox_model.specs.declared.way.Way.{Way}
 use Rattle.iox_model.specs.Maps.{AreDistinct}
 use Rattle.iox_model.specs.Settings.{is_client, same_role}
@@ -20,7 +19,7 @@ use Rattle.iox_tables.proofs.HubBooks.Totals.{total-append}
 use Rattle.iox_tables.specs.HubLending.Emptying.{AreGotBack, returned_count, returned_on}
 use Rattle.iox_tables.proofs.HubLending.Owning.{number_is, slot_count}
 use Rattle.iox_tables.proofs.HubStates.Fixing.{first_key}
-use Rattle.iox_tables.specs.HubLoans.Lenders.{Lender, size_in, ways_by}
+use Rattle.iox_tables.specs.HubLoans.Lenders.{Lender, ways_by}
 use Rattle.iox_hub_ports.specs.declared.info.PortInfo.{PortInfo}
 use Rattle.iox_hub_ports.specs.Ports.{info_at, info_in, info_of, on_way_at}
 use Rattle.iox_hub_ports.proofs.Seats.{first_at}

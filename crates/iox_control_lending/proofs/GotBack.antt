@@ -1,9 +1,8 @@
 -- Pools as they are once lanes are emptied: each slot has as many holders as it has uses then.
 use Rattle.std.specs.Prelude.{◌≡◌, ℕ, ◌+◌, zero, suc, Bool, true, false, if◌then◌else◌, ◌==◌, List, [], ◌∷◌, map, Option, Some, None, slice_get, refl}
 use Rattle.std.specs.Option.{option_map, option_map_or}
-use Rattle.std.proofs.Common.{sym, ap, ap₂, ◌∙◌, arith}
+use Rattle.std.proofs.Common.{ap, ap₂, ◌∙◌, arith}
 use Rattle.iox_model.specs.declared.way.Way.{Way}
-use Rattle.iox_model.specs.Maps.{AreDistinctWays}
 use Rattle.iox_lanes.specs.Lanes.{LaneState}
 use Rattle.iox_tables.specs.HubStates.Tables.{HubTables, PoolState, PortState, SlotState, no_slot, slot_at}
 use Rattle.iox_tables.specs.HubStates.Ways.{lane_on, with_lanes_on}
@@ -15,7 +14,7 @@ use Rattle.iox_tables.specs.HubBooks.Hubs.{AreInOrder}
 use Rattle.iox_tables.specs.HubBooks.Keeps.{bare_pool, bare_pools, bare_slot}
 use Rattle.iox_tables.proofs.HubBooks.LaneCounts.{emptied_places}
 use Rattle.iox_tables.proofs.HubBooks.LaneLists.{lanes_total}
-use Rattle.iox_tables.specs.HubLending.Emptying.{AreGotBack, HasFewerHolders, returned_count, returned_on}
+use Rattle.iox_tables.specs.HubLending.Emptying.{AreGotBack, returned_count, returned_on}
 use Rattle.iox_tables.specs.HubLoans.Lenders.{ways_by}
 use Rattle.iox_tables.proofs.HubLending.Back.{ways_apart}
 

@@ -2,7 +2,7 @@
 use Rattle.std.specs.Prelude.{◌≡◌, ℕ, zero, suc, ◌+◌, ◌-◌, ◌<◌, ◌≤◌, ◌*◌, ◌%◌, ◌^◌, ◌&&◌, ◌||◌, ◌==◌, nat_lt, Bool, true, false, if◌then◌else◌, List, [], ◌∷◌, ◌++◌, count_by, filter, length, take, drop, Some, None, slice_get, refl}
 use Rattle.std.specs.Int.{bit_at}
 use Rattle.std.specs.Int.RustNames.{bit_or}
-use Rattle.std.specs.List.{list_any}
+use Rattle.std.specs.List.{list_all, list_any}
 use Rattle.std.proofs.Common.{sym, ap, ◌∙◌, arith, get_or, length-append, true≢false, eqb-true, eq-eqb, w64}
 use Rattle.std.proofs.lemmas.List.{drop_more, take_all, take-append-drop, take_more, drop_all}
 use Rattle.std.proofs.lemmas.List.Elements.{filter-append}
@@ -12,6 +12,7 @@ use Rattle.std.proofs.lemmas.Nat.Bits.{bit_at_set_other, bit_at_set_same}
 use Rattle.std.proofs.lemmas.Option.{none-some, same_Some, slice_get-get_or}
 use Rattle.iox_tables.specs.HubStates.Tables.{SlotState, is_free}
 use Rattle.iox_tables.specs.HubLending.Keeping.{has_holder}
+use Rattle.iox_slots.proofs.FreeListLemmas.{idle_is}
 use Rattle.iox_control_lending.specs.Tests.{held_count, is_lane_held}
 
 -- ---- one bit
@@ -48,6 +49,13 @@ free_fewer ss = let all = both_counted ss in let same = length-filter is_free ss
 
 pub held_are : (ss : List SlotState) → length ss - count_by is_free ss ≡ held_count ss
 held_are ss = let all = both_counted ss in let same = length-filter is_free ss in omega (arith, all, same)
+
+-- nobody has a slot of a pool in which all are free
+pub idle_none : (ss : List SlotState) → list_all is_free ss ≡ true → held_count ss ≡ 0
+idle_none ss e =
+    let same : count_by is_free ss ≡ length ss = eqb-true (count_by is_free ss) (length ss) (idle_is ss ∙ e) in
+    let held = held_are ss in
+    omega (arith, same, held)
 
 -- ---- a walk from the last slot to the first
 

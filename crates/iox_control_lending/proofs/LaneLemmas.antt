@@ -3,9 +3,8 @@ use Rattle.std.specs.Prelude.{◌≡◌, ℕ, zero, suc, ◌+◌, ◌<◌, ◌&&
 use Rattle.std.specs.List.{list_all, range_with_len}
 use Rattle.std.proofs.Common.{sym, ap, ◌∙◌, arith, true≢false}
 use Rattle.std.proofs.lemmas.Option.{none-some, same_Some}
-use Rattle.iox_model.specs.declared.kind.Role.{Role}
-use Rattle.iox_model.specs.declared.kind.Role.TheVariants.{Client, Server}
-use Rattle.iox_tables.specs.HubStates.Tables.{HubTables}
+use Rattle.iox_model.specs.declared.kind.Role.TheVariants.{Client}
+use Rattle.iox_tables.specs.HubStates.Tables.{HubTables, PortState}
 use Rattle.iox_tables.specs.HubBooks.Hubs.{AreInOrder}
 use Rattle.iox_tables.specs.HubLoans.Counts.{is_lane_taken}
 use Rattle.iox_tables.specs.HubLoans.Lenders.{Lender}
@@ -39,13 +38,10 @@ none_found test (x ∷ xs) e = step (test x) e (none_found test xs)
     step true at rest = rest at
     step false at rest = absurd (none-some x (sym at))
 
--- while nobody has some slot there is a lane
-pub has_lane : (t : HubTables) (n slot : ℕ) (y : Lender) → AreInOrder t → IsFreeSlot t n y.port t.pools slot → lane_by y.port.role t y ≡ None → ⊥
-has_lane t n slot y order is e = step y.port.role e
-  where
-    step : (role : Role) → lane_by role t y ≡ None → ⊥
-    step Client at = true≢false (sym (none_found (is_lane_taken t y.port.number) (range_with_len 0 y.port.size) at) ∙ free_slots_have_lanes t n slot y.port order is)
-    step Server at = none-some y.lane (sym at)
+-- while nobody has some slot of a client a lane of it is free
+pub has_lane : (t : HubTables) (n slot : ℕ) (p : PortState) → AreInOrder t → IsFreeSlot t n p t.pools slot
+    → find (λ k. not (is_lane_taken t p.number k)) (range_with_len 0 p.size) ≡ None → ⊥
+has_lane t n slot p order is e = true≢false (sym (none_found (is_lane_taken t p.number) (range_with_len 0 p.size) e) ∙ free_slots_have_lanes t n slot p order is)
 
 -- a client's lane is below its size
 pub lane_within : (t : HubTables) (y : Lender) (lane : ℕ) → lane_by y.port.role t y ≡ Some lane → y.port.role ≡ Client → lane < y.port.size

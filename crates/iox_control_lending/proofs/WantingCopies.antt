@@ -13,7 +13,7 @@ use Rattle.iox_model.specs.Doings.{Doing, Outcome, Tells, refused}
 use Rattle.iox_model.specs.Handles.{Subject, TheHandle, ThePort, subject}
 use Rattle.iox_model.specs.Loans.{Choice, Order, memory_refusal, request_loan_refusal, response_loan_refusal, unless_refused}
 use Rattle.iox_model.specs.Maps.{refused_if}
-use Rattle.iox_model.specs.Outstandings.{kept_after, is_dry}
+use Rattle.iox_model.specs.Outstandings.{kept_after}
 use Rattle.iox_model.specs.Peers.{port_at}
 use Rattle.iox_model.specs.Responses.{copies, lends, lends_request, lends_response, shape_for}
 use Rattle.iox_model.specs.Settings.{is_count}
@@ -31,7 +31,7 @@ use Rattle.iox_tables.specs.HubStates.Releases.{handle_shown}
 use Rattle.iox_tables.proofs.HubStates.Fixing.{find_port}
 use Rattle.iox_tables.proofs.HubStates.Naming.{each_handle_is_named, each_port_is_named}
 use Rattle.iox_tables.specs.HubBooks.Hubs.{AreInOrder}
-use Rattle.iox_tables.specs.HubLoans.Lenders.{IsActive, IsClient, IsLender, Lender, is_pool_to_be_dry, lender_of_request, lender_of_response, loan_refusal, shape_in}
+use Rattle.iox_tables.specs.HubLoans.Lenders.{IsActive, IsClient, Lender, is_pool_to_be_dry, lender_of_request, lender_of_response, shape_in}
 use Rattle.iox_tables.proofs.HubLoans.Copying.{copies_want_memory}
 use Rattle.iox_tables.proofs.HubLoans.Loaning.{each_choice_may_be}
 use Rattle.iox_tables.proofs.HubLending.Owning.{handles_are_on_nodes}

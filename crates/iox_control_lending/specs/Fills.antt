@@ -1,6 +1,5 @@
 -- What is written to a loan.
-use Rattle.std.specs.Prelude.{◌≡◌, ℕ, Bool, true, false, if◌then◌else◌, ◌==◌, List, Option}
-use Rattle.std.specs.Option.{option_map_or}
+use Rattle.std.specs.Prelude.{◌≡◌, ℕ, Bool, true, false, if◌then◌else◌, List, Option}
 use Rattle.iox_model.specs.declared.kind.Kind.{Kind}
 use Rattle.iox_model.specs.declared.reply.Refusal.TheVariants as refusals
 use Rattle.iox_model.specs.declared.reply.Reply.TheVariants as replies
@@ -10,10 +9,11 @@ use Rattle.iox_tables.specs.HubStates.Tables.{HandleState, HubTables}
 use Rattle.iox_tables.specs.HubStates.States.{Given}
 use Rattle.iox_tables.specs.HubStates.Wirings.{IsHandle}
 use Rattle.iox_tables.specs.HubBooks.Handles.{is_loan}
-use Rattle.iox_tables.specs.HubLoans.Fillings.{elements_of, written_contents}
+use Rattle.iox_tables.specs.HubLoans.Fillings.{written_contents}
 use Rattle.iox_tables.specs.HubLoans.Slots.{with_contents}
 use Rattle.iox_tables.specs.HubLending.Filling.{with_kind}
 use Rattle.iox_control.specs.Controls.{ControlState, with_tables}
+use Rattle.iox_control.specs.Fittings.{has_elements}
 use Rattle.iox_control_lending.specs.declared.asked.Place.{Place}
 use Rattle.iox_control_lending.specs.declared.asked.Written.{Written}
 use Rattle.iox_control_lending.specs.declared.asked.Written.TheVariants.{Done, WrongLength}
@@ -34,7 +34,7 @@ kind_after all kind = if all then filled_kind kind else kind
 
 -- the payload has as many whole elements as the handle's message
 abbrev pub fits_loan : HubTables → HandleState → Option ℕ → Bool
-fits_loan t h elements = option_map_or (λ k. k == elements_of t h) elements false
+fits_loan t h elements = has_elements t.pools h.pool h.slot elements
 
 -- what a write answers
 abbrev pub reply_of_write : Written → Reply

@@ -1,5 +1,5 @@
 -- What is asked of a loan, and what a loan leaves.
-use Rattle.std.specs.Prelude.{◌≡◌, ℕ, ◌-◌, ◌<◌, true, not, if◌then◌else◌, List, [], Option, Some, None, find}
+use Rattle.std.specs.Prelude.{◌≡◌, ℕ, ◌-◌, ◌<◌, Bool, true, not, if◌then◌else◌, List, [], Option, Some, None, find}
 use Rattle.std.specs.List.{list_all, range_with_len}
 use Rattle.iox_model.specs.declared.kind.Role.{Role}
 use Rattle.iox_model.specs.declared.kind.Role.TheVariants.{Client, Server}
@@ -8,14 +8,14 @@ use Rattle.iox_model.specs.declared.reply.Reply.TheVariants as replies
 use Rattle.iox_model.specs.Commands.{Refusal, Reply}
 use Rattle.iox_model.specs.Settings.{Shape, has_layout, is_count}
 use Rattle.iox_model.specs.WholeCalls.{default_payload}
-use Rattle.iox_tables.specs.HubStates.Tables.{HubTables, PoolState, PortState, SlotState, port_in, slot_at, slots_of}
+use Rattle.iox_tables.specs.HubStates.Tables.{HubTables, PoolState, PortState, port_in, slot_at, slots_of}
 use Rattle.iox_tables.specs.HubStates.States.{Given}
 use Rattle.iox_hub_ports.specs.Ports.{info_of}
-use Rattle.iox_slots.specs.Pools.{with_slot}
-use Rattle.iox_slots.specs.Slots.{written}
+use Rattle.iox_slots.specs.Pools.{Takes}
+use Rattle.iox_slots.specs.Slots.{taken}
 use Rattle.iox_tables.specs.HubLoans.Counts.{is_lane_taken}
 use Rattle.iox_tables.specs.HubLoans.Lenders.{Lender, loan_refusal, shape_in}
-use Rattle.iox_tables.specs.HubLoans.Loans.{loaned_handle, with_handed_out, with_loaned}
+use Rattle.iox_tables.specs.HubLoans.Loans.{loaned_handle, loaned_slot, with_handed_out, with_loaned}
 use Rattle.iox_tables.specs.HubLoans.Slots.{SlotContents, with_contents}
 use Rattle.iox_tables.specs.HubLending.Choosing.{IsFreeSlot}
 use Rattle.iox_tables.specs.HubLending.Emptying.{AreGotBack, with_back}
@@ -98,16 +98,30 @@ pub record IsPortOf (t : HubTables) (l : Lending) : Type 0 where
 
 -- ---- what a loan leaves
 
--- the loan is written to that slot, whoever has it, and handed out
-abbrev pub with_written_out : ControlState → Lender → Asked → ℕ → ControlState
-with_written_out c y a slot =
-    let f : SlotState → SlotState = written y.port.loans y.lane y.request a.elements in
+-- the loan in that slot is handed out
+abbrev pub with_handed : ControlState → Lender → Bool → ℕ → ControlState
+with_handed c y uninit slot =
     record c {
-      tables = with_handed_out
-          (record (c.tables) { pools = with_slot f c.tables.pools y.port.pool slot })
-          (loaned_handle c.tables y a.uninit slot);
+      tables = with_handed_out c.tables (loaned_handle c.tables y uninit slot);
       room = c.room - 1;
     }
+
+-- A slot that nobody had has a request, on the lowest lane of the client that is free.
+pub record IsOnLowest
+    (t : HubTables) (client size pool slot serial request elements : ℕ)
+    (pools : List (Option PoolState)) : Type 0 where
+  pub lane : ℕ
+  pub chosen :
+      find (λ k. not (is_lane_taken t client k)) (range_with_len 0 size) ≡ Some lane
+  pub takes : Takes t.pools pool slot (taken serial lane request elements) pools
+
+-- A slot that nobody had has the message of the loan.
+pub record IsTaken
+    (t : HubTables) (y : Lender) (elements slot : ℕ) (pools : List (Option PoolState)) : Type 0
+  where
+    pub lane : ℕ
+    pub chosen : lane_by y.port.role t y ≡ Some lane
+    pub takes : Takes t.pools y.port.pool slot (loaned_slot (on_lane y lane) elements) pools
 
 -- The loan is made in a slot that nobody had.
 pub record LoanIsMade (c : ControlState) (y : Lender) (a : Asked) (l : Loaned) (new : ControlState)

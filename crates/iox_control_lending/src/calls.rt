@@ -8,6 +8,7 @@ ghost use Rattle.iox_tables.specs.HubLoans.Lenders.{IsActive, IsClient, lender_o
 ghost use Rattle.iox_tables.specs.HubLoans.Loans.{loan_call};
 ghost use Rattle.iox_hub_ports.specs.Ports.{info_in};
 ghost use Rattle.iox_control.specs.Controls.{IsControl};
+ghost use Rattle.iox_control.specs.Entries.{handle_state};
 ghost use Rattle.iox_control_lending.specs.Lends.{IsAskedOf, IsPortOf, Lends, given_after, lender_of, reply_of_loan};
 
 use crate::asked::{Asked, Lending, Lent};
@@ -15,18 +16,17 @@ use crate::lend::lend_free;
 use crate::refusals::loan_refusal;
 use iox_control::Control;
 use iox_control_retrieving::retrieve_all_of;
+use iox_handles::Entry;
 use iox_hub_ports::info::PortInfo;
 use iox_model::kind::Role;
 
-/// The port of that number, if there is one: it has that role. Where the role is said here, all
-/// that is inlined knows it.
+/// The same of a port: it has that role. Where the role is said here, all that is inlined knows it.
 #[inline(always)]
-fn port_as(control: &Control, number: u64, role: Role) -> Option<PortInfo>
-    requires { (p : PortState) → port_in control.now.tables.ports number ≡ Some p → p.role ≡ role }
-    ensures { result ≡ info_in control.now.tables.ports number }
+fn known_as(port: PortInfo, role: Role) -> PortInfo
+    requires { port.role ≡ role }
+    ensures { result ≡ port }
 {
-    let port = control.ports().find(number)?;
-    Some(PortInfo { role, ..port })
+    PortInfo { role, ..port }
 }
 
 /// Lends for that lender.
@@ -49,10 +49,40 @@ fn lend(control: &mut Control, lender: &Lending, asked: Asked) -> Lent
     }
 }
 
-/// Lends a request of that client, on its lowest lane that is free. All that servers gave back to
-/// the client is got back first.
+/// Lends a request of that client, of which this is said, on its lowest lane that is free. All that
+/// servers gave back to the client is got back first.
 ///
 /// The new loan holds no elements or the default of each.
+#[inline(always)]
+pub fn lend_request_of(
+    control: &mut Control,
+    node: u64,
+    client: u64,
+    port: PortInfo,
+    asked: Asked,
+) -> Lent
+    requires client { IsClient control.old.tables node client }
+    requires said { Some port ≡ info_in control.old.tables.ports client }
+    requires order { IsControl control.old }
+    ensures left { (p : PortState) → port_in control.old.tables.ports client ≡ Some p
+        → Lends control.old (lender_of_request p 0) asked result control.new }
+    ensures order { IsControl control.new }
+    ensures whole { (x : Given) → IsAskedOf x.request asked
+        → IsWholeCall (state_shown x control.old.tables) node
+        (loan_call asked.uninit client asked.elements) (reply_of_loan result)
+        (state_shown (given_after x x.request asked result) control.new.tables) }
+{
+    let port = known_as(port, Role::Client);
+    let lender = Lending {
+        port,
+        client: port.number,
+        lane: 0,
+        request: port.loans % (1 << 62),
+    };
+    lend(control, &lender, asked)
+}
+
+/// Lends a request of that client.
 #[inline(always)]
 pub fn lend_request(control: &mut Control, node: u64, client: u64, asked: Asked) -> Lent
     requires client { IsClient control.old.tables node client }
@@ -65,29 +95,26 @@ pub fn lend_request(control: &mut Control, node: u64, client: u64, asked: Asked)
         (loan_call asked.uninit client asked.elements) (reply_of_loan result)
         (state_shown (given_after x x.request asked result) control.new.tables) }
 {
-    let Some(port) = port_as(control, client, Role::Client) else {
+    let Some(port) = control.ports().find(client) else {
         unreachable!();
     };
-    let lender = Lending {
-        port,
-        client: port.number,
-        lane: 0,
-        request: port.loans % (1 << 62),
-    };
-    lend(control, &lender, asked)
+    lend_request_of(control, node, client, port, asked)
 }
 
-/// Lends a response to that active request, whose handle is looked for at the hint first. All that
-/// clients gave back to the server is got back first.
+/// Lends a response to that active request, of whose handle and of whose port this is said. All
+/// that clients gave back to the server is got back first.
 #[inline(always)]
-pub fn lend_response(
+pub fn lend_response_of(
     control: &mut Control,
     node: u64,
     number: u64,
-    hint: usize,
+    entry: Entry,
+    port: PortInfo,
     asked: Asked,
 ) -> Lent
     requires active { IsActive control.old.tables node number }
+    requires entry { Some (handle_state entry) ≡ handle_in control.old.tables.handles node number }
+    requires said { Some port ≡ info_in control.old.tables.ports entry.port }
     requires order { IsControl control.old }
     ensures left { (h : HandleState) (p : PortState)
         → handle_in control.old.tables.handles node number ≡ Some h
@@ -99,12 +126,7 @@ pub fn lend_response(
         (loan_call asked.uninit number asked.elements) (reply_of_loan result)
         (state_shown (given_after x x.response asked result) control.new.tables) }
 {
-    let Some(entry) = control.entry(node, number, hint) else {
-        unreachable!();
-    };
-    let Some(port) = port_as(control, entry.port, Role::Server) else {
-        unreachable!();
-    };
+    let port = known_as(port, Role::Server);
     let label = control.label(entry.pool, entry.slot);
     let lender = Lending {
         port,

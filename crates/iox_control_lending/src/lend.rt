@@ -9,10 +9,10 @@ ghost use Rattle.iox_tables.specs.HubLoans.Loans.{loaned_handle};
 ghost use Rattle.iox_tables.specs.HubLending.Keeping.{has_holder};
 ghost use Rattle.iox_control.specs.Controls.{IsControl};
 ghost use Rattle.iox_control.specs.Entries.{handle_state};
-ghost use Rattle.iox_control_lending.specs.Lends.{LoanIsMade, IsPortOf, lane_by, lender_of, on_lane, with_written_out};
+ghost use Rattle.iox_control_lending.specs.Lends.{LoanIsMade, IsPortOf, lender_of, with_handed};
 
 use crate::asked::{Asked, Lending, Loaned};
-use crate::lowest::lowest_lane;
+use crate::taking::take;
 use iox_control::Control;
 use iox_handles::Entry;
 use iox_model::kind::{Kind, Role};
@@ -57,47 +57,19 @@ fn loan_entry(control: &Control, lender: &Lending, uninit: bool, slot: u64) -> E
     }
 }
 
-/// The lane of a loan: of a client the lowest that is free, if there is one.
+/// The loan in that slot is handed out; it answers the number of its handle.
 #[inline(always)]
-fn lane_for(control: &Control, lender: &Lending) -> Option<u64>
-    requires port { IsPortOf control.now.tables lender.now }
-    requires order { IsControl control.now }
-    ensures { (p : PortState) → lender.now.port ≡ info_of p
-        → result ≡ lane_by p.role control.now.tables (lender_of p lender.now) }
-{
-    match lender.port.role {
-        Role::Client => lowest_lane(
-            control,
-            lender.port.number,
-            lender.port.pool,
-            lender.port.size,
-        ),
-        Role::Server => Some(lender.lane),
-    }
-}
-
-/// The loan is written to that slot, on that lane, and handed out; it answers the number of its
-/// handle.
-#[inline(always)]
-fn hand_out(control: &mut Control, lender: &Lending, lane: u64, asked: Asked, slot: u64) -> u64
+fn hand_out(control: &mut Control, lender: &Lending, uninit: bool, slot: u64) -> u64
     requires room { 0 < control.old.room }
     requires number { control.old.tables.next_number + 1 < 2 ^ 64 }
     requires calls { control.old.tables.calls + 1 < 2 ^ 64 }
     requires loans { option_map_or (λ p. p.loans)
         (port_in control.old.tables.ports lender.now.port.number) 0 < 2 ^ 64 - 1 }
     ensures number { result ≡ control.old.tables.next_number }
-    ensures left { (p : PortState) → lender.now.port ≡ info_of p → control.new
-        ≡ with_written_out control.old (on_lane (lender_of p lender.now) lane) asked slot }
+    ensures left { (p : PortState) → lender.now.port ≡ info_of p
+        → control.new ≡ with_handed control.old (lender_of p lender.now) uninit slot }
 {
-    let entry = loan_entry(control, lender, asked.uninit, slot);
-    control.write_slot(
-        lender.port.pool,
-        slot,
-        lender.port.loans,
-        lane,
-        lender.request,
-        asked.elements,
-    );
+    let entry = loan_entry(control, lender, uninit, slot);
     control.count_loan(lender.port.number);
     control.add_handle(entry);
     control.count_call();
@@ -118,14 +90,10 @@ pub(crate) fn lend_free(control: &mut Control, lender: &Lending, asked: Asked) -
         → port_in control.old.tables.ports lender.now.port.number ≡ Some p
         → LoanIsMade control.old (lender_of p lender.now) asked l control.new) }
 {
-    let lane = lane_for(control, lender);
-    let Some(slot) = control.acquire(lender.port.pool) else {
+    let Some(slot) = take(control, lender, asked.elements) else {
         return None;
     };
-    let Some(lane) = lane else {
-        unreachable!();
-    };
-    let number = hand_out(control, lender, lane, asked, slot);
+    let number = hand_out(control, lender, asked.uninit, slot);
     Some(Loaned {
         number,
         pool: lender.port.pool,

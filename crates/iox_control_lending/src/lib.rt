@@ -9,11 +9,12 @@ mod lanes;
 mod lend;
 mod lowest;
 mod refusals;
+mod taking;
 pub mod uses;
 mod writes;
 
 pub use asked::{Asked, Lending, Lent, LoanRefusal, Loaned, Place, Written};
-pub use calls::{lend_request, lend_response};
+pub use calls::{lend_request, lend_request_of, lend_response_of};
 pub use counts::{pendings_of, requests_on_loan, responses_on_loan, responses_to};
 pub use foretelling::{request_may_be_made, response_may_be_made};
 pub use lanes::{free_lane, is_lane_taken};

@@ -16,10 +16,16 @@ use iox_control::Control;
 use iox_hub_ports::info::PortInfo;
 use iox_model::kind::Role;
 
-/// Whether so many are as many as the product, or more.
+/// Whether so many are as many as the product, or more. Where they are fewer than its first factor,
+/// nothing is multiplied.
+#[tactic(auto, using(crate::proofs::CountLemmas::fewer_than_all))]
+#[inline(always)]
 fn reaches(many: u64, a: u64, b: u64, c: u64) -> bool
     ensures { result ≡ nat_le (a * b * c) many }
 {
+    if many < a && b > 0 && c > 0 {
+        return false;
+    }
     if c == 0 {
         return true;
     }

@@ -14,3 +14,5 @@ pub mod Sweeping
 pub mod Loans
 pub mod Removing
 pub mod StillThere
+pub mod Upped
+pub mod HeldStays

@@ -1,26 +1,21 @@
 -- A port that is taken out of ports that are in order.
-use Rattle.std.specs.Prelude.{◌≡◌, ℕ, ◌+◌, Bool, true, false, ◌||◌, if◌then◌else◌, ◌==◌, List, [], ◌∷◌, ◌++◌, map, filter, Option, Some, None, is_some, refl}
+use Rattle.std.specs.Prelude.{◌≡◌, ℕ, ◌+◌, Bool, true, false, if◌then◌else◌, ◌==◌, List, [], ◌∷◌, map, Option, Some, None, refl}
 use Rattle.std.specs.List.{sum_by}
 use Rattle.std.specs.Option.{option_map_or}
-use Rattle.std.proofs.Common.{sym, ap, ap₂, subst, ◌∙◌, arith, true≢false, eqb-true}
-use Rattle.std.proofs.lemmas.Bool.{or_left, or_parts, or_right}
-use Rattle.std.proofs.lemmas.Option.{none-some, same_Some}
-use Rattle.iox_model.specs.declared.kind.Role.{Role}
-use Rattle.iox_model.specs.declared.kind.Role.TheVariants.{Client, Server}
+use Rattle.std.proofs.Common.{sym, ap, ap₂, subst, ◌∙◌, eqb-true}
+use Rattle.std.proofs.lemmas.Bool.{or_parts}
+use Rattle.std.proofs.lemmas.Option.{none-some}
 use Rattle.iox_model.specs.Maps.{AreDistinct, has_number}
-use Rattle.iox_model.specs.Settings.{other_role, same_role}
 use Rattle.iox_laws.proofs.WeaveLaws.MapLemmas.{eqb-refl}
 use Rattle.iox_lanes.specs.Lanes.{LaneState}
 use Rattle.iox_lanes.specs.Pipes.{PipeState}
-use Rattle.iox_tables.specs.HubStates.Tables.{HubTables, PortState, numbers_of, pipe_from, port_in, senders_of}
-use Rattle.iox_tables.specs.HubStates.Wirings.{numbers_of_role}
+use Rattle.iox_tables.specs.HubStates.Tables.{HubTables, PortState, pipe_from, port_in}
 use Rattle.iox_tables.proofs.HubStates.Fixing.{first_key}
 use Rattle.iox_hub_ports.specs.Ports.{without_port}
 use Rattle.iox_tables.specs.HubBooks.Counts.{OfAll, in_pipe, in_port, total}
 use Rattle.iox_tables.specs.HubBooks.Hubs.{AreInOrder}
 use Rattle.iox_tables.specs.HubMaking.Disconnections.{with_disconnected}
 use Rattle.iox_tables.specs.HubMaking.LaneSums.{sum_in_pipe, sum_in_port, sum_that_goes}
-use Rattle.iox_tables.proofs.HubMaking.Firsts.{has_first}
 use Rattle.iox_tables.proofs.HubMaking.Removing.{ports_go_one_by_one}
 use Rattle.iox_tables.proofs.HubKeeping.Ordered.{are_connected, names_apart, total_sum}
 use Rattle.iox_control.specs.Controls.{ControlState}

@@ -28,7 +28,7 @@ commutes kinds.ResponseMutUninit t h node n = refl
 commutes kinds.ResponseMut t h node n = refl
 
 -- and changes no slot
-same_pools : (k : Kind) (t : HubTables) (h : HandleState) → (given_up_as k t h).pools ≡ t.pools
+pub same_pools : (k : Kind) (t : HubTables) (h : HandleState) → (given_up_as k t h).pools ≡ t.pools
 same_pools kinds.PendingResponse t h = refl
 same_pools kinds.ActiveRequest t h = refl
 same_pools kinds.Response t h = refl

@@ -1,15 +1,11 @@
 -- The first of a number goes.
-use Rattle.std.specs.Prelude.{◌≡◌, ℕ, zero, suc, ◌+◌, Bool, true, false, ◌||◌, if◌then◌else◌, ◌==◌, List, [], ◌∷◌, drop, Some, None, slice_get, refl}
+use Rattle.std.specs.Prelude.{◌≡◌, ℕ, zero, suc, ◌+◌, Bool, true, false, if◌then◌else◌, ◌==◌, List, [], ◌∷◌, drop, Some, slice_get, refl}
 use Rattle.std.specs.Option.{option_map_or}
-use Rattle.std.proofs.Common.{sym, ap, subst, ◌∙◌, arith, true≢false, eqb-true}
+use Rattle.std.proofs.Common.{ap, arith}
 use Rattle.std.proofs.lemmas.Option.{none-some, same_Some}
-use Rattle.iox_model.specs.Maps.{AreDistinct, has_number}
-use Rattle.iox_lanes.specs.Pipes.{PipeState}
 use Rattle.iox_tables.specs.HubStates.Tables.{first_by}
-use Rattle.iox_tables.proofs.HubStates.Keys.{flip}
 use Rattle.iox_tables.specs.HubBooks.Counts.{total}
 use Rattle.iox_tables.specs.HubMaking.OneByOne.{without_first_by}
-use Rattle.std.proofs.lemmas.Bool.{or_parts}
 
 -- ---- lists
 

@@ -1,8 +1,7 @@
 -- Where nothing may be gone after a handle ended, its pool and that of its port are there.
-use Rattle.std.specs.Prelude.{◌≡◌, ℕ, true, [], Option, Some, None, is_some, option_map, slice_get, refl}
+use Rattle.std.specs.Prelude.{◌≡◌, ℕ, true, [], Option, Some, None, is_some, slice_get, refl}
 use Rattle.std.specs.Option.{option_map_or}
 use Rattle.std.proofs.Common.{sym, ap, subst, ◌∙◌, arith}
-use Rattle.std.proofs.lemmas.Option.{none-some}
 use Rattle.iox_tables.specs.HubStates.Tables.{HandleState, HubTables, PoolState, PortState, SlotState, no_slot, pool_at, port_in, slot_at}
 use Rattle.iox_tables.specs.HubStates.Wirings.{handle_in}
 use Rattle.iox_tables.specs.HubBooks.Hubs.{AreInOrder, IsUsed}
@@ -16,11 +15,6 @@ use Rattle.iox_slots.proofs.BareLemmas.{let_go_bare}
 use Rattle.iox_control_releasing.specs.Endings.{with_ended}
 use Rattle.iox_control_releasing.specs.Goings.{ArePoolsThere}
 use Rattle.iox_control_releasing.proofs.Tidy.{up_alike}
-
--- what was removed was there
-pub was_removed : {A B : Type 0} (f : A → B) (r : Option A) (b : B) → option_map f r ≡ Some b → is_some r ≡ true
-was_removed f (Some a) b e = refl
-was_removed f None b e = absurd (none-some b e)
 
 -- a pool of which somebody has a message is there
 used_there : (t : HubTables) (place k : ℕ) → IsUsed t place k → (p : PoolState) × (pool_at t.pools place ≡ Some p)

@@ -6,7 +6,7 @@ use Rattle.std.proofs.lemmas.Option.{none-some, same_Some}
 use Rattle.iox_model.specs.Maps.{AreDistinct, has_number}
 use Rattle.iox_lanes.specs.Lanes.{LaneState}
 use Rattle.iox_lanes.specs.Pipes.{PipeState}
-use Rattle.iox_tables.specs.HubStates.Tables.{PortState, numbers_of, pipe_from, port_in, senders_of}
+use Rattle.iox_tables.specs.HubStates.Tables.{PortState, numbers_of, port_in}
 use Rattle.iox_tables.specs.HubStates.Ways.{with_port}
 use Rattle.iox_tables.proofs.HubStates.Keys.{flip}
 use Rattle.iox_hub_ports.proofs.Walking.{Walks, begins, ends, set_size, turns}

@@ -1,34 +1,37 @@
 //! The release of a handle.
-ghost use Rattle.std.specs.Prelude.{◌≡◌, ◌+◌, IfSome, None, Some};
+ghost use Rattle.std.specs.Prelude.{◌≡◌, IfSome, None, Some, false, option_map, true};
+ghost use Rattle.std.specs.Option.{option_and_then, option_map_or};
 ghost use Rattle.iox_tables.specs.HubStates.States.{Given, state_shown};
-ghost use Rattle.iox_tables.specs.HubStates.Tables.{HandleState, PortState, port_in};
+ghost use Rattle.iox_tables.specs.HubStates.Tables.{PortState, labels_of, owner_of, port_in};
 ghost use Rattle.iox_tables.specs.HubStates.Wirings.{handle_in};
 ghost use Rattle.iox_tables.specs.HubMaking.Disconnections.{with_released};
 ghost use Rattle.iox_model.specs.WholeCalls.{IsWholeCall};
 ghost use Rattle.iox_model.specs.declared.call.Call.TheVariants.{Release};
 ghost use Rattle.iox_model.specs.declared.reply.Reply.TheVariants.{Done};
-ghost use Rattle.iox_slots.specs.Pools.{with_slot};
+ghost use Rattle.iox_slots.specs.Pools.{is_idle, with_slot};
 ghost use Rattle.iox_slots.specs.Slots.{let_go};
-ghost use Rattle.iox_control.specs.Controls.{IsControl, with_tables};
+ghost use Rattle.iox_control.specs.Controls.{IsControl, with_pools, with_tables};
 ghost use Rattle.iox_control.specs.Entries.{handle_state};
-ghost use Rattle.iox_control_releasing.specs.Endings.{given_up_as, with_ended};
+ghost use Rattle.iox_control.specs.Removals.{if_still};
+ghost use Rattle.iox_control_releasing.specs.Endings.{given_up_as, given_up_with, with_ended};
 ghost use Rattle.iox_control_releasing.specs.Goings.{ArePoolsThere, KeptPools, NoLeftPool, StaysTidy};
-ghost use Rattle.iox_control_releasing.specs.Named.{IsNamed};
 
+use crate::ending::Ending;
 use crate::leaving::leave;
+use crate::unused::may_go;
 use iox_control::Control;
 use iox_handles::Entry;
+use iox_lanes::wanted::Label;
 use iox_model::kind::Kind;
 use iox_model::way::Way;
 
-/// Gives a received message back, and closes a request whose pending response or active request it
-/// was.
+/// Gives a received message of that label and owner back, and closes a request whose pending
+/// response or active request it was.
 #[inline(always)]
-fn give_up(control: &mut Control, entry: Entry)
+fn give_up(control: &mut Control, entry: Entry, label: Label, owner: u64)
     ensures { control.new ≡ with_tables control.old
-        (given_up_as entry.kind control.old.tables (handle_state entry)) }
+        (given_up_with entry.kind control.old.tables (handle_state entry) label owner) }
 {
-    let label = control.label(entry.pool, entry.slot);
     match entry.kind {
         Kind::PendingResponse => control.close_all(entry.port, label.lane, label.request),
         Kind::ActiveRequest => {
@@ -47,7 +50,7 @@ fn give_up(control: &mut Control, entry: Entry)
         }
         Kind::Response => {
             let way = Way {
-                sender: control.pools().owner(entry.pool),
+                sender: owner,
                 receiver: entry.port,
                 lane: label.lane,
             };
@@ -62,54 +65,58 @@ fn give_up(control: &mut Control, entry: Entry)
     }
 }
 
-/// Ends this handle of the node, which is looked for by its number, at the hint first: nobody has
-/// it or its message by it, and its port stays.
+/// Ends a handle that was removed: nobody has its message by it, and its port stays. It says
+/// whether something may go: the port's own value is not there, or nobody has a message of the pool.
 #[inline(always)]
-fn end_handle(control: &mut Control, node: u64, number: u64, entry: Entry, hint: usize)
-    requires there { Some (handle_state entry)
-        ≡ handle_in control.old.tables.handles node number }
-    ensures left { control.new.tables
-        ≡ record (with_ended control.old.tables (handle_state entry)) {
-          pools = with_slot let_go control.old.tables.pools entry.pool entry.slot;
-        } }
-    ensures room { control.new.room ≡ control.old.room + 1 }
+fn end_removed(control: &mut Control, entry: Entry) -> bool
+    ensures left { control.new ≡ with_pools (with_tables control.old
+        (given_up_as entry.kind control.old.tables (handle_state entry)))
+        (with_slot let_go control.old.tables.pools entry.pool entry.slot) }
+    ensures busy { result ≡ false → is_idle control.new.tables.pools entry.pool ≡ false }
+    ensures held { result ≡ false → option_map_or (λ p. p.held)
+        (port_in control.old.tables.ports entry.port) false ≡ true }
 {
-    control.remove_handle(node, number, hint);
-    give_up(control, entry);
-    control.let_go(entry.pool, entry.slot);
+    let left = control.leave_slot(entry.pool, entry.slot);
+    let goes = may_go(control.ports(), entry.port, left.idle);
+    give_up(control, entry, left.label, left.owner);
+    goes
 }
 
-/// Releases this handle of the node, which is looked for by its number, at the hint first. Its port
-/// goes if nothing of it is left, and its message's pool if its port is gone and nobody has a
-/// message of it. Where a pool may be gone, it tells the place of the port's pool.
+/// Releases the node's handle of that number, if it is of that kind, or a loan that was filled
+/// meanwhile. It is looked for once, at the hint first. Its port goes if nothing of it is left, and
+/// its message's pool if its port is gone and nobody has a message of it.
 #[inline(always)]
 pub fn release(
     control: &mut Control,
     node: u64,
     number: u64,
-    entry: Entry,
+    kind: Kind,
     hint: usize,
-) -> Option<usize>
-    requires named { IsNamed control.old.tables node number }
-    requires there { Some (handle_state entry)
-        ≡ handle_in control.old.tables.handles node number }
+) -> Option<Ending>
     requires order { IsControl control.old }
-    ensures port { (p : PortState) → port_in control.old.tables.ports entry.port ≡ Some p
-        → IfSome result (λ place. place ≡ p.pool) }
-    ensures stay { result ≡ None → ArePoolsThere control.old.tables.ports
-        control.new.tables.pools (handle_state entry) }
-    ensures left { (h : HandleState) → handle_in control.old.tables.handles node number ≡ Some h
-        → control.new.tables ≡ record (with_released (with_ended control.old.tables h) h.port) {
+    ensures told { option_map (λ r. handle_state r.entry) result
+        ≡ option_and_then (if_still kind) (handle_in control.old.tables.handles node number) }
+    ensures unchanged { result ≡ None → control.new ≡ control.old }
+    ensures port { IfSome result (λ r. (p : PortState)
+        → port_in control.old.tables.ports r.entry.port ≡ Some p
+        → IfSome r.place (λ place. place ≡ p.pool)) }
+    ensures stay { IfSome result (λ r. r.place ≡ None → ArePoolsThere control.old.tables.ports
+        control.new.tables.pools (handle_state r.entry)) }
+    ensures left { IfSome result (λ r. control.new.tables
+        ≡ record (with_released (with_ended control.old.tables (handle_state r.entry)) r.entry.port) {
           pools = control.new.tables.pools;
-        } }
+        }) }
     ensures order { IsControl control.new }
-    ensures pools { KeptPools control.old.tables.pools control.new.tables.pools }
-    ensures gone { (h : HandleState) → handle_in control.old.tables.handles node number ≡ Some h
-        → NoLeftPool control.new.tables h.pool }
+    ensures pools { IfSome result (λ r.
+        KeptPools control.old.tables.pools control.new.tables.pools) }
+    ensures gone { IfSome result (λ r. NoLeftPool control.new.tables r.entry.pool) }
     ensures tidy { StaysTidy control.old.tables control.new.tables }
-    ensures whole { (x : Given) → IsWholeCall (state_shown x control.old.tables) node
-        (Release number) Done (state_shown x control.new.tables) }
+    ensures whole { IfSome result (λ r. (x : Given)
+        → IsWholeCall (state_shown x control.old.tables) node (Release number) Done
+        (state_shown x control.new.tables)) }
 {
-    end_handle(control, node, number, entry, hint);
-    leave(control, entry.port, entry.pool)
+    let entry = control.remove_still(node, number, kind, hint)?;
+    let goes = end_removed(control, entry);
+    let place = leave(control, entry.port, entry.pool, goes);
+    Some(Ending { entry, place })
 }

@@ -1,14 +1,14 @@
 //! What goes where a handle ended: its port, of which nothing is left, and pools.
-ghost use Rattle.std.specs.Prelude.{◌≡◌, IfSome, None, Some};
+ghost use Rattle.std.specs.Prelude.{◌≡◌, IfSome, None, Some, false};
 ghost use Rattle.std.specs.Option.{option_map_or};
 ghost use Rattle.iox_tables.specs.HubStates.States.{Given, state_shown};
 ghost use Rattle.iox_tables.specs.HubStates.Tables.{PortState, port_in};
-ghost use Rattle.iox_tables.specs.HubMaking.Disconnections.{with_released};
+ghost use Rattle.iox_tables.specs.HubMaking.Disconnections.{is_unused, with_released};
+ghost use Rattle.iox_slots.specs.Pools.{is_idle};
 ghost use Rattle.iox_control.specs.Controls.{IsControl};
 ghost use Rattle.iox_control_releasing.specs.Goings.{KeptPools, NoLeftPool, StaysTidy};
 
 use crate::disconnect::{disconnect_if_unused, drop_pool};
-use crate::unused::is_unused;
 use iox_control::Control;
 use iox_hub_ports::ports::Ports;
 
@@ -47,10 +47,13 @@ fn let_both_go(control: &mut Control, port: u64, place: usize) -> usize
 }
 
 /// The port goes if nothing of it is left, and then the pool in that place, if its port is gone and
-/// nobody has a message of it. Where something may be gone, it tells the place of the port's pool.
+/// nobody has a message of it. Where it is said that something may go, it tells the place of the
+/// port's pool.
 #[inline(always)]
-pub fn leave(control: &mut Control, port: u64, place: usize) -> Option<usize>
+pub fn leave(control: &mut Control, port: u64, place: usize, goes: bool) -> Option<usize>
     requires order { IsControl control.old }
+    requires busy { goes ≡ false → is_idle control.old.tables.pools place ≡ false }
+    requires used { goes ≡ false → is_unused control.old.tables port ≡ false }
     ensures port { (p : PortState) → port_in control.old.tables.ports port ≡ Some p
         → IfSome result (λ pool. pool ≡ p.pool) }
     ensures unchanged { result ≡ None → control.new ≡ control.old }
@@ -63,10 +66,7 @@ pub fn leave(control: &mut Control, port: u64, place: usize) -> Option<usize>
     ensures gone { NoLeftPool control.new.tables place }
     ensures tidy { StaysTidy control.old.tables control.new.tables }
 {
-    if control.pools().is_idle(place) {
-        return Some(let_both_go(control, port, place));
-    }
-    if is_unused(control, port) {
+    if goes {
         return Some(let_both_go(control, port, place));
     }
     None

@@ -3,6 +3,7 @@
 
 mod cutting;
 mod disconnect;
+mod ending;
 mod handle;
 mod leaving;
 mod letting_go;
@@ -11,5 +12,6 @@ mod unused;
 pub mod uses;
 
 pub use disconnect::{disconnect_if_unused, drop_pool};
+pub use ending::Ending;
 pub use handle::release;
 pub use port_value::release_port;

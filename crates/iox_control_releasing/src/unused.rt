@@ -1,9 +1,37 @@
 //! Whether anything of a port is left.
-ghost use Rattle.std.specs.Prelude.{◌≡◌};
+ghost use Rattle.std.specs.Option.{option_map_or};
+ghost use Rattle.std.specs.Prelude.{◌≡◌, false, true};
+ghost use Rattle.iox_tables.specs.HubStates.Tables.{port_in};
 ghost use Rattle.iox_tables.specs.HubMaking.Disconnections.{is_unused};
 ghost use Rattle.iox_control.specs.Controls.{IsControl};
 
 use iox_control::Control;
+use iox_hub_ports::ports::Ports;
+
+/// Whether the port's own value is there.
+#[inline(always)]
+fn is_held(ports: &Ports, port: u64) -> bool
+    ensures { result ≡ option_map_or (λ p. p.held) (port_in ports.now.ports port) false }
+{
+    match ports.find(port) {
+        Some(info) => info.held,
+        None => false,
+    }
+}
+
+/// Whether something may go after a handle of that port ended: nobody has a message of the pool, as
+/// it is said, or the port's own value is not there.
+#[inline(always)]
+pub fn may_go(ports: &Ports, port: u64, idle: bool) -> bool
+    ensures idle { result ≡ false → idle ≡ false }
+    ensures held { result ≡ false
+        → option_map_or (λ p. p.held) (port_in ports.now.ports port) false ≡ true }
+{
+    if idle {
+        return true;
+    }
+    !is_held(ports, port)
+}
 
 /// Whether the port's own value and all its handles are released.
 #[inline(always)]

@@ -1,28 +1,30 @@
 //! Callers of releases, proved only from the clauses.
-ghost use Rattle.std.specs.Prelude.{◌≡◌};
 ghost use Rattle.iox_tables.specs.HubStates.States.{Given, state_shown};
 ghost use Rattle.iox_model.specs.WholeCalls.{IsWholeCall};
 ghost use Rattle.iox_model.specs.declared.call.Call.TheVariants.{Release};
 ghost use Rattle.iox_model.specs.declared.reply.Reply.TheVariants.{Done};
 ghost use Rattle.iox_control.specs.Controls.{IsControl};
 ghost use Rattle.iox_control_releasing.specs.Goings.{IsTidy};
-ghost use Rattle.iox_control_releasing.specs.Named.{IsHeldPort, IsNamed};
+ghost use Rattle.iox_control_releasing.specs.Named.{IsHeldPort};
 
 use crate::disconnect::disconnect_if_unused;
 use crate::handle::release;
 use crate::port_value::release_port;
 use iox_control::Control;
+use iox_model::kind::Kind;
 
 /// The tables are in order after a release, so a port may be asked whether it goes.
-pub fn releases_and_looks_again(control: &mut Control, node: u64, number: u64, port: u64)
-    requires named { IsNamed control.old.tables node number }
+pub fn releases_and_looks_again(
+    control: &mut Control,
+    node: u64,
+    number: u64,
+    kind: Kind,
+    port: u64,
+)
     requires order { IsControl control.old }
     ensures { IsControl control.new }
 {
-    let Some(entry) = control.entry(node, number, 0) else {
-        unreachable!();
-    };
-    release(control, node, number, entry, 0);
+    release(control, node, number, kind, 0);
     disconnect_if_unused(control, port);
 }
 
@@ -37,15 +39,11 @@ pub fn releases_a_port(control: &mut Control, node: u64, port: u64)
 }
 
 /// No pool is left after releases, where none was left before.
-pub fn releases_and_is_tidy(control: &mut Control, node: u64, number: u64, port: u64)
-    requires named { IsNamed control.old.tables node number }
+pub fn releases_and_is_tidy(control: &mut Control, node: u64, number: u64, kind: Kind, port: u64)
     requires order { IsControl control.old }
     requires tidy { IsTidy control.old.tables }
     ensures { IsTidy control.new.tables }
 {
-    let Some(entry) = control.entry(node, number, 0) else {
-        unreachable!();
-    };
-    release(control, node, number, entry, 0);
+    release(control, node, number, kind, 0);
     disconnect_if_unused(control, port);
 }

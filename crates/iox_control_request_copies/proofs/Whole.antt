@@ -302,7 +302,9 @@ module _ (x : Given) (c : ControlState) (node n : ℕ) (q : Payload) (a : Asked)
         free_now = record { there = (kept is.between is.back).1; within = is.free.within; free = is.free.free }
 
         by_lane : (o : Option ℕ) → lane_by p.role is.between.tables (y 0) ≡ o → Whole (replies.Refused refusals.UnableToDeliver) (state_shown x new.tables)
-        by_lane None none = absurd (has_lane is.between.tables p.number is.slot (y 0) (kept is.between is.back).0 free_now none)
+        by_lane None none =
+            absurd (has_lane is.between.tables p.number is.slot p (kept is.between is.back).0 free_now
+            (sym (ap (λ (r : Role). lane_by r is.between.tables (y 0)) client.client) ∙ none))
         by_lane (Some lane) chosen =
             whole_by lane (may_choose lane is.between is.back chosen) (λ on. absurd (true≢false (sym on ∙ off))) (replies.Refused refusals.UnableToDeliver) (state_shown x new.tables)
             (made.undelivered x c node n q a order client of_role elements asked lane is.slot is.between is.back

@@ -44,7 +44,8 @@ pub fn lend_and_send(
         client,
         connections: 0,
     };
-    let servers = send_to_all(control, entry, overflow, 0);
+    let label = control.label(entry.pool, entry.slot);
+    let servers = send_to_all(control, entry, label, overflow, 0);
     Copied::To {
         number: loaned.number,
         servers,

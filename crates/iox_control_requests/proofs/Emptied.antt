@@ -31,6 +31,7 @@ use Rattle.iox_tables.proofs.HubBooks.Structures.{slot_bare}
 use Rattle.iox_hub_delivering.proofs.Before.{named_stays}
 use Rattle.iox_control.specs.Controls.{ControlState, IsControl, with_tables}
 use Rattle.iox_control_ending.specs.Endings.{IsLoan, with_ended}
+use Rattle.iox_control_retrieving.specs.Alone.{HasOneLoan, has_one_out}
 use Rattle.iox_control_requests.specs.Requests.{is_failing, ways_of, with_request_sent, with_requests_back}
 use Rattle.iox_control_requests.specs.Servers.{request_ways}
 use Rattle.iox_control_requests.proofs.Opened.{all_listed, by_servers}
@@ -112,7 +113,7 @@ abbrev label_in : SlotState → Label
 label_in s = record { lane = s.lane; request = s.request }
 
 -- pools that differ only in holders have the same labels
-labels_same : (old new : List (Option PoolState)) (place k : ℕ) → bare_pools old ≡ bare_pools new → labels_of old place k ≡ labels_of new place k
+pub labels_same : (old new : List (Option PoolState)) (place k : ℕ) → bare_pools old ≡ bare_pools new → labels_of old place k ≡ labels_of new place k
 labels_same old new place k same =
     ap label_in (sym (slot_bare old place k)) ∙ ap (λ ps. label_in (slot_at ps place k)) same ∙ ap label_in (slot_bare new place k)
 
@@ -135,6 +136,23 @@ module _ (c : ControlState) (node n : ℕ) (h : HandleState) (order : IsControl 
 
   pub the_port : (p : PortState) × (port_in c.tables.ports h.port ≡ Some p)
   the_port = (its.port, its.there)
+
+  -- its loan may be the only message of the client that somebody has
+  pub only_loan : (p : PortState) → port_in c.tables.ports h.port ≡ Some p → has_one_out c.tables.pools h.pool ≡ true → HasOneLoan c.tables p.pool
+  only_loan p there one = record {
+    node = node;
+    number = n;
+    handle = h;
+    named = named;
+    loan = ap (λ b. b || is_response_loan h.kind) kind;
+    of_pool = its_pool;
+    one = subst (λ q. has_one_out c.tables.pools q ≡ true) its_pool one;
+  }
+    where
+      its_pool : h.pool ≡ p.pool
+      its_pool =
+          its.of_pool (ap (λ b. b || (is_response_loan h.kind || same_kind h.kind PendingResponse)) kind)
+          ∙ ap (λ (q : PortState). q.pool) (same_Some its.port p (sym its.there ∙ there))
 
   its_role : its.port.role ≡ Client
   its_role = its.role ∙ ap (λ (b : Bool). if b || (same_kind h.kind PendingResponse || same_kind h.kind Response) then Client else Server) kind

@@ -86,10 +86,10 @@ module _ (ports : List PortState) (place s : ℕ) where
         (λ p at l there. free_out pool l (sound p at l there) (can p at l there) overflow k (full_is false free p at l there))
         ∙ nothing
 
-    full_oldest : on_way_at is_full true ports place s 0 ≡ true → on_way_at pushed_out None ports place s 0 ≡ on_way_at (pushed_out_by true k) None ports place s 0
-    full_oldest full =
+    full_oldest : on_way_at pushed_out None ports place s 0 ≡ on_way_at (pushed_out_by true k) None ports place s 0
+    full_oldest =
         on_agree pushed_out (pushed_out_by true k) None
-        (λ p at l there. full_out pool l (sound p at l there) (can p at l there) k (full_is true full p at l there))
+        (λ p at l there. full_out pool l (sound p at l there) (can p at l there) k)
 
 -- ---- steps of code
 
@@ -119,15 +119,15 @@ module _ (c : ControlState) (place : ℕ) (h : HandleState)
       ∙ ap (λ o. with_both c (with_lane_at (delivers overflow h.slot) c.tables.ports place h.port 0) (with_out (with_slot held c.tables.pools h.pool h.slot) h.pool o))
       (sym (free_nothing c.tables.ports place h.port h.pool sound can overflow h.slot free))
 
-  pub gives_full : (overflow : Bool) → overflow ≡ true → on_way_at is_full true c.tables.ports place h.port 0 ≡ true
+  pub gives_full : (overflow : Bool) → overflow ≡ true
       → e ≡ with_both d (with_lane_at (λ l. pushed l h.slot) d.tables.ports place h.port 0)
       (with_out d.tables.pools h.pool (on_way_at pushed_out None d.tables.ports place h.port 0))
       → e ≡ with_given c place h overflow
-  gives_full overflow over full is =
+  gives_full overflow over is =
       is ∙ ap (λ (x : ControlState). with_both x (with_lane_at (λ l. pushed l h.slot) x.tables.ports place h.port 0)
       (with_out x.tables.pools h.pool (on_way_at pushed_out None x.tables.ports place h.port 0))) holds
       ∙ ap (λ ps. with_both c ps (with_out (with_slot held c.tables.pools h.pool h.slot) h.pool (on_way_at pushed_out None c.tables.ports place h.port 0)))
       (full_ports c.tables.ports place h.port h.pool sound can overflow h.slot)
       ∙ ap (λ o. with_both c (with_lane_at (delivers true h.slot) c.tables.ports place h.port 0) (with_out (with_slot held c.tables.pools h.pool h.slot) h.pool o))
-      (full_oldest c.tables.ports place h.port h.pool sound can overflow h.slot full)
+      (full_oldest c.tables.ports place h.port h.pool sound can overflow h.slot)
       ∙ ap (λ b. with_given c place h b) (sym over)

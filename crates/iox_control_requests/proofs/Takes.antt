@@ -60,8 +60,9 @@ module _ (pool : ℕ) (l : LaneState) (sound : IsSound l) (can : CanTake pool l)
   free_out false k free = refl
   free_out true k free = ap (λ (b : Bool). if b then oldest (delivered l k) else None) free
 
-  pub full_out : (k : ℕ) → is_full l ≡ true → pushed_out l ≡ pushed_out_by true k l
-  full_out k full = step (is_full l) (full_has (leb-true l.buffer (length l.waiting) full))
+  -- with overflow what is pushed out is the oldest, whether it is full or not
+  pub full_out : (k : ℕ) → pushed_out l ≡ pushed_out_by true k l
+  full_out k = step (is_full l) (λ full. full_has (leb-true l.buffer (length l.waiting) full))
     where
       full_has : l.buffer ≤ length l.waiting → slice_get l.waiting 0 ≡ slice_get (l.waiting ++ k ∷ []) 0
       full_has more = first l.waiting (omega (arith, more, can.buffer))
@@ -70,7 +71,7 @@ module _ (pool : ℕ) (l : LaneState) (sound : IsSound l) (can : CanTake pool l)
           first [] some = absurd (omega (arith, some))
           first (j ∷ js) some = refl
 
-      step : (b : Bool) → slice_get l.waiting 0 ≡ slice_get (l.waiting ++ k ∷ []) 0
+      step : (b : Bool) → (b ≡ true → slice_get l.waiting 0 ≡ slice_get (l.waiting ++ k ∷ []) 0)
           → (if b then oldest l else None) ≡ (if b then oldest (delivered l k) else None)
-      step true e = e
-      step false e = refl
+      step true has = has refl
+      step false has = refl

@@ -18,7 +18,7 @@ use crate::sends::send_to_all;
 use crate::servers::is_refused;
 use iox_control::Control;
 use iox_control_ending::end_loan;
-use iox_control_retrieving::retrieve_all;
+use iox_control_retrieving::{has_one_out, retrieve_all_unless};
 use iox_handles::Entry;
 
 /// Whether the send of a request of the client fails as the servers are now.
@@ -63,10 +63,12 @@ pub fn attempt<B: WhenFull>(
     ensures messages { bare_pools control.old.tables.pools ≡ bare_pools control.new.tables.pools }
     ensures order { IsControl control.new }
 {
-    retrieve_all(control, entry.port);
+    let label = control.label(entry.pool, entry.slot);
+    let alone = has_one_out(control, entry.pool);
+    retrieve_all_unless(control, entry.port, alone);
     if is_to_fail(control, entry.port, overflow, backpressure) {
         end_loan(control, entry.node, entry.number, hint);
         return None;
     }
-    Some(send_to_all(control, entry, overflow, hint))
+    Some(send_to_all(control, entry, label, overflow, hint))
 }

@@ -20,6 +20,17 @@ use crate::servers::is_server;
 use iox_control::Control;
 use iox_handles::Entry;
 
+/// The lane from the client to the port in that place is sound. It has nothing to do: it is there
+/// for its contract.
+#[inline(always)]
+fn lane_is_sound(control: &Control, place: usize, client: u64)
+    ensures { (p : PortState) → slice_get control.now.tables.ports place ≡ Some p
+        → (l : LaneState)
+        → lane_on control.now.tables.ports (way_from client 0 p.number) ≡ Some l → IsSound l }
+{
+    control.ports().is_full_at(place, client, 0);
+}
+
 /// Puts the handle's message last in line for the port in that place, where the oldest message is
 /// pushed out if the lane is full: then one less has that.
 fn push_to(control: &mut Control, place: usize, entry: Entry)
@@ -53,16 +64,17 @@ fn give(control: &mut Control, place: usize, entry: Entry, overflow: bool) -> bo
         (control.new ≡ with_given control.old place (handle_state entry) overflow) }
     ensures unchanged { OnFalse result (control.new ≡ control.old) }
 {
-    if control.ports().is_full_at(place, entry.port, 0) {
-        if !overflow {
-            return false;
-        }
+    if overflow {
+        lane_is_sound(control, place, entry.port);
         control.hold(entry.pool, entry.slot);
         push_to(control, place, entry);
-    } else {
-        control.hold(entry.pool, entry.slot);
-        control.deliver_at(place, entry.port, 0, entry.slot);
+        return true;
     }
+    if control.ports().is_full_at(place, entry.port, 0) {
+        return false;
+    }
+    control.hold(entry.pool, entry.slot);
+    control.deliver_at(place, entry.port, 0, entry.slot);
     true
 }
 

@@ -5,6 +5,7 @@ ghost use Rattle.iox_tables.specs.HubStates.Ends.{with_call, with_changed};
 ghost use Rattle.iox_tables.specs.HubStates.Releases.{pending_states, request_of};
 ghost use Rattle.iox_tables.specs.HubStates.Sendings.{pending_of};
 ghost use Rattle.iox_tables.specs.HubStates.Sends.{with_opened};
+ghost use Rattle.iox_tables.specs.HubStates.Tables.{labels_of};
 ghost use Rattle.iox_tables.specs.HubStates.Ways.{lane_on};
 ghost use Rattle.iox_tables.specs.HubStates.Wirings.{IsHandle};
 ghost use Rattle.iox_tables.specs.HubStates.Changes.{OnEach};
@@ -18,17 +19,18 @@ ghost use Rattle.iox_control_requests.specs.Servers.{request_ways};
 use crate::deliveries::deliver_to_all;
 use iox_control::Control;
 use iox_handles::Entry;
+use iox_lanes::wanted::Label;
 use iox_model::kind::Kind;
 
-/// Opens the handle's request with each server.
-fn open_request(control: &mut Control, entry: Entry)
+/// Opens the handle's request, whose message has that label, with each server.
+fn open_request(control: &mut Control, entry: Entry, label: Label)
     requires order { IsControl control.old }
+    requires label { label ≡ labels_of control.old.tables.pools entry.pool entry.slot }
     ensures left { control.new ≡ with_tables control.old (with_opened control.old.tables
         (request_of control.old.tables (handle_state entry))
         (pending_states control.old.tables (handle_state entry))) }
     ensures order { IsControl control.new }
 {
-    let label = control.label(entry.pool, entry.slot);
     control.open_all(entry.port, label.lane, label.request);
 }
 
@@ -52,14 +54,21 @@ fn become_pending(control: &mut Control, entry: Entry, hint: usize, count: u64)
     control.count_call();
 }
 
-/// Sends a client's loaned request, once the client got all back, and says to how many servers. It
-/// is opened with each server, and a full one gets nothing, unless its oldest message is pushed
-/// out.
-pub fn send_to_all(control: &mut Control, entry: Entry, overflow: bool, hint: usize) -> u64
+/// Sends a client's loaned request, whose message has that label, once the client got all back, and
+/// says to how many servers. It is opened with each server, and a full one gets nothing, unless its
+/// oldest message is pushed out.
+pub fn send_to_all(
+    control: &mut Control,
+    entry: Entry,
+    label: Label,
+    overflow: bool,
+    hint: usize,
+) -> u64
     requires order { IsControl control.old }
     requires calls { control.old.tables.calls ≤ 2 ^ 56 }
     requires named { IsHandle control.old.tables entry.node entry.number (handle_state entry) }
     requires kind { is_request_loan entry.kind ≡ true }
+    requires label { label ≡ labels_of control.old.tables.pools entry.pool entry.slot }
     requires returned { OnEach (λ w l. l.returned ≡ []) (lane_on control.old.tables.ports)
         (request_ways entry.port control.old.tables.ports) }
     ensures sound { OnEach (λ w l. IsSound l) (lane_on control.old.tables.ports)
@@ -74,7 +83,7 @@ pub fn send_to_all(control: &mut Control, entry: Entry, overflow: bool, hint: us
         control.old.tables.pools control.new.tables.pools }
     ensures order { IsControl control.new }
 {
-    open_request(control, entry);
+    open_request(control, entry, label);
     let count = deliver_to_all(control, entry, overflow);
     become_pending(control, entry, hint, count);
     count

@@ -36,6 +36,7 @@ use Rattle.iox_hub_ports.specs.Ports.{on_way}
 use Rattle.iox_control.specs.Controls.{ControlState, IsControl, with_tables}
 use Rattle.iox_control.specs.Entries.{handle_state}
 use Rattle.iox_control_ending.specs.Endings.{IsLoan, with_ended}
+use Rattle.iox_control_retrieving.specs.Alone.{HasOneLoan, has_one_out}
 use Rattle.iox_control_responses.specs.declared.responded.Responded.{Responded}
 use Rattle.iox_control_responses.specs.declared.responded.Responded.TheVariants.{Done, Undelivered}
 use Rattle.iox_control_responses.specs.Responses.{IsFailure, IsResponse, is_shut, is_undelivered, reply_of_send, response_reply, with_handed_over, with_response_ended, with_response_offered, with_response_sent, with_way_emptied}
@@ -95,6 +96,10 @@ module _ (c : ControlState) (node n : ℕ) (order : IsControl c) (few : c.tables
     of_pool l at =
         (order.order.lanes v l of_port.port at (ap (λ (u : Way). port_in t.ports u.sender) its_way ∙ of_port.there)).of_pool
         ∙ sym (of_port.of_pool (ap is_own kind))
+
+    -- its loan may be the only message of the server that somebody has
+    pub only_loan : has_one_out t.pools h.pool ≡ true → HasOneLoan t h.pool
+    only_loan one = record { node = node; number = n; handle = h; named = named; loan = ap is_loan kind; of_pool = refl; one = one }
 
     -- it is found again
     pub found_then : (d : ControlState) → d.tables.handles ≡ t.handles → handle_in d.tables.handles node n ≡ Some h

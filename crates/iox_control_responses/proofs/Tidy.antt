@@ -4,7 +4,6 @@ use Rattle.std.proofs.Common.{sym, ap, subst, ◌∙◌}
 use Rattle.std.proofs.lemmas.Option.{same_Some}
 use Rattle.iox_model.specs.Handles.{is_own}
 use Rattle.iox_model.specs.Maps.{has_way}
-use Rattle.iox_model.specs.declared.way.Way.{Way}
 use Rattle.iox_tables.specs.HubStates.Tables.{HandleState, HubTables}
 use Rattle.iox_tables.specs.HubStates.Changes.{emptied_lane, with_lanes}
 use Rattle.iox_tables.specs.HubStates.Ends.{dropped_handles}

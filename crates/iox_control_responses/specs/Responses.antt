@@ -6,13 +6,12 @@ use Rattle.iox_model.specs.declared.reply.Refusal.TheVariants.{UnableToDeliver}
 use Rattle.iox_model.specs.declared.reply.Reply.TheVariants as replies
 use Rattle.iox_model.specs.declared.way.Way.{Way}
 use Rattle.iox_model.specs.Commands.{Reply}
-use Rattle.iox_model.specs.Messages.{response_way}
 use Rattle.iox_model.specs.Requests.{fails_at}
 use Rattle.iox_lanes.specs.Lanes.{is_full}
 use Rattle.iox_tables.specs.HubStates.Tables.{HandleState, HubTables, PoolState}
 use Rattle.iox_tables.specs.HubStates.Changes.{emptied_lane, with_lanes}
 use Rattle.iox_tables.specs.HubStates.Ends.{with_call, with_dropped}
-use Rattle.iox_tables.specs.HubStates.Releases.{lane_of, way_to_client}
+use Rattle.iox_tables.specs.HubStates.Releases.{way_to_client}
 use Rattle.iox_tables.specs.HubStates.States.{Given, fixed_of}
 use Rattle.iox_tables.specs.HubStates.Wirings.{IsHandle}
 use Rattle.iox_tables.specs.HubBooks.Keeps.{delivers}

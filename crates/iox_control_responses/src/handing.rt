@@ -1,6 +1,5 @@
 //! A response that is put in line for its client.
 ghost use Rattle.std.specs.Prelude.{◌≡◌, ◌<◌, ◌^◌};
-ghost use Rattle.iox_control.specs.Controls.{IsControl};
 ghost use Rattle.iox_control_ending.specs.Endings.{IsLoan};
 ghost use Rattle.iox_control_responses.specs.Responses.{with_handed_over};
 

@@ -19,9 +19,17 @@ use crate::handing::hand_over;
 use crate::responded::Responded;
 use iox_control::Control;
 use iox_control_ending::{count, end_loan};
-use iox_control_retrieving::retrieve;
+use iox_control_retrieving::{has_one_out, retrieve_unless};
 use iox_handles::Entry;
 use iox_model::way::Way;
+
+/// The lane of the way is sound. It has nothing to do: it is there for its contract.
+#[inline(always)]
+fn lane_is_sound(control: &Control, way: Way)
+    ensures { (l : LaneState) → lane_on control.now.tables.ports way ≡ Some l → IsSound l }
+{
+    control.ports().is_full(way);
+}
 
 /// Whether a response may not wait on the way: as many wait as may, and none of them is pushed out.
 fn is_shut(control: &Control, way: Way) -> bool
@@ -29,9 +37,11 @@ fn is_shut(control: &Control, way: Way) -> bool
         && not control.now.tables.settings.response_overflow) }
     ensures sound { (l : LaneState) → lane_on control.now.tables.ports way ≡ Some l → IsSound l }
 {
-    let full = control.ports().is_full(way);
-    let overflow = control.settings().response_overflow;
-    full && !overflow
+    lane_is_sound(control, way);
+    if control.settings().response_overflow {
+        return false;
+    }
+    control.ports().is_full(way)
 }
 
 /// Offers this loaned response to its client, and ends its handle, which is looked for by its
@@ -66,6 +76,7 @@ pub fn offer_response(
         (reply_of_send result) (state_shown x t) }
 {
     let label = control.label(entry.pool, entry.slot);
+    let alone = has_one_out(control, entry.pool);
     let way = Way {
         sender: entry.port,
         receiver: entry.client,
@@ -77,7 +88,7 @@ pub fn offer_response(
         end_loan(control, node, number, hint);
         return Responded::Done;
     }
-    retrieve(control, way, entry.pool);
+    retrieve_unless(control, way, entry.pool, alone);
     if !shut {
         hand_over(control, node, number, hint, way, entry.pool, entry.slot);
         return Responded::Done;

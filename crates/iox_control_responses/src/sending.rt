@@ -1,10 +1,8 @@
 //! The send of a response.
-ghost use Rattle.std.specs.Prelude.{◌≡◌, ◌<◌, ◌^◌, None, Some, false};
-ghost use Rattle.iox_model.specs.Requests.{fails_at};
+ghost use Rattle.std.specs.Prelude.{◌≡◌, ◌<◌, ◌^◌, Some, false};
 ghost use Rattle.iox_model.specs.WholeCalls.{IsWholeCall};
 ghost use Rattle.iox_model.specs.declared.call.Call.TheVariants.{Send};
-ghost use Rattle.iox_model.specs.declared.way.Way.{Way};
-ghost use Rattle.iox_tables.specs.HubStates.States.{Given, fixed_of, state_shown};
+ghost use Rattle.iox_tables.specs.HubStates.States.{Given, state_shown};
 ghost use Rattle.iox_tables.specs.HubStates.Tables.{HandleState};
 ghost use Rattle.iox_tables.specs.HubStates.Wirings.{handle_in};
 ghost use Rattle.iox_tables.specs.HubMaking.Disconnections.{with_released};

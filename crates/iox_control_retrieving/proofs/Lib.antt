@@ -1,5 +1,6 @@
 pub mod KeptInOrder
 pub mod Emptied
+pub mod OneLoan
 pub mod OneByOne
 pub mod AtPlaces
 pub mod Together

@@ -11,3 +11,4 @@ pub mod NodeListLemmas
 pub mod WholeLemmas
 pub mod TallyLemmas
 pub mod KindLemmas
+pub mod TestLemmas

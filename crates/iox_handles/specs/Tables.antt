@@ -100,8 +100,8 @@ abbrev pub of_kind : Kind → Entry → Entry
 of_kind kind h = record h { kind = kind }
 
 -- the handle with the kind that it is to have, if it is to change
-abbrev pub with_kind : (Entry → Option Kind) → Entry → Option Entry
-with_kind becomes h = option_map (λ kind. of_kind kind h) (becomes h)
+abbrev pub turned : (Entry → Option Kind) → Entry → Option Entry
+turned becomes h = option_map (λ kind. of_kind kind h) (becomes h)
 
 -- What is so of each table: a number is one handle's, and is below the next.
 pub record IsSound (table : Contents) : Type 0 where

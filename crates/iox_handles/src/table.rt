@@ -3,7 +3,9 @@ ghost use Rattle.std.specs.Option.{option_and_then, option_map};
 ghost use Rattle.std.specs.Prelude.{◌≡◌, ◌<◌, ◌≤◌, ◌+◌, ◌-◌, ◌%◌, ◌^◌, ◌==◌, if◌then◌else◌, IfOk, IfSome, IsSome, None, OnErr, OnOk, Some, filter, length, map};
 ghost use Rattle.iox_handles.specs.Least.{least};
 ghost use Rattle.iox_handles.specs.Tallies.{is_counted_at, tally_place};
-ghost use Rattle.iox_handles.specs.Tables.{IsSound, added, changed, count_like, count_of, handle_at, handle_of, handles_of, has_any, new_contents, removed, with_kind};
+ghost use Rattle.iox_handles.specs.Tables.{IsSound, added, changed, count_like, count_of, handle_at, handle_of, handles_of, has_any, new_contents, removed, turned};
+
+mod removing;
 
 use crate::entry::Entry;
 use crate::entry_test::EntryTest;
@@ -272,7 +274,7 @@ impl Table {
         hint: usize,
         change: &C,
     ) -> Option<Entry>
-        ensures told { result ≡ option_and_then (with_kind (C.becomes change.now))
+        ensures told { result ≡ option_and_then (turned (C.becomes change.now))
             (handle_of self.old node number) }
         ensures changed { IfSome result (λ h. self.new ≡ changed self.old h) }
         ensures unchanged { result ≡ None → self.new ≡ self.old }

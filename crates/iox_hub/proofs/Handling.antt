@@ -22,10 +22,6 @@ use Rattle.iox_backpressure.proofs.Failures.{as_the_machine}
 use Rattle.iox_hub.specs.Hubs.{HubState, IsHub, fails_of, given_by}
 use Rattle.iox_tables.specs.HubStates.Releases.{way_to_client}
 
--- the hub that is in order
-abbrev pub hub_of : {h : HubState} → IsHub h → HubState
-hub_of {h} hub = h
-
 module _ (h : HubState) where
   abbrev t : HubTables
   t = h.control.tables

@@ -20,10 +20,10 @@ pub mod MakingPools
 pub mod AskingLemmas
 pub mod ReleasingFits
 pub mod ReleasingWords
+pub mod ReleasedWords
 pub mod SendingFits
 pub mod SendingNames
 pub mod SendingHubs
-pub mod ReleasingHubs
 pub mod Handling
 pub mod Overflowing
 pub mod LendingWords

@@ -1,10 +1,9 @@
 -- A loan of messages that have one element has one.
-use Rattle.std.specs.Prelude.{◌≡◌, ℕ, Bool, true, false, not, ◌||◌, ◌==◌, Option, refl}
+use Rattle.std.specs.Prelude.{◌≡◌, ℕ, Bool, true, false, not, ◌||◌, ◌==◌, refl}
 use Rattle.std.proofs.Common.{sym, ap, subst, ◌∙◌, true≢false, eqb-true}
 use Rattle.iox_model.specs.declared.kind.Role.{Role}
 use Rattle.iox_model.specs.declared.kind.Role.TheVariants.{Client, Server}
 use Rattle.iox_model.specs.declared.reply.Refusal.TheVariants as refusals
-use Rattle.iox_model.specs.Commands.{Refusal}
 use Rattle.iox_model.specs.Maps.{refused_if}
 use Rattle.iox_model.specs.Settings.{Shape, is_count, shape_of}
 use Rattle.iox_tables.specs.HubStates.States.{Given, limits_of}

@@ -1,23 +1,14 @@
--- Whether a node still has what a handle of some kind stands for is told by the kind of its handle.
-use Rattle.std.specs.Prelude.{◌≡◌, ℕ, Bool, true, false, ◌||◌, if◌then◌else◌, ◌==◌, Option, Some, refl}
+-- What a node has of some kind it still has.
+use Rattle.std.specs.Prelude.{◌≡◌, ℕ, true, false, if◌then◌else◌, ◌==◌, Option, refl}
 use Rattle.std.specs.Option.{option_map_or}
-use Rattle.std.proofs.Common.{sym, ap, ◌∙◌, eqb-true, true≢false}
-use denote.Enum.Bare.{sameb, same_true, true_same}
-use Rattle.iox_model.specs.contracts.kind.Kind.{the_type}
+use Rattle.std.proofs.Common.{sym, ap, ◌∙◌, eqb-true}
 use Rattle.iox_model.specs.declared.kind.Kind.{Kind}
 use Rattle.iox_model.specs.declared.kind.Kind.TheVariants as kinds
 use Rattle.iox_model.specs.declared.kind.Kind.TheVariants.{RequestMutUninit, RequestMut, ResponseMutUninit, ResponseMut, PendingResponse, ActiveRequest, Response}
 use Rattle.iox_model.specs.Handles.{kind_code, same_kind}
 use Rattle.iox_model.specs.Values.{is_still}
-use Rattle.iox_handles.specs.declared.entry.Entry.{Entry}
-use Rattle.iox_control.specs.Entries.{handle_state}
-use Rattle.iox_tables.specs.HubBooks.Hubs.{AreInOrder}
-use Rattle.iox_tables.specs.HubLoans.Questions.{kind_in}
-use Rattle.iox_tables.specs.HubStates.Tables.{HubTables}
-use Rattle.iox_tables.specs.HubStates.Wirings.{handle_in}
 use Rattle.iox_hub.specs.Hubs.{HasValue, HubState}
 use Rattle.iox_hub.specs.Releases.{StillHas}
-use Rattle.iox_hub.proofs.Named.{handle_is_value}
 
 -- ---- kinds
 
@@ -54,42 +45,8 @@ still_itself PendingResponse = refl
 still_itself ActiveRequest = refl
 still_itself Response = refl
 
--- What is no unfilled loan is still only itself: the test of sameness tells it.
-pub same_tells : (old new : Kind) (same : Bool) → (old ≡ RequestMutUninit → ⊥) → (old ≡ ResponseMutUninit → ⊥) → same ≡ sameb the_type new old
-    → same ≡ is_still old new
-same_tells old new same no_request no_response told = told ∙ by_case (sameb the_type new old) refl
-  where
-    by_code : (a b : Kind) → sameb the_type a b ≡ false → same_kind a b ≡ false
-    by_code a b = step (same_kind a b) refl
-      where
-        step : (c : Bool) → same_kind a b ≡ c → sameb the_type a b ≡ false → c ≡ false
-        step false e f = refl
-        step true e f = absurd (true≢false (sym (true_same the_type a b (same_kinds a b e)) ∙ f))
-
-    alone : (k : Kind) → (k ≡ RequestMutUninit → ⊥) → (k ≡ ResponseMutUninit → ⊥) → (j : Kind) → same_kind j k ≡ false → is_still k j ≡ false
-    alone RequestMutUninit a b j e = absurd (a refl)
-    alone ResponseMutUninit a b j e = absurd (b refl)
-    alone kinds.Client a b j e = ap (λ (c : Bool). c || false) e
-    alone kinds.Server a b j e = ap (λ (c : Bool). c || false) e
-    alone RequestMut a b j e = ap (λ (c : Bool). c || false) e
-    alone ResponseMut a b j e = ap (λ (c : Bool). c || false) e
-    alone PendingResponse a b j e = ap (λ (c : Bool). c || false) e
-    alone ActiveRequest a b j e = ap (λ (c : Bool). c || false) e
-    alone Response a b j e = ap (λ (c : Bool). c || false) e
-
-    by_case : (c : Bool) → sameb the_type new old ≡ c → c ≡ is_still old new
-    by_case true e = sym (ap (λ (k : Kind). is_still old k) (same_true the_type tt new old e) ∙ still_itself old)
-    by_case false e = sym (alone old no_request no_response new (by_code new old e))
-
 -- ---- values
 
 -- what a node has, it still has
 pub value_is_still : (h : HubState) (node n : ℕ) (kind : Kind) → HasValue h node n kind → StillHas h node n kind
 value_is_still h node n kind has = ap (λ (o : Option Kind). option_map_or (is_still kind) o false) has ∙ still_itself kind
-
-module _ (t : HubTables) (order : AreInOrder t) (node n : ℕ) (kind : Kind) where
-  -- the kind of a handle that is found tells
-  pub found_still : (e : Entry) → Some (handle_state e) ≡ handle_in t.handles node n
-      → option_map_or (is_still kind) (kind_in t node n) false ≡ is_still kind e.kind
-  found_still e found =
-      ap (λ (o : Option Kind). option_map_or (is_still kind) o false) (handle_is_value t order node n (handle_state e) (sym found))

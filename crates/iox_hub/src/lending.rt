@@ -1,6 +1,5 @@
 //! Loans of clients and of active requests.
-ghost use Rattle.std.specs.Bool.{OnTrue};
-ghost use Rattle.std.specs.Prelude.{◌≡◌, IsSome, None, Some, false};
+ghost use Rattle.std.specs.Prelude.{◌≡◌, IsSome, Some, false};
 ghost use Rattle.iox_model.specs.declared.kind.Kind.TheVariants.{ActiveRequest, Client};
 ghost use Rattle.iox_model.specs.declared.kind.Role.TheVariants as roles;
 ghost use Rattle.iox_model.specs.WholeCalls.{IsWholeCall};
@@ -9,6 +8,8 @@ ghost use Rattle.iox_tables.specs.HubStates.Tables.{HandleState, PortState, port
 ghost use Rattle.iox_tables.specs.HubStates.Wirings.{handle_in};
 ghost use Rattle.iox_tables.specs.HubLoans.Lenders.{lender_of_request, lender_of_response};
 ghost use Rattle.iox_tables.specs.HubLoans.Loans.{loan_call};
+ghost use Rattle.iox_hub_ports.specs.Ports.{info_in};
+ghost use Rattle.iox_control.specs.Entries.{handle_state};
 ghost use Rattle.iox_control_request_copies.specs.Lends.{reply_of_loan};
 ghost use Rattle.iox_control_request_copies.specs.Lent.TheVariants.{Refused};
 ghost use Rattle.iox_control_request_copies.specs.LoanRefusal.TheVariants.{WantOfMemory};
@@ -23,7 +24,9 @@ use crate::hub::Hub;
 use crate::layouts::has_layout;
 use crate::shape::MessageShape;
 use iox_backpressure::Backpressure;
-use iox_control_request_copies::{Asked, Lent, LoanRefusal, lend_request, lend_response};
+use iox_control_request_copies::{Asked, Lent, LoanRefusal, lend_request_of, lend_response_of};
+use iox_handles::Entry;
+use iox_hub_ports::info::PortInfo;
 use iox_store::{Payload, Spare, is_length};
 use iox_words::Words;
 
@@ -51,10 +54,53 @@ pub(crate) fn asked_of<Q: Payload, H: Words>(
 }
 
 impl<Q: Payload, QH: Words, P: Payload, PH: Words, H: Backpressure> Hub<Q, QH, P, PH, H> {
-    /// Lends a request of that client for so many elements, where its message has room for them:
-    /// its own, or that which is given.
+    /// Lends a request of that client, of which this is said, for so many elements, where its
+    /// message has room for them: its own, or that which is given.
     #[inline(always)]
     fn lend_request_in_room(
+        &mut self,
+        node: u64,
+        client: u64,
+        port: PortInfo,
+        elements: usize,
+        uninit: bool,
+        spare: Option<Spare<Q::Element>>,
+    ) -> Lent
+        requires has { HasValue self.old node client Client }
+        requires said { Some port ≡ info_in self.old.control.tables.ports client }
+        requires default { uninit ≡ false → IsSome self.old.request.default }
+        requires room { (p : PortState) → port_in self.old.control.tables.ports client ≡ Some p
+            → LoanHasRoom self.old (lender_of_request p 0) self.old.request elements spare }
+        ensures left { LeavesLent self.old self.old.request uninit elements result self.new }
+        ensures whole { (x : Given) → IsWholeCall (state_of_hub x self.old) node
+            (loan_call uninit client elements) (reply_of_loan result) (state_of_hub x self.new) }
+        ensures has { HasLent self.new node roles.Client self.old.request uninit elements result }
+        ensures new { IsNewLoan self.old node result }
+        ensures keeps { KeepsAll self.old self.new }
+        ensures memory { result ≡ Refused WantOfMemory → ⊥ }
+    {
+        let asked = asked_of::<Q, QH>(&self.request, elements, uninit);
+        let lent = lend_request_of(&mut self.control, node, client, port, asked);
+        if let Lent::Handle(l) = lent {
+            let slot = l.slot as usize;
+            lend_request_in(
+                &mut self.words,
+                l.pool,
+                slot,
+                elements,
+                uninit,
+                &self.request,
+                spare,
+            );
+        } else {
+            let_go(spare);
+        }
+        lent
+    }
+
+    /// The same, of a client of which nothing is said.
+    #[inline]
+    fn lend_request_with(
         &mut self,
         node: u64,
         client: u64,
@@ -74,17 +120,54 @@ impl<Q: Payload, QH: Words, P: Payload, PH: Words, H: Backpressure> Hub<Q, QH, P
         ensures keeps { KeepsAll self.old self.new }
         ensures memory { result ≡ Refused WantOfMemory → ⊥ }
     {
-        let asked = asked_of::<Q, QH>(&self.request, elements, uninit);
-        let lent = lend_request(&mut self.control, node, client, asked);
+        let Some(port) = self.control.ports().find(client) else {
+            unreachable!();
+        };
+        self.lend_request_in_room(node, client, port, elements, uninit, spare)
+    }
+
+    /// Lends a response to that active request, of whose handle and of whose port this is said, for
+    /// so many elements, where its message has room for them: its own, or that which is given.
+    #[inline(always)]
+    fn lend_response_in_room(
+        &mut self,
+        node: u64,
+        number: u64,
+        entry: Entry,
+        port: PortInfo,
+        elements: usize,
+        uninit: bool,
+        spare: Option<Spare<P::Element>>,
+    ) -> Lent
+        requires has { HasValue self.old node number ActiveRequest }
+        requires entry { Some (handle_state entry)
+            ≡ handle_in self.old.control.tables.handles node number }
+        requires said { Some port ≡ info_in self.old.control.tables.ports entry.port }
+        requires default { uninit ≡ false → IsSome self.old.response.default }
+        requires room { (h : HandleState) (p : PortState)
+            → handle_in self.old.control.tables.handles node number ≡ Some h
+            → port_in self.old.control.tables.ports h.port ≡ Some p
+            → LoanHasRoom self.old (lender_of_response self.old.control.tables h p)
+            self.old.response elements spare }
+        ensures left { LeavesLent self.old self.old.response uninit elements result self.new }
+        ensures whole { (x : Given) → IsWholeCall (state_of_hub x self.old) node
+            (loan_call uninit number elements) (reply_of_loan result) (state_of_hub x self.new) }
+        ensures has { HasLent self.new node roles.Server self.old.response uninit elements result }
+        ensures new { IsNewLoan self.old node result }
+        ensures keeps { KeepsAll self.old self.new }
+        ensures memory { result ≡ Refused WantOfMemory → ⊥ }
+    {
+        let asked = asked_of::<P, PH>(&self.response, elements, uninit);
+        let lent = lend_response_of(&mut self.control, node, number, entry, port, asked);
         if let Lent::Handle(l) = lent {
             let slot = l.slot as usize;
-            lend_request_in(
+            lend_response_in(
                 &mut self.words,
                 l.pool,
                 slot,
                 elements,
                 uninit,
-                &self.request,
+                &self.response,
                 spare,
             );
         } else {
@@ -93,10 +176,9 @@ impl<Q: Payload, QH: Words, P: Payload, PH: Words, H: Backpressure> Hub<Q, QH, P
         lent
     }
 
-    /// Lends a response to that active request for so many elements, where its message has room for
-    /// them: its own, or that which is given.
-    #[inline(always)]
-    fn lend_response_in_room(
+    /// The same, of an active request whose handle is looked for at the hint first.
+    #[inline]
+    fn lend_response_with(
         &mut self,
         node: u64,
         number: u64,
@@ -120,44 +202,13 @@ impl<Q: Payload, QH: Words, P: Payload, PH: Words, H: Backpressure> Hub<Q, QH, P
         ensures keeps { KeepsAll self.old self.new }
         ensures memory { result ≡ Refused WantOfMemory → ⊥ }
     {
-        let asked = asked_of::<P, PH>(&self.response, elements, uninit);
-        let lent = lend_response(&mut self.control, node, number, hint, asked);
-        if let Lent::Handle(l) = lent {
-            let slot = l.slot as usize;
-            lend_response_in(
-                &mut self.words,
-                l.pool,
-                slot,
-                elements,
-                uninit,
-                &self.response,
-                spare,
-            );
-        } else {
-            let_go(spare);
-        }
-        lent
-    }
-
-    /// Whether a request of that client for so many elements needs no room: its message has it, or
-    /// never grows.
-    #[inline(always)]
-    fn needs_no_request_room(&self, _node: u64, client: u64, elements: usize) -> bool
-        requires has { HasValue self.now _node client Client }
-        ensures { OnTrue result ((p : PortState)
-            → port_in self.now.control.tables.ports client ≡ Some p
-            → LoanHasRoom self.now (lender_of_request p 0) self.now.request elements None) }
-    {
-        let Some(port) = self.control.ports().find(client) else {
+        let Some(entry) = self.control.entry(node, number, hint) else {
             unreachable!();
         };
-        if !port.grows {
-            return true;
-        }
-        if elements as u64 <= port.longest {
-            return true;
-        }
-        false
+        let Some(port) = self.control.ports().find(entry.port) else {
+            unreachable!();
+        };
+        self.lend_response_in_room(node, number, entry, port, elements, uninit, spare)
     }
 
     /// Lends a request of that client for so many elements, for which its message may have to grow.
@@ -183,7 +234,7 @@ impl<Q: Payload, QH: Words, P: Payload, PH: Words, H: Backpressure> Hub<Q, QH, P
     {
         self.is_in_order();
         match self.room_for_request(node, client, elements) {
-            Ok(spare) => self.lend_request_in_room(node, client, elements, uninit, spare),
+            Ok(spare) => self.lend_request_with(node, client, elements, uninit, spare),
             Err(_) => Lent::Refused(LoanRefusal::WantOfMemory),
         }
     }
@@ -205,36 +256,13 @@ impl<Q: Payload, QH: Words, P: Payload, PH: Words, H: Backpressure> Hub<Q, QH, P
             → WantsRoom self.old (lender_of_request p 0) self.old.request elements }
     {
         self.is_in_order();
-        if self.needs_no_request_room(node, client, elements) {
-            return self.lend_request_in_room(node, client, elements, uninit, None);
+        let Some(port) = self.control.ports().find(client) else {
+            unreachable!();
+        };
+        if elements as u64 <= port.longest {
+            return self.lend_request_in_room(node, client, port, elements, uninit, None);
         }
         self.lend_request_growing(node, client, elements, uninit)
-    }
-
-    /// Whether a response to that active request for so many elements needs no room: its message
-    /// has it, or never grows. The handle of the request is looked for at the hint first.
-    #[inline(always)]
-    fn needs_no_response_room(&self, node: u64, number: u64, hint: usize, elements: usize) -> bool
-        requires has { HasValue self.now node number ActiveRequest }
-        ensures { OnTrue result ((h : HandleState) (p : PortState)
-            → handle_in self.now.control.tables.handles node number ≡ Some h
-            → port_in self.now.control.tables.ports h.port ≡ Some p
-            → LoanHasRoom self.now (lender_of_response self.now.control.tables h p)
-            self.now.response elements None) }
-    {
-        let Some(entry) = self.control.entry(node, number, hint) else {
-            unreachable!();
-        };
-        let Some(port) = self.control.ports().find(entry.port) else {
-            unreachable!();
-        };
-        if !port.grows {
-            return true;
-        }
-        if port.longest >= elements as u64 {
-            return true;
-        }
-        false
     }
 
     /// Lends a response to that active request for so many elements, for which its message may have
@@ -264,7 +292,7 @@ impl<Q: Payload, QH: Words, P: Payload, PH: Words, H: Backpressure> Hub<Q, QH, P
     {
         self.is_in_order();
         match self.room_for_response(node, number, hint, elements) {
-            Ok(spare) => { self.lend_response_in_room(node, number, hint, elements, uninit, spare) }
+            Ok(spare) => self.lend_response_with(node, number, hint, elements, uninit, spare),
             Err(_) => Lent::Refused(LoanRefusal::WantOfMemory),
         }
     }
@@ -296,8 +324,14 @@ impl<Q: Payload, QH: Words, P: Payload, PH: Words, H: Backpressure> Hub<Q, QH, P
             self.old.response elements }
     {
         self.is_in_order();
-        if self.needs_no_response_room(node, number, hint, elements) {
-            return self.lend_response_in_room(node, number, hint, elements, uninit, None);
+        let Some(entry) = self.control.entry(node, number, hint) else {
+            unreachable!();
+        };
+        let Some(port) = self.control.ports().find(entry.port) else {
+            unreachable!();
+        };
+        if port.longest >= elements as u64 {
+            return self.lend_response_in_room(node, number, entry, port, elements, uninit, None);
         }
         self.lend_response_growing(node, number, hint, elements, uninit)
     }

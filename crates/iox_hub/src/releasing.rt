@@ -1,15 +1,13 @@
 //! The releases of handles and of ports' own values.
-ghost use Rattle.std.specs.Prelude.{◌≡◌, ◌↔◌, IsTrue, None, Some, slice_set, true};
+ghost use Rattle.std.specs.Prelude.{◌≡◌, ◌↔◌, IfSome, IsTrue, None, Some, slice_set, true};
 ghost use Rattle.std.specs.Bool.{OnFalse};
 ghost use Rattle.iox_model.specs.declared.call.Call.TheVariants.{Release};
 ghost use Rattle.iox_model.specs.declared.reply.Reply.TheVariants.{Done};
 ghost use Rattle.iox_model.specs.Names.{is_port};
-ghost use Rattle.iox_model.specs.Values as spec;
 ghost use Rattle.iox_model.specs.WholeCalls.{IsWholeCall};
 ghost use Rattle.iox_tables.specs.HubStates.States.{Given};
 ghost use Rattle.iox_tables.specs.HubStates.Tables.{HandleState, PortState, port_in};
 ghost use Rattle.iox_tables.specs.HubStates.Wirings.{handle_in};
-ghost use Rattle.iox_control.specs.Entries.{handle_state};
 ghost use Rattle.iox_control_releasing.specs.Goings.{StaysTidy};
 ghost use Rattle.iox_hub.specs.Hubs.{state_of_hub, with_control};
 ghost use Rattle.iox_hub.specs.Keeping.{KeepsOthers};
@@ -20,22 +18,10 @@ ghost use Rattle.iox_hub.specs.Sending.{HasNothing, is_handle, with_words_left};
 use crate::hub::Hub;
 use crate::words::PoolWords;
 use iox_backpressure::Backpressure;
-use iox_handles::Entry;
+use iox_control_releasing::Ending;
 use iox_model::kind::Kind;
 use iox_store::Payload;
 use iox_words::Words;
-
-/// Whether a handle of the old kind may be one of the new kind by now: it is of the same kind, or a
-/// loan that is filled.
-fn is_still(old: Kind, new: Kind) -> bool
-    ensures { result ≡ spec.is_still old new }
-{
-    match old {
-        Kind::RequestMutUninit => matches!(new, Kind::RequestMutUninit | Kind::RequestMut),
-        Kind::ResponseMutUninit => matches!(new, Kind::ResponseMutUninit | Kind::ResponseMut),
-        _ => new == old,
-    }
-}
 
 /// The words in that place go. It is rare, so it is a call of its own.
 #[cold]
@@ -63,26 +49,18 @@ impl<Q: Payload, QH: Words, P: Payload, PH: Words, H: Backpressure> Hub<Q, QH, P
         }
     }
 
-    /// Releases the node's handle of that number, which is this one, and is looked for at the hint
-    /// first. Its port goes if nothing of it is left, and pools go of which nobody has a message,
-    /// with their words.
+    /// The words beside the pools go that may be gone by a release, if they are.
     #[inline(always)]
-    fn release_entry(&mut self, node: u64, number: u64, entry: Entry, hint: usize)
-        requires there { Some (handle_state entry)
-            ≡ handle_in self.old.control.tables.handles node number }
-        ensures left { (p : PortState) → port_in self.old.control.tables.ports entry.port ≡ Some p
-            → self.new ≡ with_words_left
-            (with_words_left (with_control self.old self.new.control) entry.pool) p.pool }
-        ensures whole { (x : Given) → IsWholeCall (state_of_hub x self.old) node
-            (Release number) Done (state_of_hub x self.new) }
-        ensures gone { HasNothing self.new node number }
-        ensures keeps { KeepsOthers self.old node number self.new }
-        ensures tidy { StaysTidy self.old.control.tables self.new.control.tables }
+    fn drop_both(&mut self, ending: Ending)
+        ensures shown { (x : Given) → state_of_hub x self.old ≡ state_of_hub x self.new }
+        ensures stay { ending.place ≡ None → self.new ≡ self.old }
+        ensures left { IfSome ending.place (λ place. self.new
+            ≡ with_words_left (with_words_left self.old ending.entry.pool) place) }
     {
-        match iox_control_releasing::release(&mut self.control, node, number, entry, hint) {
+        match ending.place {
             None => {}
             Some(place) => {
-                self.drop_words(entry.pool);
+                self.drop_words(ending.entry.pool);
                 self.drop_words(place);
             }
         }
@@ -106,7 +84,9 @@ impl<Q: Payload, QH: Words, P: Payload, PH: Words, H: Backpressure> Hub<Q, QH, P
         let Some(entry) = self.control.entry(node, number, hint) else {
             unreachable!();
         };
-        self.release_entry(node, number, entry, hint);
+        if !self.release_if(node, number, entry.kind, hint) {
+            unreachable!();
+        }
     }
 
     /// The same where the node still has what a handle of that kind stands for: the handle, or the
@@ -130,14 +110,17 @@ impl<Q: Payload, QH: Words, P: Payload, PH: Words, H: Backpressure> Hub<Q, QH, P
         ensures tidy { IsTrue result
             → StaysTidy self.old.control.tables self.new.control.tables }
     {
-        let Some(entry) = self.control.entry(node, number, hint) else {
+        let Some(ending) = iox_control_releasing::release(
+            &mut self.control,
+            node,
+            number,
+            kind,
+            hint,
+        ) else {
             return false;
         };
-        if is_still(kind, entry.kind) {
-            self.release_entry(node, number, entry, hint);
-            return true;
-        }
-        false
+        self.drop_both(ending);
+        true
     }
 
     /// Releases the own value of that port, which goes if nothing of it is left.

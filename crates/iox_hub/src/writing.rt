@@ -1,5 +1,5 @@
 //! Writes to loans.
-ghost use Rattle.std.specs.Prelude.{◌≡◌, flat_map, length};
+ghost use Rattle.std.specs.Prelude.{flat_map, length};
 ghost use Rattle.iox_model.specs.declared.call.Call.TheVariants.{Write};
 ghost use Rattle.iox_model.specs.declared.kind.Kind.TheVariants.{RequestMut, ResponseMut};
 ghost use Rattle.iox_model.specs.declared.kind.Role.TheVariants as roles;

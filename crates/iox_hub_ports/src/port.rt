@@ -1,6 +1,6 @@
 //! A connected port, and what comes to it.
 ghost use Rattle.std.specs.Option.{option_map};
-ghost use Rattle.std.specs.Prelude.{◌≡◌, ◌<◌, ◌+◌, ◌^◌, ◌-◌, IfSome, None, Some, List, is_some, length, option_copied, slice_get, ℕ, true};
+ghost use Rattle.std.specs.Prelude.{◌≡◌, ◌<◌, ◌+◌, ◌^◌, ◌-◌, IfSome, None, Some, is_some, length, option_copied, slice_get, true};
 ghost use Rattle.iox_tables.specs.HubStates.Asks.{waits_for};
 ghost use Rattle.iox_tables.specs.HubStates.Receives.{both_visits, visited_port};
 ghost use Rattle.iox_tables.specs.Visits.TheVariants.{AtLimit};
@@ -127,7 +127,7 @@ impl Port {
     }
 
     /// Takes a step on the lane of that number, of the pipe from this sender.
-    #[inline]
+    #[inline(always)]
     pub fn on_lane<S: LaneStep>(&mut self, sender: u64, lane: usize, step: &S) -> S::Answer
         ensures told { result
             ≡ on_lane_from (S.told step.now) (S.none step.now) self.old sender lane }
@@ -140,7 +140,7 @@ impl Port {
     }
 
     /// Takes a step on the request state of that lane, beside the pipe from this sender.
-    #[inline]
+    #[inline(always)]
     pub fn on_state<S: StateStep>(&mut self, sender: u64, lane: usize, step: &S)
         ensures { self.new ≡ with_state_from (S.changed step.now) self.old sender lane }
     {

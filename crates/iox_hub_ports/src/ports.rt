@@ -91,7 +91,7 @@ impl Ports {
     }
 
     /// Takes a step on the lane of a way.
-    #[inline]
+    #[inline(always)]
     pub(crate) fn on_lane_of<S: LaneStep>(&mut self, way: Way, step: &S) -> S::Answer
         ensures told { result ≡ on_way (S.told step.now) (S.none step.now) self.old.ports way }
         ensures changed { self.new
@@ -104,7 +104,7 @@ impl Ports {
     }
 
     /// Takes a step on the request state of a way.
-    #[inline]
+    #[inline(always)]
     pub(crate) fn on_state_of<S: StateStep>(&mut self, way: Way, step: &S)
         ensures { self.new
             ≡ with_ports self.old (with_state_on (S.changed step.now) self.old.ports way) }
@@ -272,6 +272,7 @@ impl Ports {
     }
 
     /// Gives a message of the way back that its receiver has, and says whether it had it.
+    #[inline(always)]
     pub fn release(&mut self, way: Way, place: u64) -> bool
         ensures taken { result ≡ on_way (λ l. is_taken l place) false self.old.ports way }
         ensures released { self.new

@@ -1,5 +1,5 @@
 //! Callers, proved only from the clauses.
-ghost use Rattle.std.specs.Prelude.{◌≡◌, ℕ, IfOk, None, Some, true, false};
+ghost use Rattle.std.specs.Prelude.{◌≡◌, IfOk, Some, true, false};
 ghost use Rattle.iox_model.specs.declared.kind.Role.TheVariants.{Client, Server};
 ghost use Rattle.iox_model.specs.declared.way.RequestState.TheVariants.{Closed, Named};
 ghost use Rattle.iox_tables.specs.Visits.TheVariants.{Got};

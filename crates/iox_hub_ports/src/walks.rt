@@ -1,5 +1,5 @@
 //! Steps on the lanes and request states of ways, and walks over the ports of one role.
-ghost use Rattle.std.specs.Prelude.{◌≡◌, ◌<◌, IfSome, List, None, Some, false, length, true, ℕ};
+ghost use Rattle.std.specs.Prelude.{◌≡◌, ◌<◌, IfSome, false, length, true};
 ghost use Rattle.std.specs.Vec.{vec_capacity};
 ghost use Rattle.iox_model.specs.Maps.{AreDistinct};
 ghost use Rattle.iox_model.specs.Settings.{same_role};

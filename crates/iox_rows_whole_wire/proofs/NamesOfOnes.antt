@@ -1,13 +1,12 @@
 -- A plan of ones whose nodes and ports are not named well.
 use Rattle.std.specs.Prelude.{IsSomeAnd, slice_get}
 use Rattle.std.specs.List.{All}
-use Rattle.std.proofs.Common.{◌≡◌, ℕ, ◌<◌, Bool, true, List, [], ◌∷◌, Option, Some, None, subst, sym, arith, true≢false}
+use Rattle.std.proofs.Common.{◌≡◌, ℕ, ◌<◌, Bool, true, List, [], ◌∷◌, Option, Some, None, sym, arith, true≢false}
 use Rattle.std.proofs.lemmas.List.Elements.{All-head, All-same, All-tail}
 use Rattle.iox_model.specs.Maps.{has_number}
 use Rattle.iox_word_places.specs.declared.plan.PlanPort.{PlanPort}
 use Rattle.iox_word_places.specs.declared.plan.WirePlan.{WirePlan}
 use Rattle.iox_wire_lenders.specs.Terms.{IsWholePort}
-use Rattle.iox_wire_lenders.specs.declared.terms.PortTerms.{PortTerms}
 use Rattle.iox_wire_lenders.specs.declared.terms.WireTerms.{WireTerms}
 use Rattle.iox_wire.specs.NewRefusals.{AreNamed}
 use Rattle.iox_wire.specs.Wires.{AreWhole}

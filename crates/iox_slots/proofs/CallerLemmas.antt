@@ -1,6 +1,6 @@
 -- What callers may cite: how many have each slot after a change, what else is in it, and that calls
 -- that hold and let go change only holders.
-use Rattle.std.specs.Prelude.{◌≡◌, ◌<◌, ℕ, ◌+◌, ◌-◌, zero, suc, Bool, true, false, ◌&&◌, if◌then◌else◌, ◌==◌, nat_lt, List, length, Option, Some, None, slice_get, refl}
+use Rattle.std.specs.Prelude.{◌≡◌, ◌<◌, ℕ, ◌+◌, ◌-◌, zero, suc, Bool, true, false, ◌&&◌, if◌then◌else◌, ◌==◌, nat_lt, List, [], length, Option, Some, None, option_map, slice_get, slice_set, refl}
 use Rattle.std.specs.Option.{option_map_or}
 use Rattle.std.proofs.Common.{sym, ap, ◌∙◌, arith, eqb-true, true≢false}
 use Rattle.std.proofs.lemmas.Bool.{eq-eqb, lt-ltb}
@@ -9,7 +9,8 @@ use Rattle.iox_tables.specs.Label.{Label}
 use Rattle.iox_tables.specs.HubStates.Ends.{DifferInHolders}
 use Rattle.iox_tables.specs.HubStates.Tables.{PoolState, SlotState, labels_of, no_slot, slot_at, slots_of, is_free}
 use Rattle.iox_slots.specs.FreeLists.{has_free_slot}
-use Rattle.iox_slots.specs.Pools.{Acquires, has_slot, with_slot}
+use Rattle.iox_tables.specs.HubLoans.Slots.{put_slot, put_slot_of}
+use Rattle.iox_slots.specs.Pools.{Acquires, Takes, has_slot, with_pool, with_slot}
 use Rattle.iox_slots.specs.Slots.{held, let_go, slot_in, written}
 use Rattle.iox_slots.proofs.SlotLemmas.{node_ids_stay, owners_stay, port_ids_stay, slot_after}
 
@@ -134,6 +135,26 @@ acquires pools P k free =
       taken = ap (λ (s : SlotState). s.holders) (slot_here held pools P k found.0) ∙ ap (λ (n : ℕ). n + 1) found.1;
       changed = refl;
     }
+
+-- the slot of a pool that is there
+put_is : (pools : List (Option PoolState)) (P k : ℕ) (s : SlotState) → has_free_slot pools P k ≡ true
+    → with_pool (put_slot_of k s) pools P ≡ put_slot pools P k s
+put_is pools P k s free = over (slice_get pools P) free
+  where
+    over : (o : Option (Option PoolState))
+        → option_map_or is_free (slice_get (option_map_or (λ (p : PoolState). p.slots) (option_map_or (λ (q : Option PoolState). q) o None) []) k) false ≡ true
+        → option_map_or (λ (q : Option PoolState). slice_set pools P (option_map (put_slot_of k s) q)) o pools
+        ≡ option_map_or (λ (p : PoolState). slice_set pools P (Some (put_slot_of k s p))) (option_map_or (λ (q : Option PoolState). q) o None) pools
+    over None e = refl
+    over (Some None) e = absurd (true≢false (sym e))
+    over (Some (Some p)) e = refl
+
+-- what is taken was free
+pub takes : (pools : List (Option PoolState)) (P k : ℕ) (s : SlotState) → has_free_slot pools P k ≡ true
+    → Takes pools P k s (with_pool (put_slot_of k s) pools P)
+takes pools P k s free =
+    let found = free_is_there pools P k free in
+    record { there = found.0; free = found.1; changed = put_is pools P k s free }
 
 -- ---- changes only of holders
 

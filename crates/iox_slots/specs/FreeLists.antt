@@ -1,5 +1,5 @@
 -- How a pool lists its free slots.
-use Rattle.std.specs.Prelude.{◌≡◌, ◌≤◌, ℕ, ◌+◌, ◌==◌, Bool, false, if◌then◌else◌, Option, List, [], ◌∷◌, length, nat_lt, slice_get, count_by}
+use Rattle.std.specs.Prelude.{◌≡◌, ◌≤◌, ℕ, Bool, false, if◌then◌else◌, Option, List, length, nat_lt, slice_get, count_by}
 use Rattle.std.specs.Option.{option_map_or}
 use Rattle.iox_tables.specs.HubStates.Tables.{SlotState, PoolState, slots_of, is_free}
 use Rattle.iox_tables.specs.HubBooks.Counts.{how_often}

@@ -3,6 +3,7 @@ use Rattle.std.specs.Prelude.{◌≡◌, ℕ, Bool, true, if◌then◌else◌, �
 use Rattle.std.specs.List.{list_all}
 use Rattle.std.specs.Option.{option_map_or}
 use Rattle.iox_tables.specs.HubStates.Tables.{SlotState, PoolState, slots_of, slot_at, is_free}
+use Rattle.iox_tables.specs.HubLoans.Slots.{put_slot}
 use Rattle.iox_slots.specs.Slots.{is_taken, held, with_slot_of}
 
 -- ---- what there is
@@ -57,6 +58,15 @@ pub record Acquires (old : List (Option PoolState)) (place k : ℕ) (new : List 
   pub free : (slot_at old place k).holders ≡ 0
   pub taken : (slot_at new place k).holders ≡ 1
   pub changed : new ≡ with_slot held old place k
+
+-- There was such a slot that nobody had, and now one has it, with that message. Nothing else
+-- changed.
+pub record Takes
+    (old : List (Option PoolState)) (place k : ℕ) (s : SlotState) (new : List (Option PoolState))
+    : Type 0 where
+  pub there : has_slot old place k ≡ true
+  pub free : (slot_at old place k).holders ≡ 0
+  pub changed : new ≡ put_slot old place k s
 
 -- how many slots the end of a hold frees
 abbrev pub freed_by_one : List (Option PoolState) → ℕ → ℕ → ℕ

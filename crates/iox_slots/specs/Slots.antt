@@ -1,5 +1,5 @@
 -- What happens to one slot, and to one slot of a pool.
-use Rattle.std.specs.Prelude.{ℕ, ◌+◌, ◌-◌, Bool, not, ◌==◌, List, slice_get, slice_set, replicate}
+use Rattle.std.specs.Prelude.{ℕ, ◌+◌, ◌-◌, Bool, not, List, slice_get, slice_set, replicate}
 use Rattle.std.specs.Option.{option_map_or}
 use Rattle.iox_types.specs.declared.identifiers.system_id.UniqueSystemId.{UniqueSystemId}
 use Rattle.iox_tables.specs.HubStates.Tables.{SlotState, PoolState, no_slot, is_free}
@@ -24,6 +24,11 @@ written serial lane request elements s =
       elements = elements;
       holders = s.holders;
     }
+
+-- that message, which one has
+abbrev pub taken : ℕ → ℕ → ℕ → ℕ → SlotState
+taken serial lane request elements =
+    record { serial = serial; lane = lane; request = request; elements = elements; holders = 1 }
 
 -- ---- one pool
 

@@ -2,10 +2,12 @@
 //! others, and what a receiver is told about the message there.
 #![tactic(auto)]
 
+mod left;
 mod place;
 mod pool;
 mod pools;
 mod slot;
 
+pub use left::Left;
 pub use pools::Pools;
 pub use slot::Slot;

@@ -1,8 +1,10 @@
 //! What is in one place: a pool, or nothing.
-ghost use Rattle.std.specs.Prelude.{◌≡◌, ◌<◌, ◌^◌, ◌-◌, ◌↔◌, IfSome, None, [], count_by, false, length, nat_lt, option_map, slice_get, true};
+ghost use Rattle.std.specs.Prelude.{◌≡◌, ◌<◌, ◌^◌, ◌-◌, ◌↔◌, IfSome, IsTrue, None, [], count_by, false, length, nat_lt, option_map, slice_get, true};
 ghost use Rattle.std.specs.Bool.{OnFalse};
+ghost use Rattle.std.specs.List.{list_all};
 ghost use Rattle.std.specs.Option.{option_map_or};
-ghost use Rattle.iox_slots.specs.Slots.{held, is_taken, let_go, slot_in, with_slot_of, written};
+ghost use Rattle.iox_slots.specs.Slots.{held, is_taken, let_go, slot_in, taken, with_slot_of, written};
+ghost use Rattle.iox_tables.specs.HubLoans.Slots.{put_slot_of};
 ghost use Rattle.iox_tables.specs.HubStates.Tables.{is_free};
 
 use crate::pool::Pool;
@@ -80,6 +82,41 @@ pub fn acquire_in(pool: &mut Option<Pool>) -> Option<u64>
     match pool {
         Some(pool) => pool.acquire(),
         None => None,
+    }
+}
+
+/// The same, with that message.
+#[inline(always)]
+pub fn take_in(
+    pool: &mut Option<Pool>,
+    serial: u64,
+    lane: u64,
+    request: u64,
+    elements: u64,
+) -> Option<u64>
+    ensures free { IfSome result (λ k.
+        option_map_or is_free (slice_get (option_map_or (λ p. p.slots) pool.old []) k) false
+        ≡ true) }
+    ensures taken { IfSome result (λ k. pool.new
+        ≡ option_map (λ p. put_slot_of k (taken serial lane request elements) p) pool.old) }
+    ensures full { result ≡ None ↔ count_by is_free (option_map_or (λ p. p.slots) pool.old []) ≡ 0 }
+    ensures unchanged { result ≡ None → pool.new ≡ pool.old }
+{
+    match pool {
+        Some(pool) => pool.take(serial, lane, request, elements),
+        None => None,
+    }
+}
+
+/// Whether nobody has any slot of a pool that is there.
+#[inline(always)]
+pub fn is_untouched(pool: &Option<Pool>) -> bool
+    ensures { IsTrue result
+        → list_all is_free (option_map_or (λ p. p.slots) pool.now []) ≡ true }
+{
+    match pool {
+        Some(pool) => pool.free_len() == pool.len(),
+        None => false,
     }
 }
 

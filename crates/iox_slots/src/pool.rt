@@ -4,7 +4,8 @@ ghost use Rattle.std.specs.Bool.{OnFalse};
 ghost use Rattle.std.specs.Option.{option_map_or};
 ghost use Rattle.std.specs.Vec.{vec_capacity};
 ghost use Rattle.iox_slots.specs.FreeLists.{AreNumbersBelow};
-ghost use Rattle.iox_slots.specs.Slots.{held, is_taken, let_go, new_pool, slot_in, with_slot_of, written};
+ghost use Rattle.iox_slots.specs.Slots.{held, is_taken, let_go, new_pool, slot_in, taken, with_slot_of, written};
+ghost use Rattle.iox_tables.specs.HubLoans.Slots.{put_slot_of};
 ghost use Rattle.iox_tables.specs.HubStates.Tables.{is_free};
 
 use crate::slot::Slot;
@@ -192,6 +193,25 @@ impl Pool {
             Some(k) => {
                 let place = k as usize;
                 self.slots[place] = self.slots[place].held();
+                Some(k)
+            }
+            None => None,
+        }
+    }
+
+    /// The same, with that message.
+    #[inline(always)]
+    pub fn take(&mut self, serial: u64, lane: u64, request: u64, elements: u64) -> Option<u64>
+        ensures taken { IfSome result (λ k.
+            (option_map_or is_free (slice_get self.old.slots k) false ≡ true)
+            × (self.new ≡ put_slot_of k (taken serial lane request elements) self.old)) }
+        ensures full { result ≡ None ↔ count_by is_free self.old.slots ≡ 0 }
+        ensures unchanged { result ≡ None → self.new ≡ self.old }
+    {
+        match self.free.pop() {
+            Some(k) => {
+                let place = k as usize;
+                self.slots[place] = Slot::taken(serial, lane, request, elements);
                 Some(k)
             }
             None => None,

@@ -1,18 +1,22 @@
 //! The pools of a hub, by place.
-ghost use Rattle.std.specs.Prelude.{◌≡◌, ◌<◌, ◌^◌, ◌-◌, ◌+◌, ◌↔◌, ℕ, IfOk, IfSome, None, OnErr, OnOk};
+ghost use Rattle.std.specs.Prelude.{◌≡◌, ◌<◌, ◌^◌, ◌-◌, ◌+◌, ◌↔◌, ℕ, IfOk, IfSome, IsSome, IsTrue, None, OnErr, OnOk};
 ghost use Rattle.std.specs.Prelude.{Some, [], count_by, false, length, nat_lt, option_map, position, is_none, slice_get, true};
 ghost use Rattle.std.specs.List.{list_all};
 ghost use Rattle.std.specs.Bool.{OnFalse};
 ghost use Rattle.std.specs.Option.{option_map_or};
 ghost use Rattle.iox_tables.specs.HubStates.States.{no_id, node_id_of, port_id_of};
 ghost use Rattle.iox_tables.specs.HubStates.Tables.{labels_of, owner_of, pool_at, slot_at, slots_of, is_free};
+ghost use Rattle.iox_tables.specs.HubLoans.Slots.{put_slot_of};
 ghost use Rattle.iox_slots.specs.FreeLists.{has_free_slot};
 ghost use Rattle.iox_slots.specs.Pools.{Acquires, free_count, freed_by_one, has_slot, is_idle};
-ghost use Rattle.iox_slots.specs.Pools.{is_taken_at, place_for_one, with_one_more, with_slot, without_pool};
-ghost use Rattle.iox_slots.specs.Slots.{held, is_taken, let_go, new_pool, slot_in, with_slot_of, written};
+ghost use Rattle.iox_slots.specs.Pools.{is_taken_at, place_for_one, with_one_more, with_pool, with_slot, without_pool, Takes};
+ghost use Rattle.iox_slots.specs.Slots.{held, is_taken, let_go, new_pool, slot_in, taken, with_slot_of, written};
+
+mod leaving;
 
 use crate::place::{
-    acquire_in, free_len_of, hold_in, ids_of, len_of, let_go_in, port_of, slot_of, write_in,
+    acquire_in, free_len_of, hold_in, ids_of, is_untouched, len_of, let_go_in, port_of, slot_of,
+    take_in, write_in,
 };
 use crate::pool::Pool;
 use crate::slot::Slot;
@@ -110,6 +114,80 @@ impl Pools {
             Some(slot) => Some(slot),
             None => None,
         }
+    }
+
+    #[inline(always)]
+    fn take_at(
+        &mut self,
+        place: usize,
+        serial: u64,
+        lane: u64,
+        request: u64,
+        elements: u64,
+    ) -> Option<u64>
+        ensures free { IfSome result (λ k. has_free_slot self.old place k ≡ true) }
+        ensures taken { IfSome result (λ k. self.new
+            ≡ with_pool (put_slot_of k (taken serial lane request elements)) self.old place) }
+        ensures full { result ≡ None ↔ free_count self.old place ≡ 0 }
+        ensures unchanged { result ≡ None → self.new ≡ self.old }
+    {
+        if place < self.pools.len() {
+            return take_in(&mut self.pools[place], serial, lane, request, elements);
+        }
+        None
+    }
+
+    /// The same, with that message.
+    #[inline(always)]
+    pub fn take(
+        &mut self,
+        place: usize,
+        serial: u64,
+        lane: u64,
+        request: u64,
+        elements: u64,
+    ) -> Option<u64>
+        ensures taken { IfSome result (λ k.
+            Takes self.old place k (taken serial lane request elements) self.new) }
+        ensures full { result ≡ None ↔ free_count self.old place ≡ 0 }
+        ensures unchanged { result ≡ None → self.new ≡ self.old }
+    {
+        match self.take_at(place, serial, lane, request, elements) {
+            Some(slot) => Some(slot),
+            None => None,
+        }
+    }
+
+    /// The same, where nobody has any slot of the pool.
+    #[inline(always)]
+    pub fn take_first(
+        &mut self,
+        place: usize,
+        serial: u64,
+        lane: u64,
+        request: u64,
+        elements: u64,
+    ) -> Option<u64>
+        ensures idle { IsSome result → is_idle self.old place ≡ true }
+        ensures taken { IfSome result (λ k.
+            Takes self.old place k (taken serial lane request elements) self.new) }
+        ensures unchanged { result ≡ None → self.new ≡ self.old }
+    {
+        if self.is_untouched_at(place) {
+            return self.take(place, serial, lane, request, elements);
+        }
+        None
+    }
+
+    /// Whether there is a pool in this place, and nobody has any slot of it.
+    #[inline(always)]
+    fn is_untouched_at(&self, place: usize) -> bool
+        ensures { IsTrue result → is_idle self.now place ≡ true }
+    {
+        if place < self.pools.len() {
+            return is_untouched(&self.pools[place]);
+        }
+        false
     }
 
     #[inline]

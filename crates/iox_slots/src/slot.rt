@@ -1,7 +1,7 @@
 //! A message in its place of a pool, but for its words.
 ghost use Rattle.std.specs.Prelude.{◌≡◌, ◌<◌, ◌^◌, ◌-◌};
 ghost use Rattle.iox_tables.specs.HubStates.Tables.{no_slot, is_free};
-ghost use Rattle.iox_slots.specs.Slots.{held, let_go, written};
+ghost use Rattle.iox_slots.specs.Slots.{held, let_go, taken, written};
 
 use std::marker::Model;
 
@@ -120,6 +120,20 @@ impl Slot {
         let mut slot = self;
         slot.holders = slot.holders.saturating_sub(1);
         slot
+    }
+
+    /// A slot with that message, which one has.
+    #[inline]
+    pub(crate) fn taken(serial: u64, lane: u64, request: u64, elements: u64) -> Slot
+        ensures { result ≡ taken serial lane request elements }
+    {
+        Slot {
+            serial,
+            lane,
+            request,
+            elements,
+            holders: 1,
+        }
     }
 
     /// The slot with another message. Who has the slot still has it.

@@ -37,6 +37,7 @@ impl Ports {
     }
 
     /// Whether as many messages wait on the way as may.
+    #[inline(always)]
     pub fn is_full(&self, way: Way) -> bool
         ensures full { result ≡ on_way is_full true self.now.ports way }
         ensures sound { (l : LaneState) → lane_on self.now.ports way ≡ Some l → IsSound l }

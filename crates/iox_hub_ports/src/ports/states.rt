@@ -34,6 +34,7 @@ impl Ports {
     }
 
     /// Closes the request on the way, if it is the open one.
+    #[inline(always)]
     pub fn close(&mut self, way: Way, id: u64)
         ensures { self.new
             ≡ with_ports self.old (with_state_on (λ r. closed_for r id) self.old.ports way) }

@@ -1,4 +1,4 @@
-use Rattle.std.proofs.Common.{◌≡◌, ◌-◌, ℕ, ap, arith, length, sym, true≢false, ◌∙◌}
+use Rattle.std.proofs.Common.{◌-◌, ℕ, ap, arith, length, sym, true≢false, ◌∙◌}
 use Rattle.std.specs.Prelude.{slice_get}
 use Rattle.iox_tables.specs.HubStates.Tables.{slots_of}
 use Rattle.iox_tables.specs.HubLending.Emptying.{returned_on}

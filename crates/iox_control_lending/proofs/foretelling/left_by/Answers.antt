@@ -1,4 +1,4 @@
-use Rattle.std.proofs.Common.{◌≡◌, ◌-◌, ◌∙◌, ap, arith, sym}
+use Rattle.std.proofs.Common.{◌≡◌, ◌∙◌, arith, sym}
 use Rattle.iox_control_lending.proofs.Foretold.{lane_more, lanes_alike, lanes_all, times_are, width_is}
 use Rattle.iox_control_lending.proofs.foretelling.left_by.Goals as goal
 

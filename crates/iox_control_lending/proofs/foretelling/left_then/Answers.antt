@@ -1,4 +1,4 @@
-use Rattle.std.proofs.Common.{◌≡◌, ◌∙◌, ap, arith, length, subst, sym}
+use Rattle.std.proofs.Common.{◌∙◌, ap, arith, length, subst, sym}
 use Rattle.iox_model.specs.Maps.{AreDistinct}
 use Rattle.iox_tables.specs.HubStates.Tables.{numbers_of}
 use Rattle.iox_hub_ports.specs.Ports.{info_at}

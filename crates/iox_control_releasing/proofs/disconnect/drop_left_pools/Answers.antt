@@ -1,4 +1,4 @@
-use Rattle.std.proofs.Common.{refl, sym, ap, ◌∙◌, arith, length}
+use Rattle.std.proofs.Common.{sym, ap, ◌∙◌, arith, length}
 use Rattle.iox_control.specs.Controls.{ControlState}
 use Rattle.iox_control_releasing.proofs.Sweeping.{same_size, sweeps_all, sweeps_begin, sweeps_more}
 use Rattle.iox_control_releasing.proofs.disconnect.drop_left_pools.Goals as goal

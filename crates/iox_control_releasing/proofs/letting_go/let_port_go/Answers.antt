@@ -1,4 +1,4 @@
-use Rattle.std.proofs.Common.{sym, ap, ap₂, ◌∙◌, ◌+◌}
+use Rattle.std.proofs.Common.{sym, ap₂, ◌∙◌, ◌+◌}
 use Rattle.iox_lanes.specs.Incomings.{IncomingState}
 use Rattle.iox_tables.specs.HubBooks.Counts.{in_pipe, lane_count, total}
 use Rattle.iox_control_releasing.proofs.Settling.{both_go, counts_as, pools_again}

@@ -3,7 +3,7 @@ use Rattle.iox_lanes.specs.declared.wanted.Label.{Label}
 use Rattle.iox_model.specs.Messages.{response_way}
 use Rattle.iox_control.specs.Controls.{ControlState}
 use Rattle.iox_control_responses.specs.declared.responded.Responded.TheVariants.{Done, Undelivered}
-use Rattle.iox_control_responses.proofs.Offered.{fails_to_send, found_then, goes_to_nobody, in_line_keeps, is_in_line, left_for, loan_counted, loan_then, nobody_waits, of_pool, whole_for}
+use Rattle.iox_control_responses.proofs.Offered.{fails_to_send, found_then, goes_to_nobody, in_line_keeps, is_in_line, left_for, loan_counted, loan_then, nobody_waits, of_pool, only_loan, whole_for}
 use Rattle.iox_control_responses.proofs.offering.offer_response.Goals as goal
 
 pub returns-then-not-is_awaited_under-clause-pools : goal.returns-then-not-is_awaited_under-clause-pools
@@ -36,12 +36,19 @@ returns-then-not-is_awaited_under-clause-whole c =
     c.is_shut-shut.result c.is_shut-shut.ensures.shut c.is_shut-shut.ensures.sound
     c.count.new.control (ap (λ (d : ControlState). d.tables.handles) c.count.ensures.counted))))
 
-pub retrieve-requires-clause-pool : goal.retrieve-requires-clause-pool
-retrieve-requires-clause-pool c =
+pub retrieve_unless-requires-clause-pool : goal.retrieve_unless-requires-clause-pool
+retrieve_unless-requires-clause-pool c =
     of_pool c.args.control.now c.args.node c.args.number c.requires.order c.requires.calls c.requires.response c.requires.order.buffers.responses c.args.entry c.requires.entry c.args.fails
     (response_way c.args.entry.client c.label-label.result.lane c.args.entry.port)
     (ap (λ (l : Label). response_way c.args.entry.client l.lane c.args.entry.port) c.label-label.ensures)
     c.is_shut-shut.result c.is_shut-shut.ensures.shut c.is_shut-shut.ensures.sound
+
+pub retrieve_unless-requires-clause-alone : goal.retrieve_unless-requires-clause-alone
+retrieve_unless-requires-clause-alone c alone =
+    only_loan c.args.control.now c.args.node c.args.number c.requires.order c.requires.calls c.requires.response c.requires.order.buffers.responses c.args.entry c.requires.entry c.args.fails
+    (response_way c.args.entry.client c.label-label.result.lane c.args.entry.port)
+    (ap (λ (l : Label). response_way c.args.entry.client l.lane c.args.entry.port) c.label-label.ensures)
+    c.is_shut-shut.result c.is_shut-shut.ensures.shut c.is_shut-shut.ensures.sound (sym c.has_one_out-alone.ensures ∙ alone)
 
 pub hand_over-requires-clause-loan : goal.hand_over-requires-clause-loan
 hand_over-requires-clause-loan c =
@@ -49,7 +56,7 @@ hand_over-requires-clause-loan c =
     (response_way c.args.entry.client c.label-label.result.lane c.args.entry.port)
     (ap (λ (l : Label). response_way c.args.entry.client l.lane c.args.entry.port) c.label-label.ensures)
     c.is_shut-shut.result c.is_shut-shut.ensures.shut c.is_shut-shut.ensures.sound
-    (sym c.is_awaited_under.ensures ∙ c.if-not-is_awaited_under.false) c.retrieve.new.control c.retrieve.ensures.order c.retrieve.ensures.left c.retrieve.ensures.fewer.same
+    (sym c.is_awaited_under.ensures ∙ c.if-not-is_awaited_under.false) c.retrieve_unless.new.control c.retrieve_unless.ensures.order c.retrieve_unless.ensures.left c.retrieve_unless.ensures.fewer.same
 
 pub returns-then-not-shut-clause-pools : goal.returns-then-not-shut-clause-pools
 returns-then-not-shut-clause-pools c =
@@ -57,7 +64,7 @@ returns-then-not-shut-clause-pools c =
     (response_way c.args.entry.client c.label-label.result.lane c.args.entry.port)
     (ap (λ (l : Label). response_way c.args.entry.client l.lane c.args.entry.port) c.label-label.ensures)
     c.is_shut-shut.result c.is_shut-shut.ensures.shut c.is_shut-shut.ensures.sound
-    (sym c.is_awaited_under.ensures ∙ c.if-not-is_awaited_under.false) c.retrieve.new.control c.retrieve.ensures.order c.retrieve.ensures.left c.retrieve.ensures.fewer.same c.if-not-shut.true c.hand_over.new.control c.hand_over.ensures).same
+    (sym c.is_awaited_under.ensures ∙ c.if-not-is_awaited_under.false) c.retrieve_unless.new.control c.retrieve_unless.ensures.order c.retrieve_unless.ensures.left c.retrieve_unless.ensures.fewer.same c.if-not-shut.true c.hand_over.new.control c.hand_over.ensures).same
 
 pub returns-then-not-shut-clause-whole : goal.returns-then-not-shut-clause-whole
 returns-then-not-shut-clause-whole c =
@@ -69,7 +76,7 @@ returns-then-not-shut-clause-whole c =
     (response_way c.args.entry.client c.label-label.result.lane c.args.entry.port)
     (ap (λ (l : Label). response_way c.args.entry.client l.lane c.args.entry.port) c.label-label.ensures)
     c.is_shut-shut.result c.is_shut-shut.ensures.shut c.is_shut-shut.ensures.sound
-    (sym c.is_awaited_under.ensures ∙ c.if-not-is_awaited_under.false) c.retrieve.new.control c.retrieve.ensures.order c.retrieve.ensures.left c.retrieve.ensures.fewer.same c.if-not-shut.true c.hand_over.new.control c.hand_over.ensures)
+    (sym c.is_awaited_under.ensures ∙ c.if-not-is_awaited_under.false) c.retrieve_unless.new.control c.retrieve_unless.ensures.order c.retrieve_unless.ensures.left c.retrieve_unless.ensures.fewer.same c.if-not-shut.true c.hand_over.new.control c.hand_over.ensures)
 
 pub returns-then-not-shut-clause-left : goal.returns-then-not-shut-clause-left
 returns-then-not-shut-clause-left c =
@@ -81,7 +88,7 @@ returns-then-not-shut-clause-left c =
     (response_way c.args.entry.client c.label-label.result.lane c.args.entry.port)
     (ap (λ (l : Label). response_way c.args.entry.client l.lane c.args.entry.port) c.label-label.ensures)
     c.is_shut-shut.result c.is_shut-shut.ensures.shut c.is_shut-shut.ensures.sound
-    (sym c.is_awaited_under.ensures ∙ c.if-not-is_awaited_under.false) c.retrieve.new.control c.retrieve.ensures.order c.retrieve.ensures.left c.retrieve.ensures.fewer.same c.if-not-shut.true c.hand_over.new.control c.hand_over.ensures)
+    (sym c.is_awaited_under.ensures ∙ c.if-not-is_awaited_under.false) c.retrieve_unless.new.control c.retrieve_unless.ensures.order c.retrieve_unless.ensures.left c.retrieve_unless.ensures.fewer.same c.if-not-shut.true c.hand_over.new.control c.hand_over.ensures)
 
 pub returns-then-not-shut-clause-order : goal.returns-then-not-shut-clause-order
 returns-then-not-shut-clause-order c =
@@ -89,7 +96,7 @@ returns-then-not-shut-clause-order c =
     (response_way c.args.entry.client c.label-label.result.lane c.args.entry.port)
     (ap (λ (l : Label). response_way c.args.entry.client l.lane c.args.entry.port) c.label-label.ensures)
     c.is_shut-shut.result c.is_shut-shut.ensures.shut c.is_shut-shut.ensures.sound
-    (sym c.is_awaited_under.ensures ∙ c.if-not-is_awaited_under.false) c.retrieve.new.control c.retrieve.ensures.order c.retrieve.ensures.left c.retrieve.ensures.fewer.same c.if-not-shut.true c.hand_over.new.control c.hand_over.ensures
+    (sym c.is_awaited_under.ensures ∙ c.if-not-is_awaited_under.false) c.retrieve_unless.new.control c.retrieve_unless.ensures.order c.retrieve_unless.ensures.left c.retrieve_unless.ensures.fewer.same c.if-not-shut.true c.hand_over.new.control c.hand_over.ensures
 
 pub end_loan-requires-then-fails-clause-loan : goal.end_loan-requires-then-fails-clause-loan
 end_loan-requires-then-fails-clause-loan c =
@@ -97,7 +104,7 @@ end_loan-requires-then-fails-clause-loan c =
     (response_way c.args.entry.client c.label-label.result.lane c.args.entry.port)
     (ap (λ (l : Label). response_way c.args.entry.client l.lane c.args.entry.port) c.label-label.ensures)
     c.is_shut-shut.result c.is_shut-shut.ensures.shut c.is_shut-shut.ensures.sound
-    (sym c.is_awaited_under.ensures ∙ c.if-not-is_awaited_under.false) c.retrieve.new.control c.retrieve.ensures.order c.retrieve.ensures.left c.retrieve.ensures.fewer.same
+    (sym c.is_awaited_under.ensures ∙ c.if-not-is_awaited_under.false) c.retrieve_unless.new.control c.retrieve_unless.ensures.order c.retrieve_unless.ensures.left c.retrieve_unless.ensures.fewer.same
 
 pub returns-then-fails-clause-pools : goal.returns-then-fails-clause-pools
 returns-then-fails-clause-pools c =
@@ -105,12 +112,12 @@ returns-then-fails-clause-pools c =
     (response_way c.args.entry.client c.label-label.result.lane c.args.entry.port)
     (ap (λ (l : Label). response_way c.args.entry.client l.lane c.args.entry.port) c.label-label.ensures)
     c.is_shut-shut.result c.is_shut-shut.ensures.shut c.is_shut-shut.ensures.sound
-    (sym c.is_awaited_under.ensures ∙ c.if-not-is_awaited_under.false) c.retrieve.new.control c.retrieve.ensures.order c.retrieve.ensures.left c.retrieve.ensures.fewer.same c.if-not-shut.false c.if-fails.true c.end_loan-then-fails.new.control
+    (sym c.is_awaited_under.ensures ∙ c.if-not-is_awaited_under.false) c.retrieve_unless.new.control c.retrieve_unless.ensures.order c.retrieve_unless.ensures.left c.retrieve_unless.ensures.fewer.same c.if-not-shut.false c.if-fails.true c.end_loan-then-fails.new.control
     (c.end_loan-then-fails.ensures.ended _ (found_then c.args.control.now c.args.node c.args.number c.requires.order c.requires.calls c.requires.response c.requires.order.buffers.responses c.args.entry c.requires.entry c.args.fails
     (response_way c.args.entry.client c.label-label.result.lane c.args.entry.port)
     (ap (λ (l : Label). response_way c.args.entry.client l.lane c.args.entry.port) c.label-label.ensures)
     c.is_shut-shut.result c.is_shut-shut.ensures.shut c.is_shut-shut.ensures.sound
-    c.retrieve.new.control (ap (λ (d : ControlState). d.tables.handles) c.retrieve.ensures.left)))).same
+    c.retrieve_unless.new.control (ap (λ (d : ControlState). d.tables.handles) c.retrieve_unless.ensures.left)))).same
 
 pub returns-then-fails-clause-whole : goal.returns-then-fails-clause-whole
 returns-then-fails-clause-whole c =
@@ -122,12 +129,12 @@ returns-then-fails-clause-whole c =
     (response_way c.args.entry.client c.label-label.result.lane c.args.entry.port)
     (ap (λ (l : Label). response_way c.args.entry.client l.lane c.args.entry.port) c.label-label.ensures)
     c.is_shut-shut.result c.is_shut-shut.ensures.shut c.is_shut-shut.ensures.sound
-    (sym c.is_awaited_under.ensures ∙ c.if-not-is_awaited_under.false) c.retrieve.new.control c.retrieve.ensures.order c.retrieve.ensures.left c.retrieve.ensures.fewer.same c.if-not-shut.false c.if-fails.true c.end_loan-then-fails.new.control
+    (sym c.is_awaited_under.ensures ∙ c.if-not-is_awaited_under.false) c.retrieve_unless.new.control c.retrieve_unless.ensures.order c.retrieve_unless.ensures.left c.retrieve_unless.ensures.fewer.same c.if-not-shut.false c.if-fails.true c.end_loan-then-fails.new.control
     (c.end_loan-then-fails.ensures.ended _ (found_then c.args.control.now c.args.node c.args.number c.requires.order c.requires.calls c.requires.response c.requires.order.buffers.responses c.args.entry c.requires.entry c.args.fails
     (response_way c.args.entry.client c.label-label.result.lane c.args.entry.port)
     (ap (λ (l : Label). response_way c.args.entry.client l.lane c.args.entry.port) c.label-label.ensures)
     c.is_shut-shut.result c.is_shut-shut.ensures.shut c.is_shut-shut.ensures.sound
-    c.retrieve.new.control (ap (λ (d : ControlState). d.tables.handles) c.retrieve.ensures.left))))
+    c.retrieve_unless.new.control (ap (λ (d : ControlState). d.tables.handles) c.retrieve_unless.ensures.left))))
 
 pub end_loan-requires-2-clause-loan : goal.end_loan-requires-2-clause-loan
 end_loan-requires-2-clause-loan c =
@@ -135,11 +142,11 @@ end_loan-requires-2-clause-loan c =
     (response_way c.args.entry.client c.label-label.result.lane c.args.entry.port)
     (ap (λ (l : Label). response_way c.args.entry.client l.lane c.args.entry.port) c.label-label.ensures)
     c.is_shut-shut.result c.is_shut-shut.ensures.shut c.is_shut-shut.ensures.sound
-    c.retrieve.new.control c.count-2.new.control c.count-2.ensures.counted (loan_then c.args.control.now c.args.node c.args.number c.requires.order c.requires.calls c.requires.response c.requires.order.buffers.responses c.args.entry c.requires.entry c.args.fails
+    c.retrieve_unless.new.control c.count-2.new.control c.count-2.ensures.counted (loan_then c.args.control.now c.args.node c.args.number c.requires.order c.requires.calls c.requires.response c.requires.order.buffers.responses c.args.entry c.requires.entry c.args.fails
     (response_way c.args.entry.client c.label-label.result.lane c.args.entry.port)
     (ap (λ (l : Label). response_way c.args.entry.client l.lane c.args.entry.port) c.label-label.ensures)
     c.is_shut-shut.result c.is_shut-shut.ensures.shut c.is_shut-shut.ensures.sound
-    (sym c.is_awaited_under.ensures ∙ c.if-not-is_awaited_under.false) c.retrieve.new.control c.retrieve.ensures.order c.retrieve.ensures.left c.retrieve.ensures.fewer.same)
+    (sym c.is_awaited_under.ensures ∙ c.if-not-is_awaited_under.false) c.retrieve_unless.new.control c.retrieve_unless.ensures.order c.retrieve_unless.ensures.left c.retrieve_unless.ensures.fewer.same)
 
 pub returns-clause-pools : goal.returns-clause-pools
 returns-clause-pools c =
@@ -147,12 +154,12 @@ returns-clause-pools c =
     (response_way c.args.entry.client c.label-label.result.lane c.args.entry.port)
     (ap (λ (l : Label). response_way c.args.entry.client l.lane c.args.entry.port) c.label-label.ensures)
     c.is_shut-shut.result c.is_shut-shut.ensures.shut c.is_shut-shut.ensures.sound
-    (sym c.is_awaited_under.ensures ∙ c.if-not-is_awaited_under.false) c.retrieve.new.control c.retrieve.ensures.order c.retrieve.ensures.left c.retrieve.ensures.fewer.same c.if-not-shut.false c.if-fails.false c.count-2.new.control c.end_loan-2.new.control c.count-2.ensures.counted
+    (sym c.is_awaited_under.ensures ∙ c.if-not-is_awaited_under.false) c.retrieve_unless.new.control c.retrieve_unless.ensures.order c.retrieve_unless.ensures.left c.retrieve_unless.ensures.fewer.same c.if-not-shut.false c.if-fails.false c.count-2.new.control c.end_loan-2.new.control c.count-2.ensures.counted
     (c.end_loan-2.ensures.ended _ (found_then c.args.control.now c.args.node c.args.number c.requires.order c.requires.calls c.requires.response c.requires.order.buffers.responses c.args.entry c.requires.entry c.args.fails
     (response_way c.args.entry.client c.label-label.result.lane c.args.entry.port)
     (ap (λ (l : Label). response_way c.args.entry.client l.lane c.args.entry.port) c.label-label.ensures)
     c.is_shut-shut.result c.is_shut-shut.ensures.shut c.is_shut-shut.ensures.sound
-    c.count-2.new.control (ap (λ (d : ControlState). d.tables.handles) c.count-2.ensures.counted ∙ ap (λ (d : ControlState). d.tables.handles) c.retrieve.ensures.left)))).same
+    c.count-2.new.control (ap (λ (d : ControlState). d.tables.handles) c.count-2.ensures.counted ∙ ap (λ (d : ControlState). d.tables.handles) c.retrieve_unless.ensures.left)))).same
 
 pub returns-clause-whole : goal.returns-clause-whole
 returns-clause-whole c =
@@ -164,9 +171,9 @@ returns-clause-whole c =
     (response_way c.args.entry.client c.label-label.result.lane c.args.entry.port)
     (ap (λ (l : Label). response_way c.args.entry.client l.lane c.args.entry.port) c.label-label.ensures)
     c.is_shut-shut.result c.is_shut-shut.ensures.shut c.is_shut-shut.ensures.sound
-    (sym c.is_awaited_under.ensures ∙ c.if-not-is_awaited_under.false) c.retrieve.new.control c.retrieve.ensures.order c.retrieve.ensures.left c.retrieve.ensures.fewer.same c.if-not-shut.false c.if-fails.false c.count-2.new.control c.end_loan-2.new.control c.count-2.ensures.counted
+    (sym c.is_awaited_under.ensures ∙ c.if-not-is_awaited_under.false) c.retrieve_unless.new.control c.retrieve_unless.ensures.order c.retrieve_unless.ensures.left c.retrieve_unless.ensures.fewer.same c.if-not-shut.false c.if-fails.false c.count-2.new.control c.end_loan-2.new.control c.count-2.ensures.counted
     (c.end_loan-2.ensures.ended _ (found_then c.args.control.now c.args.node c.args.number c.requires.order c.requires.calls c.requires.response c.requires.order.buffers.responses c.args.entry c.requires.entry c.args.fails
     (response_way c.args.entry.client c.label-label.result.lane c.args.entry.port)
     (ap (λ (l : Label). response_way c.args.entry.client l.lane c.args.entry.port) c.label-label.ensures)
     c.is_shut-shut.result c.is_shut-shut.ensures.shut c.is_shut-shut.ensures.sound
-    c.count-2.new.control (ap (λ (d : ControlState). d.tables.handles) c.count-2.ensures.counted ∙ ap (λ (d : ControlState). d.tables.handles) c.retrieve.ensures.left))))
+    c.count-2.new.control (ap (λ (d : ControlState). d.tables.handles) c.count-2.ensures.counted ∙ ap (λ (d : ControlState). d.tables.handles) c.retrieve_unless.ensures.left))))

@@ -5,7 +5,7 @@ use Rattle.iox_model.specs.declared.kind.Kind.{Kind}
 use Rattle.iox_handles.specs.declared.entry.Entry.{Entry}
 use Rattle.iox_handles.specs.NodeLists.{IsWhole}
 use Rattle.iox_handles.specs.Places.{handles_in, has_at, in_places}
-use Rattle.iox_handles.specs.Tables.{if_of, of_kind, with_kind}
+use Rattle.iox_handles.specs.Tables.{if_of, of_kind, turned}
 use Rattle.iox_handles.specs.Tallies.{IsTallied}
 use Rattle.iox_handles.proofs.KindLemmas.{handles-kind, set_there, tallied-kind, whole-kind}
 use Rattle.iox_handles.proofs.NodeLemmas.{its_own, of_another}
@@ -17,7 +17,7 @@ use Rattle.iox_handles.proofs.table.Table.change_kind.Goals as goal
 pub returns-in_err-here-clause-told : goal.returns-in_err-here-clause-told
 returns-in_err-here-clause-told g c =
     rw (← c.self.view_is)
-    (c.from_residual.ensures ∙ ap (λ o. option_and_then (with_kind (g.C.KindChange.becomes c.args.change.now)) (option_and_then (if_of c.args.node) o))
+    (c.from_residual.ensures ∙ ap (λ o. option_and_then (turned (g.C.KindChange.becomes c.args.change.now)) (option_and_then (if_of c.args.node) o))
     (sym (c.place_of.ensures.missing c.in_err-here.was)
     ∙ ap (λ (ps : List (Option Entry)). in_places ps c.args.number) c.deref.ensures.value
     ∙ sym (found_is c.self.inside.places.items _ _ _ _ _ c.self.invariant.0.table c.args.number)))
@@ -44,7 +44,7 @@ returns-in_err-old-clause-sound g c =
 pub returns-then-old-node-clause-told : goal.returns-then-old-node-clause-told
 returns-then-old-node-clause-told g c =
     rw (← c.self.view_is)
-    (ap (option_and_then (with_kind (g.C.KindChange.becomes c.args.change.now))) (of_another c.args.node _ c.in_ok-old.old
+    (ap (option_and_then (turned (g.C.KindChange.becomes c.args.change.now))) (of_another c.args.node _ c.in_ok-old.old
     (sym c.in_ok-old.was ∙ read_found c.self.inside.places.items _ _ _ _ _ c.self.invariant.0.table c.args.number c.in_ok-here.here c.index.result.now (subst (λ (ps : List (Option Entry)). has_at c.args.number ps c.in_ok-here.here ≡ true) c.deref.ensures.value c.in_ok-here.ensures.found) c.index.ensures)
     c.if-old-node.true))
 
@@ -56,7 +56,7 @@ pub returns-in_err-kind-clause-told : goal.returns-in_err-kind-clause-told
 returns-in_err-kind-clause-told g c =
     rw (← c.self.view_is)
     (c.from_residual-in_err-kind.ensures ∙ ap (option_map (λ (kind : Kind). of_kind kind c.in_ok-old.old)) (sym c.in_err-kind.was ∙ c.becomes.ensures.kind)
-    ∙ ap (option_and_then (with_kind (g.C.KindChange.becomes c.args.change.now))) (its_own c.args.node _ c.in_ok-old.old
+    ∙ ap (option_and_then (turned (g.C.KindChange.becomes c.args.change.now))) (its_own c.args.node _ c.in_ok-old.old
     (sym c.in_ok-old.was ∙ read_found c.self.inside.places.items _ _ _ _ _ c.self.invariant.0.table c.args.number c.in_ok-here.here c.index.result.now (subst (λ (ps : List (Option Entry)). has_at c.args.number ps c.in_ok-here.here ≡ true) c.deref.ensures.value c.in_ok-here.ensures.found) c.index.ensures)
     c.if-old-node.false))
 
@@ -81,7 +81,7 @@ pub returns-clause-told : goal.returns-clause-told
 returns-clause-told g c =
     rw (← c.self.view_is)
     (ap (option_map (λ (kind : Kind). of_kind kind c.in_ok-old.old)) (sym c.in_ok-kind.was ∙ c.becomes.ensures.kind)
-    ∙ ap (option_and_then (with_kind (g.C.KindChange.becomes c.args.change.now))) (its_own c.args.node _ c.in_ok-old.old
+    ∙ ap (option_and_then (turned (g.C.KindChange.becomes c.args.change.now))) (its_own c.args.node _ c.in_ok-old.old
     (sym c.in_ok-old.was ∙ read_found c.self.inside.places.items _ _ _ _ _ c.self.invariant.0.table c.args.number c.in_ok-here.here c.index.result.now (subst (λ (ps : List (Option Entry)). has_at c.args.number ps c.in_ok-here.here ≡ true) c.deref.ensures.value c.in_ok-here.ensures.found) c.index.ensures)
     c.if-old-node.false))
 

@@ -3,24 +3,24 @@ use Rattle.iox_hub.proofs.GrowingWants.{loan_lacks}
 use Rattle.iox_hub.proofs.Keeping.{all_kept}
 use Rattle.iox_hub.proofs.hub.Hub.lend_request_growing.Goals as goal
 
-pub lend_request_in_room-requires-clause-has : goal.lend_request_in_room-requires-clause-has
-lend_request_in_room-requires-clause-has g c = rw c.room_for_request.ensures.unchanged c.requires.has
+pub lend_request_with-requires-clause-has : goal.lend_request_with-requires-clause-has
+lend_request_with-requires-clause-has g c = rw c.room_for_request.ensures.unchanged c.requires.has
 
-pub lend_request_in_room-requires-clause-room : goal.lend_request_in_room-requires-clause-room
-lend_request_in_room-requires-clause-room g c = rw c.room_for_request.ensures.unchanged c.in-Ok.ensures.room
+pub lend_request_with-requires-clause-room : goal.lend_request_with-requires-clause-room
+lend_request_with-requires-clause-room g c = rw c.room_for_request.ensures.unchanged c.in-Ok.ensures.room
 
-pub lend_request_in_room-requires-clause-default : goal.lend_request_in_room-requires-clause-default
-lend_request_in_room-requires-clause-default g c = rw c.room_for_request.ensures.unchanged c.requires.default
+pub lend_request_with-requires-clause-default : goal.lend_request_with-requires-clause-default
+lend_request_with-requires-clause-default g c = rw c.room_for_request.ensures.unchanged c.requires.default
 
 pub returns-in-Ok : goal.returns-in-Ok
 returns-in-Ok g c =
     rw (← c.room_for_request.ensures.unchanged) (record {
-      left = c.lend_request_in_room.ensures.left;
-      whole = c.lend_request_in_room.ensures.whole;
-      has = c.lend_request_in_room.ensures.has;
-      new = c.lend_request_in_room.ensures.new;
-      keeps = c.lend_request_in_room.ensures.keeps;
-      memory = λ e. absurd (c.lend_request_in_room.ensures.memory e);
+      left = c.lend_request_with.ensures.left;
+      whole = c.lend_request_with.ensures.whole;
+      has = c.lend_request_with.ensures.has;
+      new = c.lend_request_with.ensures.new;
+      keeps = c.lend_request_with.ensures.keeps;
+      memory = λ e. absurd (c.lend_request_with.ensures.memory e);
     })
 
 pub returns-in-Err : goal.returns-in-Err

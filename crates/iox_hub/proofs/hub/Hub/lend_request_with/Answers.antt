@@ -1,0 +1,16 @@
+use Rattle.std.proofs.Common.{sym}
+use Rattle.iox_hub.proofs.CopyingRequests.{client_is_there}
+use Rattle.iox_hub.proofs.GrowingFound.{found_in}
+use Rattle.iox_hub.proofs.LendingNamed.{client_of_hub}
+use Rattle.iox_hub.proofs.hub.Hub.lend_request_with.Goals as goal
+
+pub unreachable-requires : goal.unreachable-requires
+unreachable-requires g c =
+    client_is_there c.self.inside.control.tables c.args.node c.args.client
+    (client_of_hub c.self.invariant c.args.self.now c.self.view_is c.args.node c.args.client c.requires.has)
+    c.ports.result.now.ports c.ports.ensures.ports c.find.result c.find.ensures c.in_default.is
+
+pub lend_request_in_room-requires-clause-said : goal.lend_request_in_room-requires-clause-said
+lend_request_in_room-requires-clause-said g c =
+    rw (← c.self.view_is)
+    (sym (found_in c.ports.result.now.ports c.self.inside.control.tables.ports c.ports.ensures.ports c.args.client c.find.result c.find.ensures c.in-Some.port c.in-Some.is))

@@ -1,5 +1,0 @@
-use Rattle.iox_hub.proofs.StillValues.{same_tells}
-use Rattle.iox_hub.proofs.releasing.is_still.Goals as goal
-
-pub returns-in_default : goal.returns-in_default
-returns-in_default c = same_tells c.args.old c.args.new c.eq.result c.in_default.not-RequestMutUninit c.in_default.not-ResponseMutUninit c.eq.ensures

@@ -1,0 +1,13 @@
+//! What is known of a message that one less has.
+
+use iox_tables::wanted::Label;
+
+/// What is known of a message that one less has.
+#[derive(Clone, Copy, Debug, PartialEq, Eq, Drop)]
+pub struct Left {
+    pub label: Label,
+    /// The port whose pool it is in.
+    pub owner: u64,
+    /// Whether nobody has a message of that pool any more.
+    pub idle: bool,
+}
