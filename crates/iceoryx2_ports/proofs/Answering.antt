@@ -43,6 +43,8 @@ use Rattle.iox_hub_laws.proofs.Moments.{ended_fits, moments_fit}
 use Rattle.iox_hub_laws.proofs.Phases.{sends_fits}
 use Rattle.iox_hub_laws.proofs.Values.{IsHandleOf, value_is_handle}
 use Rattle.iceoryx2_ports.specs.Responses.{ReachesItsAsker, answerer_in}
+use Rattle.iceoryx2_ports.specs.Idling.{BringsOne}
+use Rattle.iceoryx2_ports.proofs.OneSent.{response_brings_one}
 use Rattle.iceoryx2_ports.proofs.Resting.{HaveAsBefore, have_same}
 use Rattle.iceoryx2_ports.proofs.Reaching.{port_connected}
 use Rattle.iceoryx2_ports.proofs.Responding.{reaches_asker}
@@ -176,3 +178,8 @@ module _ (old new : HubState) (after : IsHub new) (node n : ℕ) (has : HasValue
     loan_reaches_asker owner is =
         reaches_asker old new node n loan.handle loan.named.there g.message refl (sends loan.handle loan.named.there (connected owner is))
         (have (connected owner is)) (port_connected old hub node n loan.handle loan.named.there)
+
+    -- For who was idle one message waits at most.
+    pub loan_brings_one : (owner : ℕ) → HasValue old owner (answerer_in old node n) Server → BringsOne old new
+    loan_brings_one owner is =
+        response_brings_one old new g g.message (sends loan.handle loan.named.there (connected owner is)) (have (connected owner is))

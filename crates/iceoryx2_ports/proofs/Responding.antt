@@ -42,8 +42,10 @@ use Rattle.iox_hub_laws.specs.Shown.{handle_of, shown}
 use Rattle.iox_hub_laws.specs.Waiting.{WaitedFor, WaitedForPending, client_in, client_of, server_of}
 use Rattle.iox_hub_laws.proofs.Values.{IsHandleOf, value_is_handle}
 use Rattle.iox_hub_laws.specs.Received.{Received}
+use Rattle.iceoryx2_ports.specs.Idling.{BringsOne}
 use Rattle.iceoryx2_ports.specs.Reaching.{HasRoomForEach, SomeCanCome}
 use Rattle.iceoryx2_ports.specs.Responses.{ReachesAsker, asker_in, asker_of, is_open}
+use Rattle.iceoryx2_ports.proofs.OneSent.{response_brings_one}
 use Rattle.iceoryx2_ports.proofs.Gathering.{Gathers, at_gathers, by_gathers, ended_gathers}
 use Rattle.iceoryx2_ports.proofs.Reaching.{comes_to_wait}
 use Rattle.iceoryx2_ports.proofs.Resting.{HaveAsBefore, have_same, limit_rests, numbered_has}
@@ -153,6 +155,14 @@ copy_reaches_asker old new hub node n k words has copies have =
     reaches_asker old new node n is.handle is.named.there (response_of old is.handle is.port k words) refl
     (copies is.handle is.named.there is.port is.there) have
     (connected_is (given_by (nothing_given old) old) old.control.tables.ports is.handle.port ∙ ap (λ (o : Option PortState). is_some o) is.there)
+
+-- For who was idle one message waits at most once the copy of a response was sent.
+pub response_copy_brings_one : (old new : HubState) → IsHub old → (node n k : ℕ) (words : List ℕ) → HasValue old node n ActiveRequest
+    → CopiesResponse old node n k words new → HaveAsBefore (shown old).fixed (shown new).fixed → BringsOne old new
+response_copy_brings_one old new hub node n k words has copies have =
+    let is : IsActive old.control.tables node n = active_of_hub hub old refl node n has in
+    response_brings_one old new (handle_of old is.handle) (response_of old is.handle is.port k words)
+    (copies is.handle is.named.there is.port is.there) have
 
 -- ---- questions
 

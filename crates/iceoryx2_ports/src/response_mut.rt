@@ -1,6 +1,6 @@
 //! Loaned responses.
 ghost use Rattle.std.specs.Prelude.{◌≡◌, ◌≢◌, ◌∷◌, ◌++◌, ◌↔◌, IfErr, IfOk, IsTrue, OnErr, OnOk};
-ghost use Rattle.std.specs.Prelude.{[], flat_map, length};
+ghost use Rattle.std.specs.Prelude.{ℕ, [], flat_map, length};
 ghost use Rattle.std.specs.Mem.{FitsInMemory};
 ghost use Rattle.iox_model.specs.declared.call.Call.TheVariants as calls;
 ghost use Rattle.iox_model.specs.declared.kind.Kind.TheVariants as kinds;
@@ -19,6 +19,7 @@ ghost use Rattle.iceoryx2_ports.specs.Arrivals.{BringsItsWords};
 ghost use Rattle.iceoryx2_ports.specs.Asking.{AnswersAs};
 ghost use Rattle.iceoryx2_ports.specs.Calls.{HasCallsLeft};
 ghost use Rattle.iceoryx2_ports.specs.Headers.{response_header_of};
+ghost use Rattle.iceoryx2_ports.specs.Idling.{BringsOne};
 ghost use Rattle.iceoryx2_ports.specs.Keeping.{KeepsAsking};
 ghost use Rattle.iceoryx2_ports.specs.Loans.{reply_of_response_send, reply_of_write};
 ghost use Rattle.iceoryx2_ports.specs.Opens.{ClosesNone, KeepsRequests};
@@ -277,6 +278,9 @@ impl<Q: Payload, QH: Words, P: Payload, PH: Words> ResponseMut<Q, QH, P, PH> {
         ensures gone { HasNothing hub.new self.node self.number }
         ensures sent { OnOk result (SendsResponse hub.old self.node self.number hub.new) }
         ensures unsent { OnErr result (BringsNothing hub.old self.node self.number hub.new) }
+        ensures one { OnOk result ((owner : ℕ)
+            → HasValue hub.old owner (answerer_in hub.old self.node self.number) kinds.Server
+            → BringsOne hub.old hub.new) }
         ensures only { BringsItsWords hub.old self.node self.number hub.new }
         ensures from { BringsFrom hub.old (answerer_in hub.old self.node self.number) hub.new }
         ensures reaches { OnOk result

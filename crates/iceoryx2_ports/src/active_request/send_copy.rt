@@ -11,6 +11,7 @@ ghost use Rattle.iox_hub_laws.specs.Keeping.{HaveSameShapes, KeepsAll};
 ghost use Rattle.iox_hub_laws.specs.Lending.{payload_of};
 ghost use Rattle.iox_hub_laws.specs.Sends.{BringsOnly, CopiesResponse, WaitsAsBefore};
 ghost use Rattle.iceoryx2_ports.specs.Copies.{LeavesUnsent, reply_of_response_copy};
+ghost use Rattle.iceoryx2_ports.specs.Idling.{BringsOne};
 ghost use Rattle.iceoryx2_ports.specs.Keeping.{KeepsAsking};
 ghost use Rattle.iceoryx2_ports.specs.Opens.{KeepsRequests};
 ghost use Rattle.iceoryx2_ports.specs.Responses.{ReachesAsker, answerer_in};
@@ -46,6 +47,7 @@ impl<Q: Payload, QH: Words, E: Words, PH: Words> ActiveRequest<Q, QH, One<E>, PH
         ensures reaches { OnOk result
             (ReachesAsker hub.old self.now.node self.now.number hub.new) }
         ensures requests { KeepsRequests hub.old hub.new }
+        ensures one { OnOk result (BringsOne hub.old hub.new) }
         ensures only { BringsOnly hub.old (flat_map E.words (value ∷ [])) hub.new }
         ensures adds { AddsOnly hub.old (flat_map E.words (value ∷ [])) hub.new }
         ensures from { BringsFrom hub.old (answerer_in hub.old self.now.node self.now.number)

@@ -4,7 +4,7 @@ use Rattle.iox_hub_laws.specs.Sends.{BringsOnly}
 use Rattle.iox_model.specs.declared.call.Call.TheVariants.{Send}
 use Rattle.iox_model.specs.declared.kind.Kind.TheVariants.{ResponseMut}
 use Rattle.iox_hub_laws.specs.Responses.{reply_of_send}
-use Rattle.iceoryx2_ports.proofs.Answering.{loan_reaches_asker}
+use Rattle.iceoryx2_ports.proofs.Answering.{loan_brings_one, loan_reaches_asker}
 use Rattle.iceoryx2_ports.proofs.Aside.{loan_asks_as_always}
 use Rattle.iceoryx2_ports.proofs.SentOpen.{send_closes_none}
 use Rattle.iceoryx2_ports.proofs.SameShapes.{same_shapes}
@@ -32,6 +32,11 @@ returns-in-Undelivered-clause-asks g c =
 pub returns-in-Done-clause-reaches : goal.returns-in-Done-clause-reaches
 returns-in-Done-clause-reaches g c =
     loan_reaches_asker c.args.hub.now c.send_response.new.hub c.is_in_order-in-Done.ensures c.args.self.node c.args.self.number c.requires.has
+    c.send_response.ensures.keeps c.is_in_order.ensures c.in-Done.ensures.brings c.in-Done.ensures.whole
+
+pub returns-in-Done-clause-one : goal.returns-in-Done-clause-one
+returns-in-Done-clause-one g c =
+    loan_brings_one c.args.hub.now c.send_response.new.hub c.is_in_order-in-Done.ensures c.args.self.node c.args.self.number c.requires.has
     c.send_response.ensures.keeps c.is_in_order.ensures c.in-Done.ensures.brings c.in-Done.ensures.whole
 
 pub returns-in-Done-clause-requests : goal.returns-in-Done-clause-requests

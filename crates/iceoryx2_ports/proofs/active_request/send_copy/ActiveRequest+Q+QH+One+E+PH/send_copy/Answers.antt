@@ -16,7 +16,7 @@ use Rattle.iceoryx2_ports.specs.declared.errors.SendError.{SendError}
 use Rattle.iceoryx2_ports.specs.Loans.{loan_refusal}
 use Rattle.iceoryx2_ports.proofs.Coming.{copy_adds_only}
 use Rattle.iceoryx2_ports.proofs.Copying.{copy_asks_as_before, response_never_wants, test_is_told, test_leaves}
-use Rattle.iceoryx2_ports.proofs.Responding.{copy_has_as_before, copy_reaches_asker}
+use Rattle.iceoryx2_ports.proofs.Responding.{copy_has_as_before, copy_reaches_asker, response_copy_brings_one}
 use Rattle.iceoryx2_ports.proofs.Telling.{called_as}
 use Rattle.iceoryx2_ports.proofs.Unclosed.{copy_keeps_requests}
 use Rattle.iceoryx2_ports.proofs.SameShapes.{same_shapes}
@@ -47,6 +47,13 @@ returns-in-Undelivered-clause-asks g c =
 pub returns-in-Done-clause-reaches : goal.returns-in-Done-clause-reaches
 returns-in-Done-clause-reaches g c =
     copy_reaches_asker c.args.hub.now c.copy_response.new.hub c.is_in_order.ensures c.args.self.now.node c.args.self.now.number 1
+    (flat_map g.E.Words.words (c.args.value ∷ [])) c.requires.has c.in-Done.ensures.brings
+    (copy_has_as_before (shown c.args.hub.now) (shown c.copy_response.new.hub) c.args.self.now.node c.args.self.now.number
+    (payload_of roles.Server 1 (flat_map g.E.Words.words (c.args.value ∷ []))) (c.in-Done.ensures.whole (nothing_given c.args.hub.now)))
+
+pub returns-in-Done-clause-one : goal.returns-in-Done-clause-one
+returns-in-Done-clause-one g c =
+    response_copy_brings_one c.args.hub.now c.copy_response.new.hub c.is_in_order.ensures c.args.self.now.node c.args.self.now.number 1
     (flat_map g.E.Words.words (c.args.value ∷ [])) c.requires.has c.in-Done.ensures.brings
     (copy_has_as_before (shown c.args.hub.now) (shown c.copy_response.new.hub) c.args.self.now.node c.args.self.now.number
     (payload_of roles.Server 1 (flat_map g.E.Words.words (c.args.value ∷ []))) (c.in-Done.ensures.whole (nothing_given c.args.hub.now)))
