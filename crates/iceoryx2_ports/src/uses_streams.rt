@@ -28,9 +28,21 @@ pub fn answers_thrice(
     requires { HasValue hub.old request.now.node request.now.number kinds.ActiveRequest }
     ensures { HasValue hub.new request.now.node request.now.number kinds.ActiveRequest }
 {
-    request.send_copy(hub, 4)?;
-    request.send_copy(hub, 5)?;
-    request.send_copy(hub, 6)
+    answers_with(request, hub, 4)?;
+    answers_with(request, hub, 5)?;
+    answers_with(request, hub, 6)
+}
+
+/// A server sends a copy as a response to a request, and still has the request.
+fn answers_with(
+    request: &ActiveRequest<One<u64>, (), One<u64>, ()>,
+    hub: &mut Hub<One<u64>, (), One<u64>, ()>,
+    value: u64,
+) -> Result<(), SendError>
+    requires { HasValue hub.old request.now.node request.now.number kinds.ActiveRequest }
+    ensures { HasValue hub.new request.now.node request.now.number kinds.ActiveRequest }
+{
+    request.send_copy(hub, value)
 }
 
 /// A server answers as long as its client wants more, at most five times. It says whether the
