@@ -37,7 +37,7 @@ use Rattle.iox_hub_laws.specs.Sending.{HasNothing}
 use Rattle.iox_hub_laws.proofs.Named.{pending_is, server_is}
 use Rattle.iox_hub_laws.specs.Shown.{handle_of, shown}
 use Rattle.iox_hub_laws.specs.Waiting.{client_in, client_of, server_of}
-use Rattle.iox_hub_laws.proofs.StillValues.{same_kinds}
+use Rattle.iox_hub_laws.proofs.KindLemmas.{same_kinds}
 use Rattle.iox_hub_laws.proofs.Values.{IsHandleOf, value_is_handle}
 use Rattle.iceoryx2_ports.specs.Asking.{is_open_at}
 use Rattle.iceoryx2_ports.specs.Idling.{client_on}

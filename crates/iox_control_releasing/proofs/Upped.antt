@@ -38,7 +38,7 @@ found_itself kind (Some h) e told = by_case (is_still kind h.kind) told
     by_case false said = absurd (none-some (handle_state e) (sym said))
 
 -- what stands in the second of two lists whose numbers differ does not stand in the first
-in_second : (xs ys : List ℕ) (n : ℕ) → AreDistinct (xs ++ ys) → has_number n ys ≡ true → has_number n xs ≡ false
+pub in_second : (xs ys : List ℕ) (n : ℕ) → AreDistinct (xs ++ ys) → has_number n ys ≡ true → has_number n xs ≡ false
 in_second [] ys n apart e = refl
 in_second (x ∷ xs) ys n apart e = step (x == n) refl (in_second xs ys n apart.1 e)
   where
@@ -47,7 +47,7 @@ in_second (x ∷ xs) ys n apart e = step (x == n) refl (in_second xs ys n apart.
         absurd (true≢false (sym (has_back x xs ys (subst (λ m. has_number m ys ≡ true) (sym (eqb-true x n is)) e)) ∙ apart.0))
     step false is rest = rest
 
-missing_port : (ports : List PortState) (n : ℕ) → has_number n (numbers_of ports) ≡ false → port_in ports n ≡ None
+pub missing_port : (ports : List PortState) (n : ℕ) → has_number n (numbers_of ports) ≡ false → port_in ports n ≡ None
 missing_port [] n e = refl
 missing_port (p ∷ ps) n e = step (p.number == n) e (missing_port ps n)
   where
@@ -56,7 +56,7 @@ missing_port (p ∷ ps) n e = step (p.number == n) e (missing_port ps n)
     step true none rest = absurd (true≢false none)
     step false none rest = rest none
 
-found_number : (hs : List HandleState) (node n : ℕ) (h : HandleState) → handle_in hs node n ≡ Some h → has_number n (map (λ k. k.number) hs) ≡ true
+pub found_number : (hs : List HandleState) (node n : ℕ) (h : HandleState) → handle_in hs node n ≡ Some h → has_number n (map (λ k. k.number) hs) ≡ true
 found_number [] node n h e = absurd (none-some h e)
 found_number (k ∷ ks) node n h e = step (k.node == node) (k.number == n) e (found_number ks node n h)
   where

@@ -66,7 +66,8 @@ fn give_up(control: &mut Control, entry: Entry, label: Label, owner: u64)
 }
 
 /// Ends a handle that was removed: nobody has its message by it, and its port stays. It says
-/// whether something may go: the port's own value is not there, or nobody has a message of the pool.
+/// whether something may go: the port's own value is not there, or nobody has a message of the
+/// pool.
 #[inline(always)]
 fn end_removed(control: &mut Control, entry: Entry) -> bool
     ensures left { control.new ≡ with_pools (with_tables control.old
@@ -103,7 +104,8 @@ pub fn release(
     ensures stay { IfSome result (λ r. r.place ≡ None → ArePoolsThere control.old.tables.ports
         control.new.tables.pools (handle_state r.entry)) }
     ensures left { IfSome result (λ r. control.new.tables
-        ≡ record (with_released (with_ended control.old.tables (handle_state r.entry)) r.entry.port) {
+        ≡ record (with_released
+        (with_ended control.old.tables (handle_state r.entry)) r.entry.port) {
           pools = control.new.tables.pools;
         }) }
     ensures order { IsControl control.new }

@@ -60,3 +60,5 @@ pub mod VisitLemmas
 pub mod ValueLemmas
 pub mod CleaningLemmas
 pub mod Ahead
+-- what the crates above cite of those below
+pub use Rattle.iox_control.proofs.KindLemmas

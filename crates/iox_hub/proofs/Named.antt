@@ -8,47 +8,17 @@ use Rattle.iox_model.specs.declared.kind.Kind.TheVariants as kinds
 use Rattle.iox_model.specs.declared.kind.Role.{Role}
 use Rattle.iox_model.specs.declared.kind.Role.TheVariants.{Client, Server}
 use Rattle.iox_model.specs.Handles.{is_own, is_received, kind_code}
-use Rattle.iox_model.specs.Maps.{AreDistinct, has_number}
+use Rattle.iox_model.specs.Maps.{has_number}
 use Rattle.iox_tables.specs.HubStates.Tables.{HandleState, HubTables, PortState, numbers_of, port_in}
 use Rattle.iox_tables.specs.HubStates.Wirings.{IsHandle, IsPending, IsServer, handle_in}
 use Rattle.iox_tables.specs.HubLoans.Questions.{kind_by, kind_in, kind_of_role}
 use Rattle.iox_tables.specs.HubBooks.Handles.{IsOfPort, role_for}
 use Rattle.iox_tables.specs.HubBooks.Hubs.{AreInOrder, numbers_in}
 use Rattle.iox_hub.specs.Hubs.{HasValue, HubState, IsHub}
-use Rattle.iox_tables.proofs.HubBooks.Received.{has_back}
+use Rattle.iox_control_releasing.proofs.Upped.{found_number, in_second, missing_port}
 use Rattle.iox_tables.proofs.HubBooks.Used.{handle_is}
 
 -- ---- lists of numbers
-
--- what stands in the second of two lists whose numbers differ does not stand in the first
-in_second : (xs ys : List ℕ) (n : ℕ) → AreDistinct (xs ++ ys) → has_number n ys ≡ true → has_number n xs ≡ false
-in_second [] ys n apart e = refl
-in_second (x ∷ xs) ys n apart e =
-    step (x == n) refl (in_second xs ys n apart.1 e)
-  where
-    step : (b : Bool) → (x == n) ≡ b → has_number n xs ≡ false → (b || has_number n xs) ≡ false
-    step true is rest =
-        absurd (true≢false (sym (has_back x xs ys (subst (λ m. has_number m ys ≡ true) (sym (eqb-true x n is)) e)) ∙ apart.0))
-    step false is rest = rest
-
-missing_port : (ports : List PortState) (n : ℕ) → has_number n (numbers_of ports) ≡ false → port_in ports n ≡ None
-missing_port [] n e = refl
-missing_port (p ∷ ps) n e = step (p.number == n) e (missing_port ps n)
-  where
-    step : (b : Bool) → (b || has_number n (numbers_of ps)) ≡ false → (has_number n (numbers_of ps) ≡ false → port_in ps n ≡ None)
-        → (if b then Some p else port_in ps n) ≡ None
-    step true none rest = absurd (true≢false none)
-    step false none rest = rest none
-
-found_number : (hs : List HandleState) (node n : ℕ) (h : HandleState) → handle_in hs node n ≡ Some h → has_number n (map (λ k. k.number) hs) ≡ true
-found_number [] node n h e = absurd (none-some h e)
-found_number (k ∷ ks) node n h e = step (k.node == node) (k.number == n) e (found_number ks node n h)
-  where
-    step : (a b : Bool) → (if a && b then Some k else handle_in ks node n) ≡ Some h
-        → (handle_in ks node n ≡ Some h → has_number n (map (λ j. j.number) ks) ≡ true) → (b || has_number n (map (λ j. j.number) ks)) ≡ true
-    step a true f rest = refl
-    step true false f rest = rest f
-    step false false f rest = rest f
 
 -- a new handle is found by its number, where no other has it
 found_last : (hs : List HandleState) (h : HandleState) → has_number h.number (map (λ k. k.number) hs) ≡ false → handle_in (hs ++ h ∷ []) h.node h.number ≡ Some h

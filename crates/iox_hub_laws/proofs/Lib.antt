@@ -25,5 +25,6 @@ pub mod CopySending
 pub use Rattle.iox_hub.proofs.Named
 pub use Rattle.iox_hub.proofs.ShapesStay
 pub use Rattle.iox_hub.proofs.StillValues
+pub use Rattle.iox_hub.proofs.KindLemmas
 pub use Rattle.iox_hub.proofs.SendingNames
 pub use Rattle.iox_hub.proofs.LendingNamed
