@@ -16,6 +16,7 @@ use Rattle.iox_tables.specs.HubBooks.Handles.{IsOfPort, role_for}
 use Rattle.iox_tables.specs.HubBooks.Hubs.{AreInOrder, numbers_in}
 use Rattle.iox_hub.specs.Hubs.{HasValue, HubState, IsHub}
 use Rattle.iox_control_releasing.proofs.Upped.{found_number, in_second, missing_port}
+use Rattle.iox_tables.proofs.HubBooks.Received.{has_back}
 use Rattle.iox_tables.proofs.HubBooks.Used.{handle_is}
 
 -- ---- lists of numbers
