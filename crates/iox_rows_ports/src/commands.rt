@@ -3,6 +3,19 @@
 ghost use Rattle.std.specs.Prelude.{IfOk};
 ghost use Rattle.iox_port_commands.specs.Applying.{HaveDefaults};
 
+/// Two servers, and so many ports that are gone of which a client, and a server, keeps what is
+/// waiting.
+macro_rules! keeping {
+    ($clients:expr, $servers:expr) => {
+        Settings {
+            servers: 2,
+            client_expired: $clients,
+            server_expired: $servers,
+            ..SETTINGS
+        }
+    };
+}
+
 mod answering;
 mod exchanges;
 mod expired;
@@ -310,18 +323,18 @@ fn goes<Q: Payload<Element = u64>, QH: Words, P: Payload<Element = u64>, PH: Wor
 }
 
 /// The same of a new hub of these settings, for one list and then another.
-fn plays_both(rt: &impl Abort, alloc: Global, settings: Settings, first: &[Row], rest: &[Row]) {
-    let mut hub = hub(alloc, settings).expect(rt, "a hub");
+fn plays_both(rt: &impl Abort, alloc: Global, settings: &Settings, first: &[Row], rest: &[Row]) {
+    let mut hub = hub(alloc, *settings).expect(rt, "a hub");
     goes(rt, &mut hub, alloc, first);
     goes(rt, &mut hub, alloc, rest);
 }
 
 /// The same for one list.
-fn plays_in(rt: &impl Abort, alloc: Global, settings: Settings, list: &[Row]) {
+fn plays_in(rt: &impl Abort, alloc: Global, settings: &Settings, list: &[Row]) {
     plays_both(rt, alloc, settings, list, &[]);
 }
 
 /// The same of a hub with the first settings.
 fn plays(rt: &impl Abort, alloc: Global, list: &[Row]) {
-    plays_both(rt, alloc, SETTINGS, list, &[]);
+    plays_both(rt, alloc, &SETTINGS, list, &[]);
 }

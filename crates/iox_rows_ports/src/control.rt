@@ -155,9 +155,9 @@ fn goes(rt: &impl Abort, alloc: Global, control: &mut Control, list: &[Deed])
 }
 
 /// Does all of it with a new control of these settings.
-pub fn plays(rt: &impl Abort, alloc: Global, settings: Settings, list: &[Deed]) {
+pub fn plays(rt: &impl Abort, alloc: Global, settings: &Settings, list: &[Deed]) {
     is_so(rt, settings.active_requests >= 1);
     is_so(rt, settings.response_buffer >= 1);
-    let mut control = Control::new(alloc, settings).expect(rt, "a control");
+    let mut control = Control::new(alloc, *settings).expect(rt, "a control");
     goes(rt, alloc, &mut control, list);
 }

@@ -2,19 +2,6 @@
 use super::{Asked, Given, Row, SETTINGS, Told, plays_both, plays_in};
 use iox_control::Settings;
 use iox_model::reply::Refusal;
-use std::alloc::Global;
-use std::process::Abort;
-
-/// Two servers, and so many ports that are gone of which a client, and a server, keeps what is
-/// waiting.
-pub fn keeping(clients: usize, servers: usize) -> Settings {
-    Settings {
-        servers: 2,
-        client_expired: clients,
-        server_expired: servers,
-        ..SETTINGS
-    }
-}
 
 /// Servers 1 and 2 receive the request of client 0, and answer with 10 and 20.
 const ANSWERS: &[Row] = &[
@@ -33,17 +20,14 @@ const ANSWERS: &[Row] = &[
     (1, Asked::Release(2), Told::Done),
 ];
 
-/// The same, and then this.
-fn then(rt: &impl Abort, alloc: Global, kept: usize, rest: &[Row]) {
-    plays_both(rt, alloc, keeping(kept, 0), ANSWERS, rest);
-}
-
 #[test]
 fn with_room_for_one_the_younger_answer_is_received(rt: HostRuntime) {
-    then(
+    const KEEPING: Settings = keeping!(1, 0);
+    plays_both(
         &rt,
         rt.alloc(),
-        1,
+        &KEEPING,
+        ANSWERS,
         &[
             (0, Asked::Receive(3), Told::Handle(6)),
             (0, Asked::Read(6), Told::Words(1, 20)),
@@ -54,10 +38,12 @@ fn with_room_for_one_the_younger_answer_is_received(rt: HostRuntime) {
 
 #[test]
 fn with_room_for_two_both_answers_are_received(rt: HostRuntime) {
-    then(
+    const KEEPING: Settings = keeping!(2, 0);
+    plays_both(
         &rt,
         rt.alloc(),
-        2,
+        &KEEPING,
+        ANSWERS,
         &[
             (0, Asked::HasResponse(3), Told::Answer(true)),
             (0, Asked::Receive(3), Told::Handle(6)),
@@ -71,10 +57,12 @@ fn with_room_for_two_both_answers_are_received(rt: HostRuntime) {
 
 #[test]
 fn without_room_no_answer_is_received(rt: HostRuntime) {
-    then(
+    const KEEPING: Settings = keeping!(0, 0);
+    plays_both(
         &rt,
         rt.alloc(),
-        0,
+        &KEEPING,
+        ANSWERS,
         &[
             (0, Asked::HasResponse(3), Told::Answer(false)),
             (0, Asked::Receive(3), Told::Nothing),
@@ -84,10 +72,11 @@ fn without_room_no_answer_is_received(rt: HostRuntime) {
 
 #[test]
 fn what_was_received_stays_when_its_pair_gives_way(rt: HostRuntime) {
+    const KEEPING: Settings = keeping!(1, 0);
     plays_in(
         &rt,
         rt.alloc(),
-        keeping(1, 0),
+        &KEEPING,
         &[
             (0, Asked::Client(Given::Nothing), Told::Client(0)),
             (1, Asked::Server, Told::Server(1)),
@@ -123,7 +112,7 @@ fn a_pair_that_is_emptied_keeps_its_place(rt: HostRuntime) {
     plays_in(
         &rt,
         rt.alloc(),
-        THREE,
+        &THREE,
         &[
             (0, Asked::Client(Given::Nothing), Told::Client(0)),
             (1, Asked::Server, Told::Server(1)),
@@ -161,10 +150,11 @@ fn a_pair_that_is_emptied_keeps_its_place(rt: HostRuntime) {
 
 #[test]
 fn each_pair_has_its_own_count_of_what_is_borrowed(rt: HostRuntime) {
+    const KEEPING: Settings = keeping!(1, 0);
     plays_in(
         &rt,
         rt.alloc(),
-        keeping(1, 0),
+        &KEEPING,
         &[
             (0, Asked::Client(Given::Nothing), Told::Client(0)),
             (1, Asked::Server, Told::Server(1)),
@@ -211,7 +201,8 @@ const ASKS: &[Row] = &[
 
 #[test]
 fn a_server_receives_the_request_of_a_client_that_is_gone(rt: HostRuntime) {
-    plays_in(&rt, rt.alloc(), keeping(0, 1), ASKS);
+    const KEEPING: Settings = keeping!(0, 1);
+    plays_in(&rt, rt.alloc(), &KEEPING, ASKS);
 }
 
 #[test]
@@ -225,7 +216,7 @@ fn a_server_keeps_no_request_where_it_is_not_to_be_forgotten(rt: HostRuntime) {
     plays_in(
         &rt,
         rt.alloc(),
-        FORGETTING,
+        &FORGETTING,
         &[
             (0, Asked::Client(Given::Nothing), Told::Client(0)),
             (1, Asked::Server, Told::Server(1)),

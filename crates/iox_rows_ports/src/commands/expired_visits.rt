@@ -1,10 +1,7 @@
 //! In which order what is waiting of ports that are gone is received, and what of it stays.
-use super::expired::keeping;
 use super::{Asked, Given, Row, SETTINGS, Told, plays_both, plays_in};
 use iox_control::Settings;
 use iox_model::reply::Refusal;
-use std::alloc::Global;
-use std::process::Abort;
 
 #[test]
 fn the_gone_come_before_the_connected_and_the_first_that_went_before_others(rt: HostRuntime) {
@@ -16,7 +13,7 @@ fn the_gone_come_before_the_connected_and_the_first_that_went_before_others(rt: 
     plays_in(
         &rt,
         rt.alloc(),
-        THREE,
+        &THREE,
         &[
             (0, Asked::Client(Given::Nothing), Told::Client(0)),
             (1, Asked::Server, Told::Server(1)),
@@ -47,10 +44,11 @@ fn the_gone_come_before_the_connected_and_the_first_that_went_before_others(rt: 
 
 #[test]
 fn a_server_receives_of_the_gone_before_the_connected(rt: HostRuntime) {
+    const KEEPING: Settings = keeping!(0, 2);
     plays_in(
         &rt,
         rt.alloc(),
-        keeping(0, 2),
+        &KEEPING,
         &[
             (0, Asked::Client(Given::Nothing), Told::Client(0)),
             (0, Asked::Client(Given::Nothing), Told::Client(1)),
@@ -85,12 +83,14 @@ const TAKEN: &[Row] = &[
 
 #[test]
 fn what_was_received_stays_though_its_pair_is_not_kept(rt: HostRuntime) {
-    plays_in(&rt, rt.alloc(), keeping(2, 0), TAKEN);
+    const KEEPING: Settings = keeping!(2, 0);
+    plays_in(&rt, rt.alloc(), &KEEPING, TAKEN);
 }
 
 #[test]
 fn what_was_received_stays_where_no_pair_is_kept(rt: HostRuntime) {
-    plays_in(&rt, rt.alloc(), keeping(0, 0), TAKEN);
+    const KEEPING: Settings = keeping!(0, 0);
+    plays_in(&rt, rt.alloc(), &KEEPING, TAKEN);
 }
 
 /// What is waiting of server 1 is an answer to a request that was given up, and what is waiting of
@@ -114,26 +114,32 @@ const STALE: &[Row] = &[
     (1, Asked::Release(1), Told::Done),
 ];
 
-/// That, and then this.
-fn then(rt: &impl Abort, alloc: Global, kept: usize, rest: &[Row]) {
-    let settings = Settings {
-        active_requests: 2,
-        ..keeping(kept, 0)
-    };
-    plays_both(rt, alloc, settings, STALE, rest);
-}
-
 #[test]
 fn a_stale_message_keeps_a_pair_in_place_of_an_older_one(rt: HostRuntime) {
-    then(&rt, rt.alloc(), 1, &[(0, Asked::Receive(6), Told::Nothing)]);
+    const KEEPING: Settings = Settings {
+        active_requests: 2,
+        ..keeping!(1, 0)
+    };
+    plays_both(
+        &rt,
+        rt.alloc(),
+        &KEEPING,
+        STALE,
+        &[(0, Asked::Receive(6), Told::Nothing)],
+    );
 }
 
 #[test]
 fn with_room_for_both_the_older_one_is_received(rt: HostRuntime) {
-    then(
+    const KEEPING: Settings = Settings {
+        active_requests: 2,
+        ..keeping!(2, 0)
+    };
+    plays_both(
         &rt,
         rt.alloc(),
-        2,
+        &KEEPING,
+        STALE,
         &[
             (0, Asked::Receive(6), Told::Handle(8)),
             (0, Asked::Read(8), Told::Words(1, 20)),
@@ -144,10 +150,11 @@ fn with_room_for_both_the_older_one_is_received(rt: HostRuntime) {
 
 #[test]
 fn room_for_what_is_kept_is_taken_as_a_port_is_made(rt: HostRuntime) {
+    const KEEPING: Settings = keeping!(1 << 60, 0);
     plays_in(
         &rt,
         rt.alloc(),
-        keeping(1 << 60, 0),
+        &KEEPING,
         &[
             (
                 0,

@@ -100,7 +100,7 @@ fn the_setting_lets_messages_grow_unless_the_option_says_no(rt: HostRuntime) {
     plays_with(
         &rt,
         rt.alloc(),
-        SETTINGS,
+        &SETTINGS,
         &[
             (0, Asked::Client(Given::Nothing), Told::Client(0)),
             (0, Asked::Loan(0, 33), Told::Handle(1)),
@@ -127,7 +127,7 @@ fn a_response_past_the_greatest_length_is_read_whole(rt: HostRuntime) {
     plays_with(
         &rt,
         rt.alloc(),
-        SETTINGS,
+        &SETTINGS,
         &[
             (0, Asked::Client(Given::Nothing), Told::Client(0)),
             (1, Asked::Server, Told::Server(1)),

@@ -65,8 +65,8 @@ macro_rules! copied {
 
 #[test]
 fn a_handler_refuses_what_the_strategy_discards(rt: HostRuntime) {
-    plays_in(&rt, rt.alloc(), TIGHT, loaned!(FAILS, DISCARD, REFUSED));
-    plays_in(&rt, rt.alloc(), TIGHT, copied!(FAILS, DISCARD, REFUSED));
+    plays_in(&rt, rt.alloc(), &TIGHT, loaned!(FAILS, DISCARD, REFUSED));
+    plays_in(&rt, rt.alloc(), &TIGHT, copied!(FAILS, DISCARD, REFUSED));
 }
 
 #[test]
@@ -74,21 +74,21 @@ fn a_handler_discards_what_the_strategy_refuses(rt: HostRuntime) {
     plays_in(
         &rt,
         rt.alloc(),
-        TIGHT,
+        &TIGHT,
         loaned!(DISCARDS, RETRY, Told::Sent(0)),
     );
     plays_in(
         &rt,
         rt.alloc(),
-        TIGHT,
+        &TIGHT,
         copied!(DISCARDS, RETRY, Told::Handle(3)),
     );
 }
 
 #[test]
 fn a_handler_follows_a_strategy_that_refuses(rt: HostRuntime) {
-    plays_in(&rt, rt.alloc(), TIGHT, loaned!(FOLLOWS, RETRY, REFUSED));
-    plays_in(&rt, rt.alloc(), TIGHT, copied!(FOLLOWS, RETRY, REFUSED));
+    plays_in(&rt, rt.alloc(), &TIGHT, loaned!(FOLLOWS, RETRY, REFUSED));
+    plays_in(&rt, rt.alloc(), &TIGHT, copied!(FOLLOWS, RETRY, REFUSED));
 }
 
 #[test]
@@ -96,13 +96,13 @@ fn a_handler_follows_a_strategy_that_discards(rt: HostRuntime) {
     plays_in(
         &rt,
         rt.alloc(),
-        TIGHT,
+        &TIGHT,
         loaned!(FOLLOWS, DISCARD, Told::Sent(0)),
     );
     plays_in(
         &rt,
         rt.alloc(),
-        TIGHT,
+        &TIGHT,
         copied!(FOLLOWS, DISCARD, Told::Handle(3)),
     );
 }
@@ -130,7 +130,7 @@ macro_rules! answered {
 
 #[test]
 fn a_servers_handler_refuses_what_the_strategy_discards(rt: HostRuntime) {
-    plays_in(&rt, rt.alloc(), TIGHT, answered!(FAILS, DISCARD, REFUSED));
+    plays_in(&rt, rt.alloc(), &TIGHT, answered!(FAILS, DISCARD, REFUSED));
 }
 
 #[test]
@@ -138,14 +138,14 @@ fn a_servers_handler_discards_what_the_strategy_refuses(rt: HostRuntime) {
     plays_in(
         &rt,
         rt.alloc(),
-        TIGHT,
+        &TIGHT,
         answered!(DISCARDS, RETRY, Told::Done),
     );
 }
 
 #[test]
 fn a_servers_handler_follows_a_strategy_that_refuses(rt: HostRuntime) {
-    plays_in(&rt, rt.alloc(), TIGHT, answered!(FOLLOWS, RETRY, REFUSED));
+    plays_in(&rt, rt.alloc(), &TIGHT, answered!(FOLLOWS, RETRY, REFUSED));
 }
 
 #[test]
@@ -153,7 +153,7 @@ fn a_servers_handler_follows_a_strategy_that_discards(rt: HostRuntime) {
     plays_in(
         &rt,
         rt.alloc(),
-        TIGHT,
+        &TIGHT,
         answered!(FOLLOWS, DISCARD, Told::Done),
     );
 }

@@ -50,25 +50,25 @@ macro_rules! second_of_two {
 #[test]
 fn a_handler_that_fails_at_the_second_of_two_refuses(rt: HostRuntime) {
     const GIVEN: Given = given!(1, FAILS, DISCARD);
-    plays_in(&rt, rt.alloc(), TWO, second_of_two!(GIVEN, REFUSED));
+    plays_in(&rt, rt.alloc(), &TWO, second_of_two!(GIVEN, REFUSED));
 }
 
 #[test]
 fn a_handler_that_fails_at_the_first_of_two_refuses(rt: HostRuntime) {
     const GIVEN: Given = given!(0, FAILS, DISCARD);
-    plays_in(&rt, rt.alloc(), TWO, second_of_two!(GIVEN, REFUSED));
+    plays_in(&rt, rt.alloc(), &TWO, second_of_two!(GIVEN, REFUSED));
 }
 
 #[test]
 fn a_handler_that_discards_at_the_second_leaves_the_first_to_the_strategy(rt: HostRuntime) {
     const GIVEN: Given = given!(1, DISCARDS, RETRY);
-    plays_in(&rt, rt.alloc(), TWO, second_of_two!(GIVEN, REFUSED));
+    plays_in(&rt, rt.alloc(), &TWO, second_of_two!(GIVEN, REFUSED));
 }
 
 #[test]
 fn a_handler_that_fails_at_its_own_port_passes_over_both(rt: HostRuntime) {
     const GIVEN: Given = given!(2, FAILS, DISCARD);
-    plays_in(&rt, rt.alloc(), TWO, second_of_two!(GIVEN, Told::Sent(0)));
+    plays_in(&rt, rt.alloc(), &TWO, second_of_two!(GIVEN, Told::Sent(0)));
 }
 
 /// It fails at server 0, and the strategy discards.
@@ -82,7 +82,7 @@ fn only_full_servers_are_asked_about(rt: HostRuntime) {
     plays_in(
         &rt,
         rt.alloc(),
-        TWO,
+        &TWO,
         &[
             (1, Asked::Server, Told::Server(0)),
             (1, Asked::Server, Told::Server(1)),

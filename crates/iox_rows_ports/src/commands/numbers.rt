@@ -63,7 +63,7 @@ fn hub_with(alloc: Global, settings: Settings) -> Result<Numbers, AllocError>
 }
 
 /// Plays a list in a new hub with these settings.
-pub fn plays_with(rt: &impl Abort, alloc: Global, settings: Settings, list: &[Row]) {
-    let mut hub = hub_with(alloc, settings).expect(rt, "a hub");
+pub fn plays_with(rt: &impl Abort, alloc: Global, settings: &Settings, list: &[Row]) {
+    let mut hub = hub_with(alloc, *settings).expect(rt, "a hub");
     goes(rt, &mut hub, alloc, list);
 }

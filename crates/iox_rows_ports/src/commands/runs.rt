@@ -14,7 +14,7 @@ fn a_request_pushes_out_one_that_was_given_up(rt: HostRuntime) {
     plays_with(
         &rt,
         rt.alloc(),
-        SETTINGS,
+        &SETTINGS,
         &[
             (0, Asked::Client(Given::Nothing), Told::Client(0)),
             (1, Asked::Server, Told::Server(1)),
@@ -37,7 +37,7 @@ fn a_second_request_awaits_the_end_of_the_first(rt: HostRuntime) {
     plays_with(
         &rt,
         rt.alloc(),
-        SETTINGS,
+        &SETTINGS,
         &[
             (0, Asked::Client(Given::Nothing), Told::Client(0)),
             (1, Asked::Server, Told::Server(1)),
@@ -71,7 +71,7 @@ fn a_refused_copy_uses_no_number(rt: HostRuntime) {
     plays_with(
         &rt,
         rt.alloc(),
-        SETTINGS,
+        &SETTINGS,
         &[
             (0, Asked::Client(Given::Nothing), Told::Client(0)),
             (1, Asked::Server, Told::Server(1)),
@@ -92,7 +92,7 @@ fn a_full_server_is_passed_over(rt: HostRuntime) {
     plays_with(
         &rt,
         rt.alloc(),
-        FULL_AFTER_ONE,
+        &FULL_AFTER_ONE,
         &[
             (0, Asked::Client(Given::Nothing), Told::Client(0)),
             (1, Asked::Server, Told::Server(1)),
@@ -117,7 +117,7 @@ fn a_release_makes_room_for_the_next_response(rt: HostRuntime) {
     plays_with(
         &rt,
         rt.alloc(),
-        SETTINGS,
+        &SETTINGS,
         &[
             (0, Asked::Client(Given::Nothing), Told::Client(0)),
             (1, Asked::Server, Told::Server(1)),
@@ -147,7 +147,7 @@ fn a_request_that_was_given_up_is_skipped(rt: HostRuntime) {
     plays_with(
         &rt,
         rt.alloc(),
-        SETTINGS,
+        &SETTINGS,
         &[
             (0, Asked::Client(Given::Nothing), Told::Client(0)),
             (1, Asked::Server, Told::Server(1)),
@@ -169,7 +169,7 @@ fn a_client_with_too_many_messages_is_not_made(rt: HostRuntime) {
     plays_with(
         &rt,
         rt.alloc(),
-        SETTINGS,
+        &SETTINGS,
         &[(
             0,
             Asked::Client(Given::Nothing),
@@ -187,7 +187,7 @@ fn a_client_with_a_small_pool_in_place_of_too_many_messages_is_made(rt: HostRunt
     plays_with(
         &rt,
         rt.alloc(),
-        SETTINGS,
+        &SETTINGS,
         &[
             (0, Asked::Client(Given::Pool(1)), Told::Client(0)),
             (
@@ -204,7 +204,7 @@ fn a_client_lends_to_no_other_node(rt: HostRuntime) {
     plays_with(
         &rt,
         rt.alloc(),
-        FIRST,
+        &FIRST,
         &[
             (0, Asked::Client(Given::Nothing), Told::Client(0)),
             (1, Asked::Server, Told::Server(1)),
@@ -219,7 +219,7 @@ fn a_loan_has_no_more_elements_than_its_client(rt: HostRuntime) {
     plays_with(
         &rt,
         rt.alloc(),
-        FIRST,
+        &FIRST,
         &[
             (0, Asked::Client(Given::Longest(32)), Told::Client(0)),
             (

@@ -24,5 +24,5 @@ const SETTINGS: Settings = Settings {
 
 #[test]
 fn a_new_hub_has_no_handle(rt: HostRuntime) {
-    plays(&rt, rt.alloc(), SETTINGS, &[Deed::Entry(None)]);
+    plays(&rt, rt.alloc(), &SETTINGS, &[Deed::Entry(None)]);
 }

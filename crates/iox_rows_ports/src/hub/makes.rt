@@ -70,8 +70,8 @@ fn hub(alloc: Global, settings: Settings) -> Result<TheHub, AllocError> {
 }
 
 /// Does all of a list with a new hub of these settings.
-pub(super) fn plays(rt: &impl Abort, alloc: Global, settings: Settings, list: &[Deed]) {
-    let mut hub = hub(alloc, settings).expect(rt, "a hub");
+pub(super) fn plays(rt: &impl Abort, alloc: Global, settings: &Settings, list: &[Deed]) {
+    let mut hub = hub(alloc, *settings).expect(rt, "a hub");
     goes(rt, alloc, &mut hub, list);
 }
 
@@ -80,7 +80,7 @@ fn a_client_and_a_server_are_made(rt: HostRuntime) {
     plays(
         &rt,
         rt.alloc(),
-        SETTINGS,
+        &SETTINGS,
         &[
             Deed::Makes(0, Role::Client, OPTIONS, Ok(0)),
             Deed::Makes(1, Role::Server, OPTIONS, Ok(1)),
@@ -97,7 +97,7 @@ fn the_ninth_client_of_eight_is_refused(rt: HostRuntime) {
     plays(
         &rt,
         rt.alloc(),
-        SETTINGS,
+        &SETTINGS,
         &[
             Deed::Makes(0, Role::Client, OPTIONS, Ok(0)),
             Deed::Makes(0, Role::Client, OPTIONS, Ok(1)),
@@ -129,7 +129,7 @@ fn a_server_of_single_elements_is_made_though_its_messages_are_to_grow(rt: HostR
     plays(
         &rt,
         rt.alloc(),
-        GROWING,
+        &GROWING,
         &[
             Deed::Makes(0, Role::Server, BEST_FIT, Ok(0)),
             Deed::Makes(0, Role::Server, POWER_OF_TWO, Ok(1)),
@@ -147,7 +147,7 @@ fn a_port_that_is_too_large_is_refused_though_it_would_grow(rt: HostRuntime) {
     plays(
         &rt,
         rt.alloc(),
-        GROWING,
+        &GROWING,
         &[
             Deed::Makes(0, Role::Client, LARGE, Err(NotMade::DataSegment)),
             Deed::Makes(0, Role::Client, OPTIONS, Ok(0)),

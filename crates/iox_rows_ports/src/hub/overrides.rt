@@ -45,8 +45,8 @@ fn hub(alloc: Global, settings: Settings) -> Result<TheHub, AllocError> {
 }
 
 /// Does all of a list with a new hub of these settings.
-fn plays(rt: &impl Abort, alloc: Global, settings: Settings, list: &[Deed]) {
-    let mut hub = hub(alloc, settings).expect(rt, "a hub");
+fn plays(rt: &impl Abort, alloc: Global, settings: &Settings, list: &[Deed]) {
+    let mut hub = hub(alloc, *settings).expect(rt, "a hub");
     goes(rt, alloc, &mut hub, list);
 }
 
@@ -82,7 +82,7 @@ fn a_port_needs_messages_for_all_at_once(rt: HostRuntime) {
     plays(
         &rt,
         rt.alloc(),
-        default_settings(),
+        &default_settings(),
         &[
             // 2 on loan, 4 active, and at each of 2 servers 4 that wait and 4 that were received.
             Deed::Worst(Role::Client, OPTIONS, Some(22)),
@@ -103,7 +103,7 @@ fn a_client_whose_pool_is_chosen_has_that_many_messages(rt: HostRuntime) {
     plays(
         &rt,
         rt.alloc(),
-        default_settings(),
+        &default_settings(),
         &[
             Deed::MakesLeast(OPTIONS, Ok(0)),
             Deed::Lends(0, 1, Some(Ok(1))),
@@ -121,7 +121,7 @@ fn without_memory_a_port_lacks_its_data_segment(rt: HostRuntime) {
     plays(
         &rt,
         rt.alloc(),
-        default_settings(),
+        &default_settings(),
         &[
             Deed::WithoutMemory(NotMade::DataSegment),
             Deed::Makes(0, Role::Server, FAR, Err(NotMade::DataSegment)),
@@ -144,7 +144,7 @@ fn a_message_of_one_element_never_grows(rt: HostRuntime) {
     plays(
         &rt,
         rt.alloc(),
-        growing(),
+        &growing(),
         &[
             Deed::Makes(0, Role::Client, OPTIONS, Ok(0)),
             Deed::Makes(0, Role::Server, OPTIONS, Ok(1)),

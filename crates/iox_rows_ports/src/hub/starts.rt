@@ -29,7 +29,7 @@ fn a_new_hub_has_nothing(rt: HostRuntime) {
     plays(
         &rt,
         rt.alloc(),
-        SETTINGS,
+        &SETTINGS,
         &[
             Deed::Calls(0),
             Deed::Kind(0, None),

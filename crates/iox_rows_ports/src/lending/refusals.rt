@@ -30,7 +30,7 @@ fn loans_are_refused_by_length_size_and_count(rt: HostRuntime) {
     plays(
         &rt,
         rt.alloc(),
-        SETTINGS,
+        &SETTINGS,
         &[
             Deed::Lends(Role::Client, 8, true, None),
             Deed::Lends(Role::Client, 8, false, Some(LoanRefusal::WrongLength)),
@@ -42,7 +42,7 @@ fn loans_are_refused_by_length_size_and_count(rt: HostRuntime) {
 
 #[test]
 fn a_new_hub_has_nothing_on_loan(rt: HostRuntime) {
-    plays(&rt, rt.alloc(), SETTINGS, &[Deed::OnLoan([0, 0, 0, 0])]);
+    plays(&rt, rt.alloc(), &SETTINGS, &[Deed::OnLoan([0, 0, 0, 0])]);
 }
 
 #[test]
@@ -50,7 +50,7 @@ fn the_lowest_lane_of_a_new_hub_is_free(rt: HostRuntime) {
     plays(
         &rt,
         rt.alloc(),
-        SETTINGS,
+        &SETTINGS,
         &[
             Deed::IsLaneTaken(false),
             Deed::FreeLane(2, Some(0)),

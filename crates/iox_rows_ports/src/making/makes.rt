@@ -29,7 +29,7 @@ fn a_client_and_a_server_are_made(rt: HostRuntime) {
     plays(
         &rt,
         rt.alloc(),
-        SETTINGS,
+        &SETTINGS,
         &[
             Deed::Makes(0, Role::Client, 5, false, Ok(0)),
             // Of its own messages: no server is there yet.
@@ -51,7 +51,7 @@ fn what_there_is_too_much_of_is_refused(rt: HostRuntime) {
     plays(
         &rt,
         rt.alloc(),
-        SETTINGS,
+        &SETTINGS,
         &[
             Deed::Makes(0, Role::Client, 5, true, Err(NotMade::DataSegment)),
             Deed::Makes(0, Role::Client, 5, false, Ok(0)),
