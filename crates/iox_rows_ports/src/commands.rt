@@ -3,6 +3,19 @@
 ghost use Rattle.std.specs.Prelude.{IfOk};
 ghost use Rattle.iox_port_commands.specs.Applying.{HaveDefaults};
 
+/// Two servers, and so many ports that are gone of which a client, and a server, keeps what is
+/// waiting.
+macro_rules! keeping {
+    ($clients:expr, $servers:expr) => {
+        Settings {
+            servers: 2,
+            client_expired: $clients,
+            server_expired: $servers,
+            ..SETTINGS
+        }
+    };
+}
+
 mod answering;
 mod exchanges;
 mod expired;
@@ -16,27 +29,28 @@ mod numbers;
 mod pools;
 mod runs;
 
-use crate::expected::equal;
+use crate::expected::is_wanted;
 use answering::AnswersAt;
 use iox_control::Settings;
 use iox_model::command::{PortCommand, PortOptions};
 use iox_model::reply::{PortReply, Refusal};
 use iox_port_commands::{Elements, Hub, MessageShape, Part, apply};
-use iox_store::{Many, One};
+use iox_store::{Many, One, Payload};
 use iox_types::identifiers::{UniqueNodeId, UniqueSystemId};
 use iox_types::{AllocationStrategy, BackpressureStrategy};
+use iox_words::Words;
 use std::alloc::{AllocError, Global};
 use std::convert::Infallible;
 use std::process::Abort;
-use std::test::Fail;
 
 type TheHub = Hub<Many<u64>, u32, One<u64>, (), AnswersAt>;
 
 /// A command; a handler answers at one receiver.
 type Command = PortCommand<Elements<u64, u64>, AnswersAt>;
 
+type Reply = PortReply<Vec<u64>, Infallible>;
+
 /// What is told, without the lists.
-#[derive(Clone, Copy, Debug, PartialEq, Eq)]
 enum Told {
     Client(u64),
     Server(u64),
@@ -48,32 +62,28 @@ enum Told {
     Words(usize, u64),
     Answer(bool),
     Refused(Refusal<Infallible>),
-    /// The node has no id, so nothing was asked.
-    NoId,
 }
 
 /// One server, two clients, and one active request of each.
-fn settings() -> Settings {
-    Settings {
-        clients: 2,
-        servers: 1,
-        nodes: 2,
-        active_requests: 1,
-        loaned_requests: 2,
-        response_buffer: 2,
-        borrowed_responses: 1,
-        loaned_responses: 2,
-        client_expired: 0,
-        server_expired: 0,
-        request_overflow: false,
-        response_overflow: true,
-        fire_and_forget: true,
-        client_strategy: BackpressureStrategy::RetryUntilDelivered,
-        server_strategy: BackpressureStrategy::DiscardData,
-        client_allocation: AllocationStrategy::Static,
-        server_allocation: AllocationStrategy::Static,
-    }
-}
+const SETTINGS: Settings = Settings {
+    clients: 2,
+    servers: 1,
+    nodes: 2,
+    active_requests: 1,
+    loaned_requests: 2,
+    response_buffer: 2,
+    borrowed_responses: 1,
+    loaned_responses: 2,
+    client_expired: 0,
+    server_expired: 0,
+    request_overflow: false,
+    response_overflow: true,
+    fire_and_forget: true,
+    client_strategy: BackpressureStrategy::RetryUntilDelivered,
+    server_strategy: BackpressureStrategy::DiscardData,
+    client_allocation: AllocationStrategy::Static,
+    server_allocation: AllocationStrategy::Static,
+};
 
 const PART: Part = Part {
     size: 8,
@@ -111,30 +121,33 @@ fn hub(alloc: Global, settings: Settings) -> Result<TheHub, AllocError>
     Hub::new(alloc, settings, request, response)
 }
 
-/// The reply without its list.
-fn without_list(reply: PortReply<Vec<u64>, Infallible>) -> Told {
-    match reply {
-        PortReply::Client(n) => Told::Client(n),
-        PortReply::Server(n) => Told::Server(n),
-        PortReply::Handle(n) => Told::Handle(n),
-        PortReply::Sent(n) => Told::Sent(n),
-        PortReply::Done => Told::Done,
-        PortReply::Nothing => Told::Nothing,
-        PortReply::Words(words) => { Told::Words(words.len(), words.last().copied().unwrap_or(0)) }
-        PortReply::Answer(told) => Told::Answer(told),
-        PortReply::Refused(refusal) => Told::Refused(refusal),
+/// Whether that is told.
+fn is_told(reply: &Reply, told: &Told) -> bool {
+    match (reply, told) {
+        (PortReply::Client(n), Told::Client(wanted)) => n == wanted,
+        (PortReply::Server(n), Told::Server(wanted)) => n == wanted,
+        (PortReply::Handle(n), Told::Handle(wanted)) => n == wanted,
+        (PortReply::Sent(n), Told::Sent(wanted)) => n == wanted,
+        (PortReply::Done, Told::Done) => true,
+        (PortReply::Nothing, Told::Nothing) => true,
+        (PortReply::Words(words), Told::Words(len, last)) => {
+            words.len() == *len && words.last().copied().unwrap_or(0) == *last
+        }
+        (PortReply::Answer(answer), Told::Answer(wanted)) => answer == wanted,
+        (PortReply::Refused(refusal), Told::Refused(wanted)) => refusal == wanted,
+        _ => false,
     }
 }
 
 /// The id of a node.
-fn id() -> Option<UniqueNodeId> {
-    UniqueNodeId::new(UniqueSystemId {
+fn id(rt: &impl Abort) -> UniqueNodeId {
+    let id = UniqueNodeId::new(UniqueSystemId {
         process: 1,
         seconds: 2,
         nanoseconds: 3,
         counter: 0,
-    })
-    .ok()
+    });
+    id.expect(rt, "the id of a node")
 }
 
 /// What is given as a port is made.
@@ -214,52 +227,49 @@ fn options(given: Given) -> PortOptions<AnswersAt> {
 }
 
 /// So many numbers from this one on.
-fn numbers_from(alloc: Global, first: u64, count: u64) -> Result<Vec<u64>, AllocError> {
+fn numbers_from(rt: &impl Abort, alloc: Global, first: u64, count: u64) -> Vec<u64> {
     let mut values = Vec::new(alloc);
     for i in 0..count {
-        values.push(first.wrapping_add(i))?;
+        values.push(first.wrapping_add(i)).expect(rt, "a number");
     }
-    Ok(values)
+    values
 }
 
-/// What is asked, as a command, if the node has an id.
-fn command_of(alloc: Global, node: u64, asked: Asked) -> Result<Option<Command>, AllocError> {
-    let Some(id) = id() else {
-        return Ok(None);
-    };
-    Ok(Some(match asked {
+/// What is asked, as a command.
+fn command_of(rt: &impl Abort, alloc: Global, node: u64, asked: Asked) -> Command {
+    match asked {
         Asked::Client(given) => PortCommand::Client {
             node,
-            id,
+            id: id(rt),
             options: options(given),
         },
         Asked::Server => PortCommand::Server {
             node,
-            id,
+            id: id(rt),
             options: OPTIONS,
         },
         Asked::ServerWith(given) => PortCommand::Server {
             node,
-            id,
+            id: id(rt),
             options: options(given),
         },
         Asked::Write(number, first, count) => PortCommand::Write {
             node,
             number,
-            payload: Elements::Requests(numbers_from(alloc, first, count)?),
+            payload: Elements::Requests(numbers_from(rt, alloc, first, count)),
         },
         Asked::Request(number, first, count) => PortCommand::SendCopy {
             node,
             number,
-            payload: Elements::Requests(numbers_from(alloc, first, count)?),
+            payload: Elements::Requests(numbers_from(rt, alloc, first, count)),
         },
         Asked::Response(number, value) => PortCommand::SendCopy {
             node,
             number,
-            payload: Elements::Responses(numbers_from(alloc, value, 1)?),
+            payload: Elements::Responses(numbers_from(rt, alloc, value, 1)),
         },
         other => of_numbers(node, other),
-    }))
+    }
 }
 
 /// What is asked by numbers only, as a command.
@@ -284,35 +294,47 @@ fn of_numbers(node: u64, asked: Asked) -> Command {
 }
 
 /// What is told. Of what `apply` promises, it passes on what the next one needs.
-fn ask(hub: &mut TheHub, alloc: Global, node: u64, asked: Asked) -> Result<Told, AllocError>
+fn ask<Q: Payload<Element = u64>, QH: Words, P: Payload<Element = u64>, PH: Words>(
+    hub: &mut Hub<Q, QH, P, PH, AnswersAt>,
+    alloc: Global,
+    command: Command,
+) -> Reply
     requires { HaveDefaults hub.old }
     ensures { HaveDefaults hub.new }
 {
-    match command_of(alloc, node, asked)? {
-        Some(command) => Ok(without_list(apply(hub, alloc, command))),
-        None => Ok(Told::NoId),
-    }
+    apply(hub, alloc, command)
 }
 
 /// Ends the test if something else is told.
-fn goes(rt: &impl Abort, hub: &mut TheHub, alloc: Global, list: &[Row]) -> Result<(), AllocError>
+fn goes<Q: Payload<Element = u64>, QH: Words, P: Payload<Element = u64>, PH: Words>(
+    rt: &impl Abort,
+    hub: &mut Hub<Q, QH, P, PH, AnswersAt>,
+    alloc: Global,
+    list: &[Row],
+)
     requires { HaveDefaults hub.old }
+    ensures { HaveDefaults hub.new }
 {
     for (node, asked, told) in list {
-        let answer = ask(hub, alloc, *node, *asked)?;
-        equal(rt, answer, *told);
+        let command = command_of(rt, alloc, *node, *asked);
+        let reply = ask(hub, alloc, command);
+        is_wanted(rt, &reply, is_told(&reply, told));
     }
-    Ok(())
 }
 
-/// The same of a new hub of these settings.
-fn plays_in(rt: &impl Abort, alloc: Global, settings: Settings, list: &[Row]) -> Result<(), Fail> {
-    let mut hub = hub(alloc, settings)?;
-    goes(rt, &mut hub, alloc, list)?;
-    Ok(())
+/// The same of a new hub of these settings, for one list and then another.
+fn plays_both(rt: &impl Abort, alloc: Global, settings: &Settings, first: &[Row], rest: &[Row]) {
+    let mut hub = hub(alloc, *settings).expect(rt, "a hub");
+    goes(rt, &mut hub, alloc, first);
+    goes(rt, &mut hub, alloc, rest);
 }
 
-/// The same of a new hub, whose settings are the first ones.
-fn plays(rt: &impl Abort, alloc: Global, list: &[Row]) -> Result<(), Fail> {
-    plays_in(rt, alloc, settings(), list)
+/// The same for one list.
+fn plays_in(rt: &impl Abort, alloc: Global, settings: &Settings, list: &[Row]) {
+    plays_both(rt, alloc, settings, list, &[]);
+}
+
+/// The same of a hub with the first settings.
+fn plays(rt: &impl Abort, alloc: Global, list: &[Row]) {
+    plays_both(rt, alloc, &SETTINGS, list, &[]);
 }

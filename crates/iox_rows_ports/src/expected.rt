@@ -1,5 +1,7 @@
-//! What a test asks for. These promise nothing, so that nothing of it stands in what comes after: a
-//! test of many calls is checked many times faster.
+//! What a test asks for. But for `is_so` these promise nothing, so that nothing of it stands in
+//! what comes after: a test of many calls is checked many times faster.
+ghost use Rattle.std.specs.Prelude.{◌≡◌, true};
+
 use std::fmt::Debug;
 use std::process::Abort;
 
@@ -11,4 +13,16 @@ pub fn equal<T: PartialEq + Debug + Drop>(rt: &impl Abort, value: T, wanted: T) 
 /// Ends the test if this is not so.
 pub fn holds(rt: &impl Abort, fact: bool) {
     assert!(rt; fact);
+}
+
+/// The same, where a call behind it asks for the fact.
+pub fn is_so(rt: &impl Abort, fact: bool)
+    ensures { fact ≡ true }
+{
+    assert!(rt; fact);
+}
+
+/// Ends the test if this is not what is wanted, and shows it.
+pub fn is_wanted<T: Debug>(rt: &impl Abort, value: &T, fact: bool) {
+    assert!(rt; fact, "{value:?}");
 }

@@ -1,7 +1,8 @@
-//! Each function once. A test calls the ports by helpers that promise nothing.
-ghost use Rattle.std.specs.Prelude.{◌≡◌, IfOk};
+//! Tests of `iox_hub_ports`, of each function once. A test is a list of what is done and of what
+//! has to come of it, which one function plays.
+mod ports;
 
-use crate::expected::{equal, holds};
+use crate::expected::{equal, holds, is_so};
 use iox_hub_ports::info::PortInfo;
 use iox_hub_ports::port::Port;
 use iox_hub_ports::ports::Ports;
@@ -13,9 +14,8 @@ use iox_model::kind::Role;
 use iox_model::way::{RequestState, Way};
 use iox_types::backpressure::BackpressureStrategy;
 use iox_types::identifiers::UniqueSystemId;
-use std::alloc::{AllocError, Global};
+use std::alloc::Global;
 use std::process::Abort;
-use std::test::Fail;
 
 /// Every message has the same label.
 #[derive(Drop)]
@@ -32,16 +32,65 @@ impl Labels for NoLabel {
     }
 }
 
+/// A pipe from this sender, of this pool, with so many lanes and states.
+type PipeOf = (u64, usize, usize, usize);
+
+/// What is done, or asked, and what has to come of it.
+enum Deed {
+    /// A port is added, with room for so many pipes from ports that are gone, and from connected
+    /// ones.
+    Adds(u64, Role, usize, usize),
+    Reserves(usize),
+    CountsLoan(u64),
+    /// A pipe to that port is connected, or not.
+    Connects(u64, PipeOf, bool),
+    ReleasesValue(u64),
+    /// A sender to that port is gone, and with it goes the pipe from that one.
+    Expires(u64, u64, Option<u64>),
+    /// The port of that number is removed, which has this number.
+    Removes(u64, Option<u64>),
+    /// How many ports there are, and how many may be added.
+    Counts((usize, usize)),
+    /// How many loans the port has, and whether it is held.
+    Seen(u64, Option<(u64, bool)>),
+    /// The number of the port of that place.
+    NumberAt(usize, Option<u64>),
+    Delivers(Way, u64, bool),
+    IsFull(Way, bool),
+    Pushes(Way, u64, Option<u64>),
+    Evicts(Way, Option<u64>),
+    Releases(Way, u64, bool),
+    GetsBack(Way, Option<u64>),
+    /// Something waits for that port on that lane.
+    HasWaiting(u64, u64, bool),
+    /// The port visits that lane.
+    Visits(u64, u64, Visits),
+    /// The lane on which something is left to get back, from that sender to that receiver.
+    LaneToGet(u64, u64, Option<usize>),
+    /// On lane 0 from client 1 to the port of that place.
+    DeliversAt(usize, u64, bool),
+    IsFullAt(usize, bool),
+    PushesAt(usize, u64, Option<u64>),
+    GetsBackAt(usize, Option<u64>),
+    Opens(Way, u64),
+    Hints(Way, u64),
+    Closes(Way, u64),
+    State(Way, RequestState),
+    /// On lane 1 of client 1, with each server.
+    OpensAll(u64),
+    HintsAll(u64),
+    ClosesAll(u64),
+}
+
 /// A port, with room for so many pipes from ports that are gone, and from connected ones.
 fn a_port(
+    rt: &impl Abort,
     alloc: Global,
     number: u64,
     role: Role,
     kept: usize,
     pipes: usize,
-) -> Result<Port, AllocError>
-    ensures { IfOk result (λ p. (p.number ≡ number) × (p.loans ≡ 0)) }
-{
+) -> Port {
     let id = UniqueSystemId {
         process: 1,
         seconds: 2,
@@ -63,50 +112,20 @@ fn a_port(
         held: true,
         loans: 0,
     };
-    let expired = Expired::new(alloc, kept)?;
-    Ok(Port::new(info, expired, Incoming::new(alloc, pipes)?))
-}
-
-/// Client 1, and the servers 2 and 3. From the client a pipe leads to each server.
-fn one_client_two_servers(alloc: Global) -> Result<Ports, AllocError> {
-    let mut ports = Ports::new(alloc, 1)?;
-    ports.add(a_port(alloc, 1, Role::Client, 0, 2)?);
-    ports.count_loan(1);
-    ports.reserve(2)?;
-    ports.add(a_port(alloc, 2, Role::Server, 0, 1)?);
-    ports.add(a_port(alloc, 3, Role::Server, 0, 1)?);
-    ports.connect(2, Pipe::new(alloc, 1, 0, 1, 1, 1, 2)?);
-    ports.connect(3, Pipe::new(alloc, 1, 0, 1, 1, 1, 2)?);
-    Ok(ports)
-}
-
-/// From the client to the server of that number.
-fn to(server: u64) -> Way {
-    Way {
-        sender: 1,
-        receiver: server,
-        lane: 0,
-    }
-}
-
-/// From the server of that number to the client.
-fn from(server: u64) -> Way {
-    Way {
-        sender: server,
-        receiver: 1,
-        lane: 1,
-    }
-}
-
-/// The number of the port of that place.
-fn number_at(ports: &Ports, place: usize) -> Option<u64> {
-    Some(ports.at(place)?.number)
+    let expired = Expired::new(alloc, kept).expect(rt, "room for what is kept");
+    let incoming = Incoming::new(alloc, pipes).expect(rt, "room for pipes");
+    Port::new(info, expired, incoming)
 }
 
 /// How many loans the port has, and whether it is held.
 fn seen(ports: &Ports, number: u64) -> Option<(u64, bool)> {
     let info = ports.find(number)?;
     Some((info.loans, info.held))
+}
+
+/// The number of the port of that place.
+fn number_at(ports: &Ports, place: usize) -> Option<u64> {
+    Some(ports.at(place)?.number)
 }
 
 /// From whom the pipe came that goes, as a sender is gone.
@@ -119,158 +138,111 @@ fn remove(ports: &mut Ports, number: u64) -> Option<u64> {
     Some(ports.remove(number)?.number())
 }
 
-#[test]
-fn ports_are_found_until_they_go(rt: HostRuntime) -> Result<(), Fail> {
-    let mut ports = one_client_two_servers(rt.alloc())?;
-    equal(&rt, (ports.len(), ports.room()), (3, 0));
-    equal(&rt, seen(&ports, 1), Some((1, true)));
-    equal(&rt, number_at(&ports, 2), Some(3));
-    ports.release_value(2);
-    equal(&rt, seen(&ports, 2), Some((0, false)));
-    holds(
-        &rt,
-        !ports.connect(2, Pipe::new(rt.alloc(), 4, 1, 1, 1, 1, 0)?),
-    );
-    equal(&rt, expire(&mut ports, 2, 1), Some(1));
-    equal(&rt, remove(&mut ports, 2), Some(2));
-    equal(&rt, remove(&mut ports, 2), None);
-    equal(&rt, number_at(&ports, 1), Some(3));
-    Ok(())
+/// Adds a port, where there is none of its number.
+#[tactic(auto, using(crate::proofs::Ports::none_has_it))]
+fn adds(rt: &impl Abort, ports: &mut Ports, port: Port) {
+    is_so(rt, ports.room() > 0);
+    is_so(rt, !ports.find(port.number()).is_some());
+    ports.add(port);
 }
 
-/// Delivers to the first server, which then is full.
-fn fills(rt: &impl Abort, ports: &mut Ports, place: u64) {
-    holds(rt, ports.deliver(to(2), place));
-    holds(rt, ports.is_full(to(2)));
-    holds(rt, !ports.is_full(to(3)));
-    holds(rt, ports.has_waiting(2, 0));
+/// Counts a loan of the port of that number, if it has fewer than 2^32.
+fn counts_loan(rt: &impl Abort, ports: &mut Ports, number: u64) {
+    let info = ports.find(number).expect(rt, "a port");
+    is_so(rt, info.loans < 1 << 32);
+    ports.count_loan(number);
 }
 
-/// The first server gets what is waiting, and releases it, and the client gets it back.
-fn goes_back(rt: &impl Abort, ports: &mut Ports, place: u64) {
-    let visits = ports.visit(2, 0, Wanted::Any, &NoLabel);
-    equal(rt, visits, Visits::Got(1, 0, place));
-    holds(rt, ports.release(to(2), place));
-    equal(rt, ports.lane_to_get(1, 2), Some(0));
-    equal(rt, ports.get_back(to(2)), Some(place));
+/// A pipe on which one may wait and one may be taken.
+fn a_pipe(rt: &impl Abort, alloc: Global, (sender, pool, lanes, states): PipeOf) -> Pipe {
+    Pipe::new(alloc, sender, pool, lanes, 1, 1, states).expect(rt, "a pipe")
 }
 
-#[test]
-fn a_message_goes_around(rt: HostRuntime) -> Result<(), Fail> {
-    let mut ports = one_client_two_servers(rt.alloc())?;
-    fills(&rt, &mut ports, 7);
-    goes_back(&rt, &mut ports, 7);
-    Ok(())
+/// Does what changes which ports and pipes there are.
+fn makes(rt: &impl Abort, alloc: Global, ports: &mut Ports, deed: &Deed) {
+    match deed {
+        Deed::Adds(number, role, kept, pipes) => {
+            adds(rt, ports, a_port(rt, alloc, *number, *role, *kept, *pipes));
+        }
+        Deed::Reserves(more) => ports.reserve(*more).expect(rt, "room for ports"),
+        Deed::CountsLoan(number) => counts_loan(rt, ports, *number),
+        Deed::Connects(number, pipe, wanted) => {
+            equal(
+                rt,
+                ports.connect(*number, a_pipe(rt, alloc, *pipe)),
+                *wanted,
+            );
+        }
+        Deed::ReleasesValue(number) => ports.release_value(*number),
+        Deed::Expires(number, sender, wanted) => {
+            equal(rt, expire(ports, *number, *sender), *wanted);
+        }
+        Deed::Removes(number, wanted) => equal(rt, remove(ports, *number), *wanted),
+        Deed::Counts(wanted) => equal(rt, (ports.len(), ports.room()), *wanted),
+        Deed::Seen(number, wanted) => equal(rt, seen(ports, *number), *wanted),
+        Deed::NumberAt(place, wanted) => equal(rt, number_at(ports, *place), *wanted),
+        _ => sends(rt, ports, deed),
+    }
 }
 
-/// Delivers by the place of the server, and pushes the message out.
-fn pushes_at(rt: &impl Abort, ports: &mut Ports, place: u64, newer: u64) {
-    holds(rt, ports.deliver_at(1, 1, 0, place));
-    holds(rt, ports.is_full_at(1, 1, 0));
-    equal(rt, ports.push_at(1, 1, 0, newer), Some(place));
+/// Does what is done on a way.
+fn sends(rt: &impl Abort, ports: &mut Ports, deed: &Deed) {
+    match deed {
+        Deed::Delivers(way, place, wanted) => equal(rt, ports.deliver(*way, *place), *wanted),
+        Deed::IsFull(way, wanted) => equal(rt, ports.is_full(*way), *wanted),
+        Deed::Pushes(way, place, wanted) => equal(rt, ports.push(*way, *place), *wanted),
+        Deed::Evicts(way, wanted) => equal(rt, ports.evict(*way), *wanted),
+        Deed::Releases(way, place, wanted) => equal(rt, ports.release(*way, *place), *wanted),
+        Deed::GetsBack(way, wanted) => equal(rt, ports.get_back(*way), *wanted),
+        Deed::HasWaiting(number, lane, wanted) => {
+            equal(rt, ports.has_waiting(*number, *lane), *wanted);
+        }
+        Deed::Visits(number, lane, wanted) => {
+            equal(
+                rt,
+                ports.visit(*number, *lane, Wanted::Any, &NoLabel),
+                *wanted,
+            );
+        }
+        Deed::LaneToGet(sender, receiver, wanted) => {
+            equal(rt, ports.lane_to_get(*sender, *receiver), *wanted);
+        }
+        _ => opens(rt, ports, deed),
+    }
 }
 
-#[test]
-fn the_oldest_is_pushed_out(rt: HostRuntime) -> Result<(), Fail> {
-    let mut ports = one_client_two_servers(rt.alloc())?;
-    pushes_at(&rt, &mut ports, 7, 8);
-    equal(&rt, ports.push(to(2), 9), Some(8));
-    equal(&rt, ports.evict(to(2)), Some(9));
-    equal(&rt, ports.get_back_at(1, 1, 0), None);
-    Ok(())
+/// Does what is done by the place of a port, and with requests.
+fn opens(rt: &impl Abort, ports: &mut Ports, deed: &Deed) {
+    match deed {
+        Deed::DeliversAt(at, place, wanted) => {
+            equal(rt, ports.deliver_at(*at, 1, 0, *place), *wanted);
+        }
+        Deed::IsFullAt(at, wanted) => equal(rt, ports.is_full_at(*at, 1, 0), *wanted),
+        Deed::PushesAt(at, place, wanted) => {
+            equal(rt, ports.push_at(*at, 1, 0, *place), *wanted);
+        }
+        Deed::GetsBackAt(at, wanted) => equal(rt, ports.get_back_at(*at, 1, 0), *wanted),
+        Deed::Opens(way, id) => ports.open(*way, *id),
+        Deed::Hints(way, id) => ports.hint(*way, *id),
+        Deed::Closes(way, id) => ports.close(*way, *id),
+        Deed::State(way, wanted) => equal(rt, ports.state(*way), *wanted),
+        Deed::OpensAll(id) => ports.open_all(1, 1, *id),
+        Deed::HintsAll(id) => ports.hint_all(1, 1, *id),
+        Deed::ClosesAll(id) => ports.close_all(1, 1, *id),
+        _ => holds(rt, false),
+    }
 }
 
-/// Opens a request with all servers, hints it to the first, and closes it there.
-fn opens_and_closes(rt: &impl Abort, ports: &mut Ports) {
-    ports.open_all(1, 1, 5);
-    ports.hint(from(2), 5);
-    let hinted = RequestState::Named {
-        id: 5,
-        hinted: true,
-    };
-    equal(rt, ports.state(from(2)), hinted);
-    ports.close(from(2), 5);
-    equal(rt, ports.state(from(2)), RequestState::Closed);
+/// Does all of it.
+fn goes(rt: &impl Abort, alloc: Global, ports: &mut Ports, list: &[Deed]) {
+    for deed in list {
+        makes(rt, alloc, ports, deed);
+    }
 }
 
-/// Hints that request to all, closes it, and opens another with the second server.
-fn hints_and_opens(rt: &impl Abort, ports: &mut Ports) {
-    ports.hint_all(1, 1, 5);
-    let hinted = RequestState::Named {
-        id: 5,
-        hinted: true,
-    };
-    equal(rt, ports.state(from(3)), hinted);
-    ports.close_all(1, 1, 5);
-    ports.open(from(3), 6);
-    let open = RequestState::Named {
-        id: 6,
-        hinted: false,
-    };
-    equal(rt, ports.state(from(3)), open);
-}
-
-#[test]
-fn requests_are_open_with_each_server(rt: HostRuntime) -> Result<(), Fail> {
-    let mut ports = one_client_two_servers(rt.alloc())?;
-    opens_and_closes(&rt, &mut ports);
-    hints_and_opens(&rt, &mut ports);
-    Ok(())
-}
-
-/// Client 1, with room for what is waiting from so many servers that are gone. Server 2 delivered
-/// message 10 to it, and server 3 message 20.
-fn two_answered(rt: &impl Abort, alloc: Global, room: usize) -> Result<Ports, AllocError> {
-    let mut ports = Ports::new(alloc, 1)?;
-    ports.add(a_port(alloc, 1, Role::Client, room, 2)?);
-    holds(rt, ports.connect(1, Pipe::new(alloc, 2, 5, 2, 1, 1, 0)?));
-    holds(rt, ports.connect(1, Pipe::new(alloc, 3, 6, 2, 1, 1, 0)?));
-    holds(rt, ports.deliver(from(2), 10));
-    holds(rt, ports.deliver(from(3), 20));
-    Ok(ports)
-}
-
-/// What the client gets.
-fn gets(ports: &mut Ports) -> Visits {
-    ports.visit(1, 1, Wanted::Any, &NoLabel)
-}
-
-#[test]
-fn what_waits_from_two_that_are_gone_is_kept(rt: HostRuntime) -> Result<(), Fail> {
-    let mut ports = two_answered(&rt, rt.alloc(), 2)?;
-    equal(&rt, expire(&mut ports, 1, 2), None);
-    equal(&rt, expire(&mut ports, 1, 3), None);
-    equal(&rt, gets(&mut ports), Visits::Got(2, 5, 10));
-    equal(&rt, gets(&mut ports), Visits::Got(3, 6, 20));
-    equal(&rt, gets(&mut ports), Visits::Nothing);
-    Ok(())
-}
-
-#[test]
-fn the_older_is_given_up_for_the_younger(rt: HostRuntime) -> Result<(), Fail> {
-    let mut ports = two_answered(&rt, rt.alloc(), 1)?;
-    equal(&rt, expire(&mut ports, 1, 2), None);
-    equal(&rt, expire(&mut ports, 1, 3), Some(2));
-    equal(&rt, gets(&mut ports), Visits::Got(3, 6, 20));
-    equal(&rt, gets(&mut ports), Visits::Nothing);
-    Ok(())
-}
-
-#[test]
-fn without_room_nothing_is_kept(rt: HostRuntime) -> Result<(), Fail> {
-    let mut ports = two_answered(&rt, rt.alloc(), 0)?;
-    equal(&rt, expire(&mut ports, 1, 2), Some(2));
-    equal(&rt, expire(&mut ports, 1, 3), Some(3));
-    equal(&rt, gets(&mut ports), Visits::Nothing);
-    Ok(())
-}
-
-#[test]
-fn what_is_empty_is_not_kept(rt: HostRuntime) -> Result<(), Fail> {
-    let mut ports = two_answered(&rt, rt.alloc(), 2)?;
-    equal(&rt, gets(&mut ports), Visits::Got(2, 5, 10));
-    equal(&rt, expire(&mut ports, 1, 3), None);
-    equal(&rt, expire(&mut ports, 1, 2), Some(2));
-    equal(&rt, gets(&mut ports), Visits::Got(3, 6, 20));
-    Ok(())
+/// Does all of it with new ports, of which there may be one: first one list and then another.
+fn plays(rt: &impl Abort, alloc: Global, first: &[Deed], rest: &[Deed]) {
+    let mut ports = Ports::new(alloc, 1).expect(rt, "room for a port");
+    goes(rt, alloc, &mut ports, first);
+    goes(rt, alloc, &mut ports, rest);
 }

@@ -5,22 +5,19 @@ use iox_words::Words;
 /// It answers at one receiver, and follows the strategy at each other.
 #[derive(Clone, Copy)]
 pub(super) struct AnswersAt {
-    receiver: u64,
-    // 0 follows the strategy, 1 discards, and any other fails.
-    answer: u64,
+    pub(super) receiver: u64,
+    /// `FOLLOWS`, `DISCARDS`, or any other to fail.
+    pub(super) answer: u64,
 }
 
-impl AnswersAt {
-    /// So it answers at this receiver.
-    pub(super) fn new(receiver: u64, action: BackpressureAction) -> Self {
-        let answer = match action {
-            BackpressureAction::FollowBackpressureStrategy => 0,
-            BackpressureAction::DiscardData => 1,
-            BackpressureAction::DiscardDataAndFail => 2,
-        };
-        AnswersAt { receiver, answer }
-    }
-}
+/// It follows the strategy.
+pub(super) const FOLLOWS: u64 = 0;
+
+/// It discards.
+pub(super) const DISCARDS: u64 = 1;
+
+/// It fails.
+pub(super) const FAILS: u64 = 2;
 
 impl Words for AnswersAt {
     ghost use Rattle.std.specs.Prelude.{◌<◌, ◌^◌, ◌++◌, option_map, refl};
@@ -83,8 +80,8 @@ impl Backpressure for AnswersAt {
             return BackpressureAction::FollowBackpressureStrategy;
         }
         match self.answer {
-            0 => BackpressureAction::FollowBackpressureStrategy,
-            1 => BackpressureAction::DiscardData,
+            FOLLOWS => BackpressureAction::FollowBackpressureStrategy,
+            DISCARDS => BackpressureAction::DiscardData,
             _ => BackpressureAction::DiscardDataAndFail,
         }
     }

@@ -1,9 +1,8 @@
 //! Each command on its happy path.
 use super::{Asked, Given, Told, plays};
-use std::test::Fail;
 
 #[test]
-fn a_copied_request_is_received_and_read(rt: HostRuntime) -> Result<(), Fail> {
+fn a_copied_request_is_received_and_read(rt: HostRuntime) {
     plays(
         &rt,
         rt.alloc(),
@@ -17,11 +16,11 @@ fn a_copied_request_is_received_and_read(rt: HostRuntime) -> Result<(), Fail> {
             (1, Asked::Read(3), Told::Words(3, 123)),
             (1, Asked::Receive(1), Told::Nothing),
         ],
-    )
+    );
 }
 
 #[test]
-fn a_copied_response_is_received_and_released(rt: HostRuntime) -> Result<(), Fail> {
+fn a_copied_response_is_received_and_released(rt: HostRuntime) {
     plays(
         &rt,
         rt.alloc(),
@@ -36,11 +35,11 @@ fn a_copied_response_is_received_and_released(rt: HostRuntime) -> Result<(), Fai
             (0, Asked::Read(4), Told::Words(1, 456)),
             (0, Asked::Release(4), Told::Done),
         ],
-    )
+    );
 }
 
 #[test]
-fn a_hint_is_set_and_seen(rt: HostRuntime) -> Result<(), Fail> {
+fn a_hint_is_set_and_seen(rt: HostRuntime) {
     plays(
         &rt,
         rt.alloc(),
@@ -54,11 +53,11 @@ fn a_hint_is_set_and_seen(rt: HostRuntime) -> Result<(), Fail> {
             (1, Asked::HasHint(3), Told::Answer(true)),
             (1, Asked::IsConnected(3), Told::Answer(true)),
         ],
-    )
+    );
 }
 
 #[test]
-fn a_loan_holds_the_default_and_is_written_and_sent(rt: HostRuntime) -> Result<(), Fail> {
+fn a_loan_holds_the_default_and_is_written_and_sent(rt: HostRuntime) {
     plays(
         &rt,
         rt.alloc(),
@@ -71,5 +70,5 @@ fn a_loan_holds_the_default_and_is_written_and_sent(rt: HostRuntime) -> Result<(
             (0, Asked::Read(2), Told::Words(3, 6)),
             (0, Asked::Send(2), Told::Sent(1)),
         ],
-    )
+    );
 }

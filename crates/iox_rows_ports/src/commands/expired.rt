@@ -1,21 +1,7 @@
 //! What is waiting of ports that are gone.
-use super::{Asked, Given, Row, Told, plays_in, settings};
+use super::{Asked, Given, Row, SETTINGS, Told, plays_both, plays_in};
 use iox_control::Settings;
 use iox_model::reply::Refusal;
-use std::alloc::Global;
-use std::process::Abort;
-use std::test::Fail;
-
-/// Two servers, and so many ports that are gone of which a client, and a server, keeps what is
-/// waiting.
-pub fn keeping(clients: usize, servers: usize) -> Settings {
-    Settings {
-        servers: 2,
-        client_expired: clients,
-        server_expired: servers,
-        ..settings()
-    }
-}
 
 /// Servers 1 and 2 receive the request of client 0, and answer with 10 and 20.
 const ANSWERS: &[Row] = &[
@@ -34,38 +20,30 @@ const ANSWERS: &[Row] = &[
     (1, Asked::Release(2), Told::Done),
 ];
 
-/// The same, and then this.
-fn then(rt: &impl Abort, alloc: Global, kept: usize, rest: &[Row]) -> Result<(), Fail> {
-    let mut list = Vec::new(alloc);
-    for row in ANSWERS {
-        list.push(*row)?;
-    }
-    for row in rest {
-        list.push(*row)?;
-    }
-    plays_in(rt, alloc, keeping(kept, 0), &list)
-}
-
 #[test]
-fn with_room_for_one_the_younger_answer_is_received(rt: HostRuntime) -> Result<(), Fail> {
-    then(
+fn with_room_for_one_the_younger_answer_is_received(rt: HostRuntime) {
+    const KEEPING: Settings = keeping!(1, 0);
+    plays_both(
         &rt,
         rt.alloc(),
-        1,
+        &KEEPING,
+        ANSWERS,
         &[
             (0, Asked::Receive(3), Told::Handle(6)),
             (0, Asked::Read(6), Told::Words(1, 20)),
             (0, Asked::Receive(3), Told::Nothing),
         ],
-    )
+    );
 }
 
 #[test]
-fn with_room_for_two_both_answers_are_received(rt: HostRuntime) -> Result<(), Fail> {
-    then(
+fn with_room_for_two_both_answers_are_received(rt: HostRuntime) {
+    const KEEPING: Settings = keeping!(2, 0);
+    plays_both(
         &rt,
         rt.alloc(),
-        2,
+        &KEEPING,
+        ANSWERS,
         &[
             (0, Asked::HasResponse(3), Told::Answer(true)),
             (0, Asked::Receive(3), Told::Handle(6)),
@@ -74,28 +52,31 @@ fn with_room_for_two_both_answers_are_received(rt: HostRuntime) -> Result<(), Fa
             (0, Asked::Read(7), Told::Words(1, 20)),
             (0, Asked::Receive(3), Told::Nothing),
         ],
-    )
+    );
 }
 
 #[test]
-fn without_room_no_answer_is_received(rt: HostRuntime) -> Result<(), Fail> {
-    then(
+fn without_room_no_answer_is_received(rt: HostRuntime) {
+    const KEEPING: Settings = keeping!(0, 0);
+    plays_both(
         &rt,
         rt.alloc(),
-        0,
+        &KEEPING,
+        ANSWERS,
         &[
             (0, Asked::HasResponse(3), Told::Answer(false)),
             (0, Asked::Receive(3), Told::Nothing),
         ],
-    )
+    );
 }
 
 #[test]
-fn what_was_received_stays_when_its_pair_gives_way(rt: HostRuntime) -> Result<(), Fail> {
+fn what_was_received_stays_when_its_pair_gives_way(rt: HostRuntime) {
+    const KEEPING: Settings = keeping!(1, 0);
     plays_in(
         &rt,
         rt.alloc(),
-        keeping(1, 0),
+        &KEEPING,
         &[
             (0, Asked::Client(Given::Nothing), Told::Client(0)),
             (1, Asked::Server, Told::Server(1)),
@@ -117,19 +98,21 @@ fn what_was_received_stays_when_its_pair_gives_way(rt: HostRuntime) -> Result<()
             (0, Asked::Release(6), Told::Done),
             (0, Asked::Release(7), Told::Done),
         ],
-    )
+    );
 }
 
 #[test]
-fn a_pair_that_is_emptied_keeps_its_place(rt: HostRuntime) -> Result<(), Fail> {
+fn a_pair_that_is_emptied_keeps_its_place(rt: HostRuntime) {
+    const THREE: Settings = Settings {
+        servers: 3,
+        active_requests: 2,
+        client_expired: 2,
+        ..SETTINGS
+    };
     plays_in(
         &rt,
         rt.alloc(),
-        Settings {
-            servers: 3,
-            active_requests: 2,
-            ..keeping(2, 0)
-        },
+        &THREE,
         &[
             (0, Asked::Client(Given::Nothing), Told::Client(0)),
             (1, Asked::Server, Told::Server(1)),
@@ -162,15 +145,16 @@ fn a_pair_that_is_emptied_keeps_its_place(rt: HostRuntime) -> Result<(), Fail> {
             (0, Asked::Receive(4), Told::Nothing),
             (0, Asked::Receive(7), Told::Nothing),
         ],
-    )
+    );
 }
 
 #[test]
-fn each_pair_has_its_own_count_of_what_is_borrowed(rt: HostRuntime) -> Result<(), Fail> {
+fn each_pair_has_its_own_count_of_what_is_borrowed(rt: HostRuntime) {
+    const KEEPING: Settings = keeping!(1, 0);
     plays_in(
         &rt,
         rt.alloc(),
-        keeping(1, 0),
+        &KEEPING,
         &[
             (0, Asked::Client(Given::Nothing), Told::Client(0)),
             (1, Asked::Server, Told::Server(1)),
@@ -197,7 +181,7 @@ fn each_pair_has_its_own_count_of_what_is_borrowed(rt: HostRuntime) -> Result<()
             (0, Asked::Receive(3), Told::Handle(8)),
             (0, Asked::Read(8), Told::Words(1, 11)),
         ],
-    )
+    );
 }
 
 /// A client sends a request and goes.
@@ -216,19 +200,23 @@ const ASKS: &[Row] = &[
 ];
 
 #[test]
-fn a_server_receives_the_request_of_a_client_that_is_gone(rt: HostRuntime) -> Result<(), Fail> {
-    plays_in(&rt, rt.alloc(), keeping(0, 1), ASKS)
+fn a_server_receives_the_request_of_a_client_that_is_gone(rt: HostRuntime) {
+    const KEEPING: Settings = keeping!(0, 1);
+    plays_in(&rt, rt.alloc(), &KEEPING, ASKS);
 }
 
 #[test]
-fn a_server_keeps_no_request_where_it_is_not_to_be_forgotten(rt: HostRuntime) -> Result<(), Fail> {
+fn a_server_keeps_no_request_where_it_is_not_to_be_forgotten(rt: HostRuntime) {
+    const FORGETTING: Settings = Settings {
+        servers: 2,
+        server_expired: 1,
+        fire_and_forget: false,
+        ..SETTINGS
+    };
     plays_in(
         &rt,
         rt.alloc(),
-        Settings {
-            fire_and_forget: false,
-            ..keeping(0, 1)
-        },
+        &FORGETTING,
         &[
             (0, Asked::Client(Given::Nothing), Told::Client(0)),
             (1, Asked::Server, Told::Server(1)),
@@ -238,5 +226,5 @@ fn a_server_keeps_no_request_where_it_is_not_to_be_forgotten(rt: HostRuntime) ->
             (1, Asked::HasRequests(1), Told::Answer(false)),
             (1, Asked::Receive(1), Told::Nothing),
         ],
-    )
+    );
 }

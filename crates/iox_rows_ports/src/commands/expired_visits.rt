@@ -1,23 +1,19 @@
 //! In which order what is waiting of ports that are gone is received, and what of it stays.
-use super::expired::keeping;
-use super::{Asked, Given, Row, Told, plays_in};
+use super::{Asked, Given, Row, SETTINGS, Told, plays_both, plays_in};
 use iox_control::Settings;
 use iox_model::reply::Refusal;
-use std::alloc::Global;
-use std::process::Abort;
-use std::test::Fail;
 
 #[test]
-fn the_gone_come_before_the_connected_and_the_first_that_went_before_others(
-    rt: HostRuntime,
-) -> Result<(), Fail> {
+fn the_gone_come_before_the_connected_and_the_first_that_went_before_others(rt: HostRuntime) {
+    const THREE: Settings = Settings {
+        servers: 3,
+        client_expired: 2,
+        ..SETTINGS
+    };
     plays_in(
         &rt,
         rt.alloc(),
-        Settings {
-            servers: 3,
-            ..keeping(2, 0)
-        },
+        &THREE,
         &[
             (0, Asked::Client(Given::Nothing), Told::Client(0)),
             (1, Asked::Server, Told::Server(1)),
@@ -43,15 +39,16 @@ fn the_gone_come_before_the_connected_and_the_first_that_went_before_others(
             (0, Asked::Read(10), Told::Words(1, 10)),
             (0, Asked::Receive(4), Told::Nothing),
         ],
-    )
+    );
 }
 
 #[test]
-fn a_server_receives_of_the_gone_before_the_connected(rt: HostRuntime) -> Result<(), Fail> {
+fn a_server_receives_of_the_gone_before_the_connected(rt: HostRuntime) {
+    const KEEPING: Settings = keeping!(0, 2);
     plays_in(
         &rt,
         rt.alloc(),
-        keeping(0, 2),
+        &KEEPING,
         &[
             (0, Asked::Client(Given::Nothing), Told::Client(0)),
             (0, Asked::Client(Given::Nothing), Told::Client(1)),
@@ -65,7 +62,7 @@ fn a_server_receives_of_the_gone_before_the_connected(rt: HostRuntime) -> Result
             (1, Asked::Receive(2), Told::Handle(6)),
             (1, Asked::Read(6), Told::Words(3, 123)),
         ],
-    )
+    );
 }
 
 /// A client receives the only answer of a server, which then goes: nothing of it is kept.
@@ -85,13 +82,15 @@ const TAKEN: &[Row] = &[
 ];
 
 #[test]
-fn what_was_received_stays_though_its_pair_is_not_kept(rt: HostRuntime) -> Result<(), Fail> {
-    plays_in(&rt, rt.alloc(), keeping(2, 0), TAKEN)
+fn what_was_received_stays_though_its_pair_is_not_kept(rt: HostRuntime) {
+    const KEEPING: Settings = keeping!(2, 0);
+    plays_in(&rt, rt.alloc(), &KEEPING, TAKEN);
 }
 
 #[test]
-fn what_was_received_stays_where_no_pair_is_kept(rt: HostRuntime) -> Result<(), Fail> {
-    plays_in(&rt, rt.alloc(), keeping(0, 0), TAKEN)
+fn what_was_received_stays_where_no_pair_is_kept(rt: HostRuntime) {
+    const KEEPING: Settings = keeping!(0, 0);
+    plays_in(&rt, rt.alloc(), &KEEPING, TAKEN);
 }
 
 /// What is waiting of server 1 is an answer to a request that was given up, and what is waiting of
@@ -115,47 +114,47 @@ const STALE: &[Row] = &[
     (1, Asked::Release(1), Told::Done),
 ];
 
-/// That, and then this.
-fn then(rt: &impl Abort, alloc: Global, kept: usize, rest: &[Row]) -> Result<(), Fail> {
-    let mut list = Vec::new(alloc);
-    for row in STALE {
-        list.push(*row)?;
-    }
-    for row in rest {
-        list.push(*row)?;
-    }
-    let settings = Settings {
+#[test]
+fn a_stale_message_keeps_a_pair_in_place_of_an_older_one(rt: HostRuntime) {
+    const KEEPING: Settings = Settings {
         active_requests: 2,
-        ..keeping(kept, 0)
+        ..keeping!(1, 0)
     };
-    plays_in(rt, alloc, settings, &list)
-}
-
-#[test]
-fn a_stale_message_keeps_a_pair_in_place_of_an_older_one(rt: HostRuntime) -> Result<(), Fail> {
-    then(&rt, rt.alloc(), 1, &[(0, Asked::Receive(6), Told::Nothing)])
-}
-
-#[test]
-fn with_room_for_both_the_older_one_is_received(rt: HostRuntime) -> Result<(), Fail> {
-    then(
+    plays_both(
         &rt,
         rt.alloc(),
-        2,
+        &KEEPING,
+        STALE,
+        &[(0, Asked::Receive(6), Told::Nothing)],
+    );
+}
+
+#[test]
+fn with_room_for_both_the_older_one_is_received(rt: HostRuntime) {
+    const KEEPING: Settings = Settings {
+        active_requests: 2,
+        ..keeping!(2, 0)
+    };
+    plays_both(
+        &rt,
+        rt.alloc(),
+        &KEEPING,
+        STALE,
         &[
             (0, Asked::Receive(6), Told::Handle(8)),
             (0, Asked::Read(8), Told::Words(1, 20)),
             (0, Asked::Receive(6), Told::Nothing),
         ],
-    )
+    );
 }
 
 #[test]
-fn room_for_what_is_kept_is_taken_as_a_port_is_made(rt: HostRuntime) -> Result<(), Fail> {
+fn room_for_what_is_kept_is_taken_as_a_port_is_made(rt: HostRuntime) {
+    const KEEPING: Settings = keeping!(1 << 60, 0);
     plays_in(
         &rt,
         rt.alloc(),
-        keeping(1 << 60, 0),
+        &KEEPING,
         &[
             (
                 0,
@@ -164,5 +163,5 @@ fn room_for_what_is_kept_is_taken_as_a_port_is_made(rt: HostRuntime) -> Result<(
             ),
             (1, Asked::Server, Told::Server(0)),
         ],
-    )
+    );
 }

@@ -4,13 +4,12 @@ use super::{Asked, Given, Told, plays};
 use iox_control::Settings;
 use iox_model::reply::Refusal;
 use iox_types::AllocationStrategy;
-use std::test::Fail;
 
 /// A client whose messages grow.
 const GROWING: Asked = Asked::Client(Given::Allocation(AllocationStrategy::BestFit));
 
 #[test]
-fn a_loan_past_the_greatest_length_is_written_sent_and_read(rt: HostRuntime) -> Result<(), Fail> {
+fn a_loan_past_the_greatest_length_is_written_sent_and_read(rt: HostRuntime) {
     plays(
         &rt,
         rt.alloc(),
@@ -23,11 +22,11 @@ fn a_loan_past_the_greatest_length_is_written_sent_and_read(rt: HostRuntime) -> 
             (1, Asked::Receive(0), Told::Handle(3)),
             (1, Asked::Read(3), Told::Words(34, 37)),
         ],
-    )
+    );
 }
 
 #[test]
-fn a_copy_past_the_greatest_length_is_read_whole(rt: HostRuntime) -> Result<(), Fail> {
+fn a_copy_past_the_greatest_length_is_read_whole(rt: HostRuntime) {
     plays(
         &rt,
         rt.alloc(),
@@ -38,11 +37,11 @@ fn a_copy_past_the_greatest_length_is_read_whole(rt: HostRuntime) -> Result<(), 
             (1, Asked::Receive(0), Told::Handle(3)),
             (1, Asked::Read(3), Told::Words(41, 48)),
         ],
-    )
+    );
 }
 
 #[test]
-fn a_loan_without_a_layout_or_memory_is_refused(rt: HostRuntime) -> Result<(), Fail> {
+fn a_loan_without_a_layout_or_memory_is_refused(rt: HostRuntime) {
     plays(
         &rt,
         rt.alloc(),
@@ -66,11 +65,11 @@ fn a_loan_without_a_layout_or_memory_is_refused(rt: HostRuntime) -> Result<(), F
                 Told::Refused(Refusal::ExceedsMaxLoans),
             ),
         ],
-    )
+    );
 }
 
 #[test]
-fn a_pool_that_is_dry_is_told_before_want_of_memory(rt: HostRuntime) -> Result<(), Fail> {
+fn a_pool_that_is_dry_is_told_before_want_of_memory(rt: HostRuntime) {
     plays(
         &rt,
         rt.alloc(),
@@ -89,19 +88,19 @@ fn a_pool_that_is_dry_is_told_before_want_of_memory(rt: HostRuntime) -> Result<(
                 Told::Refused(Refusal::WantOfMemory),
             ),
         ],
-    )
+    );
 }
 
 #[test]
-fn the_setting_lets_messages_grow_unless_the_option_says_no(rt: HostRuntime) -> Result<(), Fail> {
-    let settings = Settings {
+fn the_setting_lets_messages_grow_unless_the_option_says_no(rt: HostRuntime) {
+    const SETTINGS: Settings = Settings {
         client_allocation: AllocationStrategy::BestFit,
         ..FIRST
     };
     plays_with(
         &rt,
         rt.alloc(),
-        settings,
+        &SETTINGS,
         &[
             (0, Asked::Client(Given::Nothing), Told::Client(0)),
             (0, Asked::Loan(0, 33), Told::Handle(1)),
@@ -116,19 +115,19 @@ fn the_setting_lets_messages_grow_unless_the_option_says_no(rt: HostRuntime) -> 
                 Told::Refused(Refusal::ExceedsMaxLoanSize),
             ),
         ],
-    )
+    );
 }
 
 #[test]
-fn a_response_past_the_greatest_length_is_read_whole(rt: HostRuntime) -> Result<(), Fail> {
-    let settings = Settings {
+fn a_response_past_the_greatest_length_is_read_whole(rt: HostRuntime) {
+    const SETTINGS: Settings = Settings {
         server_allocation: AllocationStrategy::PowerOfTwo,
         ..FIRST
     };
     plays_with(
         &rt,
         rt.alloc(),
-        settings,
+        &SETTINGS,
         &[
             (0, Asked::Client(Given::Nothing), Told::Client(0)),
             (1, Asked::Server, Told::Server(1)),
@@ -139,5 +138,5 @@ fn a_response_past_the_greatest_length_is_read_whole(rt: HostRuntime) -> Result<
             (0, Asked::Receive(2), Told::Handle(5)),
             (0, Asked::Read(5), Told::Words(33, 0)),
         ],
-    )
+    );
 }

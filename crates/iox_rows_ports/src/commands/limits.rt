@@ -1,10 +1,9 @@
 //! What is refused at a limit.
 use super::{Asked, Given, Told, plays};
 use iox_model::reply::Refusal;
-use std::test::Fail;
 
 #[test]
-fn the_third_loan_of_two_is_refused(rt: HostRuntime) -> Result<(), Fail> {
+fn the_third_loan_of_two_is_refused(rt: HostRuntime) {
     plays(
         &rt,
         rt.alloc(),
@@ -18,11 +17,11 @@ fn the_third_loan_of_two_is_refused(rt: HostRuntime) -> Result<(), Fail> {
                 Told::Refused(Refusal::ExceedsMaxLoans),
             ),
         ],
-    )
+    );
 }
 
 #[test]
-fn a_loan_from_a_pool_of_one_is_the_only_one(rt: HostRuntime) -> Result<(), Fail> {
+fn a_loan_from_a_pool_of_one_is_the_only_one(rt: HostRuntime) {
     plays(
         &rt,
         rt.alloc(),
@@ -35,11 +34,11 @@ fn a_loan_from_a_pool_of_one_is_the_only_one(rt: HostRuntime) -> Result<(), Fail
                 Told::Refused(Refusal::OutOfMemory),
             ),
         ],
-    )
+    );
 }
 
 #[test]
-fn the_second_loan_from_a_pool_of_one_finds_none(rt: HostRuntime) -> Result<(), Fail> {
+fn the_second_loan_from_a_pool_of_one_finds_none(rt: HostRuntime) {
     plays(
         &rt,
         rt.alloc(),
@@ -48,11 +47,11 @@ fn the_second_loan_from_a_pool_of_one_finds_none(rt: HostRuntime) -> Result<(), 
             (0, Asked::Loan(0, 1), Told::Handle(1)),
             (0, Asked::Loan(0, 1), Told::Refused(Refusal::OutOfMemory)),
         ],
-    )
+    );
 }
 
 #[test]
-fn a_second_active_request_of_one_is_refused(rt: HostRuntime) -> Result<(), Fail> {
+fn a_second_active_request_of_one_is_refused(rt: HostRuntime) {
     plays(
         &rt,
         rt.alloc(),
@@ -65,11 +64,11 @@ fn a_second_active_request_of_one_is_refused(rt: HostRuntime) -> Result<(), Fail
                 Told::Refused(Refusal::ExceedsMaxActiveRequests),
             ),
         ],
-    )
+    );
 }
 
 #[test]
-fn a_request_to_a_full_server_is_refused(rt: HostRuntime) -> Result<(), Fail> {
+fn a_request_to_a_full_server_is_refused(rt: HostRuntime) {
     plays(
         &rt,
         rt.alloc(),
@@ -84,11 +83,11 @@ fn a_request_to_a_full_server_is_refused(rt: HostRuntime) -> Result<(), Fail> {
                 Told::Refused(Refusal::UnableToDeliver),
             ),
         ],
-    )
+    );
 }
 
 #[test]
-fn a_second_response_of_one_is_not_lent_out(rt: HostRuntime) -> Result<(), Fail> {
+fn a_second_response_of_one_is_not_lent_out(rt: HostRuntime) {
     plays(
         &rt,
         rt.alloc(),
@@ -106,5 +105,5 @@ fn a_second_response_of_one_is_not_lent_out(rt: HostRuntime) -> Result<(), Fail>
                 Told::Refused(Refusal::ExceedsMaxBorrows),
             ),
         ],
-    )
+    );
 }

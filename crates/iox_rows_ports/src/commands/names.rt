@@ -1,10 +1,9 @@
 //! What is refused by its number, or by what is asked.
 use super::{Asked, Given, Told, plays};
 use iox_model::reply::Refusal;
-use std::test::Fail;
 
 #[test]
-fn a_number_of_nothing_or_of_another_node_is_refused(rt: HostRuntime) -> Result<(), Fail> {
+fn a_number_of_nothing_or_of_another_node_is_refused(rt: HostRuntime) {
     plays(
         &rt,
         rt.alloc(),
@@ -15,11 +14,11 @@ fn a_number_of_nothing_or_of_another_node_is_refused(rt: HostRuntime) -> Result<
             (0, Asked::Release(0), Told::Done),
             (0, Asked::Release(0), Told::Refused(Refusal::UnknownNumber)),
         ],
-    )
+    );
 }
 
 #[test]
-fn what_the_kind_does_not_do_is_refused(rt: HostRuntime) -> Result<(), Fail> {
+fn what_the_kind_does_not_do_is_refused(rt: HostRuntime) {
     plays(
         &rt,
         rt.alloc(),
@@ -30,11 +29,11 @@ fn what_the_kind_does_not_do_is_refused(rt: HostRuntime) -> Result<(), Fail> {
             // Elements of a response are none of a client's.
             (0, Asked::Response(0, 5), Told::Refused(Refusal::WrongKind)),
         ],
-    )
+    );
 }
 
 #[test]
-fn a_length_that_does_not_fit_is_refused(rt: HostRuntime) -> Result<(), Fail> {
+fn a_length_that_does_not_fit_is_refused(rt: HostRuntime) {
     plays(
         &rt,
         rt.alloc(),
@@ -52,24 +51,24 @@ fn a_length_that_does_not_fit_is_refused(rt: HostRuntime) -> Result<(), Fail> {
                 Told::Refused(Refusal::WrongLength),
             ),
         ],
-    )
+    );
 }
 
 #[test]
-fn a_port_that_is_too_large_is_refused(rt: HostRuntime) -> Result<(), Fail> {
-    let refused = Told::Refused(Refusal::UnableToCreateDataSegment);
+fn a_port_that_is_too_large_is_refused(rt: HostRuntime) {
+    const REFUSED: Told = Told::Refused(Refusal::UnableToCreateDataSegment);
     plays(
         &rt,
         rt.alloc(),
         &[
-            (0, Asked::Client(Given::Longest(1 << 60)), refused),
+            (0, Asked::Client(Given::Longest(1 << 60)), REFUSED),
             (0, Asked::Client(Given::Nothing), Told::Client(0)),
         ],
-    )
+    );
 }
 
 #[test]
-fn a_server_beside_the_only_one_is_refused(rt: HostRuntime) -> Result<(), Fail> {
+fn a_server_beside_the_only_one_is_refused(rt: HostRuntime) {
     plays(
         &rt,
         rt.alloc(),
@@ -93,5 +92,5 @@ fn a_server_beside_the_only_one_is_refused(rt: HostRuntime) -> Result<(), Fail> 
                 Told::Refused(Refusal::UnknownNumber),
             ),
         ],
-    )
+    );
 }

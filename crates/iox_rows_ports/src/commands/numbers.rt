@@ -4,15 +4,13 @@ ghost use Rattle.std.specs.Prelude.{IfOk};
 ghost use Rattle.iox_port_commands.specs.Applying.{HaveDefaults};
 
 use super::answering::AnswersAt;
-use super::{Asked, Row, Told, command_of, without_list};
-use crate::expected::equal;
+use super::{Row, goes};
 use iox_control::Settings;
-use iox_port_commands::{Hub, MessageShape, Part, apply};
+use iox_port_commands::{Hub, MessageShape, Part};
 use iox_store::Many;
 use iox_types::{AllocationStrategy, BackpressureStrategy};
 use std::alloc::{AllocError, Global};
 use std::process::Abort;
-use std::test::Fail;
 
 /// Messages are any number of numbers, with no user header.
 type Numbers = Hub<Many<u64>, (), Many<u64>, (), AnswersAt>;
@@ -64,36 +62,8 @@ fn hub_with(alloc: Global, settings: Settings) -> Result<Numbers, AllocError>
     Hub::new(alloc, settings, request, response)
 }
 
-/// What is told. Of what `apply` promises, it passes on what the next one needs.
-fn ask(hub: &mut Numbers, alloc: Global, node: u64, asked: Asked) -> Result<Told, AllocError>
-    requires { HaveDefaults hub.old }
-    ensures { HaveDefaults hub.new }
-{
-    match command_of(alloc, node, asked)? {
-        Some(command) => Ok(without_list(apply(hub, alloc, command))),
-        None => Ok(Told::NoId),
-    }
-}
-
-/// Ends the test if something else is told.
-fn goes(rt: &impl Abort, hub: &mut Numbers, alloc: Global, list: &[Row]) -> Result<(), AllocError>
-    requires { HaveDefaults hub.old }
-{
-    for (node, asked, told) in list {
-        let answer = ask(hub, alloc, *node, *asked)?;
-        equal(rt, answer, *told);
-    }
-    Ok(())
-}
-
-/// The same of a new hub with these settings.
-pub fn plays_with(
-    rt: &impl Abort,
-    alloc: Global,
-    settings: Settings,
-    list: &[Row],
-) -> Result<(), Fail> {
-    let mut hub = hub_with(alloc, settings)?;
-    goes(rt, &mut hub, alloc, list)?;
-    Ok(())
+/// Plays a list in a new hub with these settings.
+pub fn plays_with(rt: &impl Abort, alloc: Global, settings: &Settings, list: &[Row]) {
+    let mut hub = hub_with(alloc, *settings).expect(rt, "a hub");
+    goes(rt, &mut hub, alloc, list);
 }

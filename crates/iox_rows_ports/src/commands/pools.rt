@@ -1,10 +1,9 @@
 //! How many messages a port has by its options, and in which order a port is refused.
 use super::{Asked, Given, Told, plays};
 use iox_model::reply::Refusal;
-use std::test::Fail;
 
 #[test]
-fn a_pool_of_0_acts_as_one_of_1(rt: HostRuntime) -> Result<(), Fail> {
+fn a_pool_of_0_acts_as_one_of_1(rt: HostRuntime) {
     plays(
         &rt,
         rt.alloc(),
@@ -17,11 +16,11 @@ fn a_pool_of_0_acts_as_one_of_1(rt: HostRuntime) -> Result<(), Fail> {
                 Told::Refused(Refusal::OutOfMemory),
             ),
         ],
-    )
+    );
 }
 
 #[test]
-fn a_pool_above_what_is_needed_acts_as_that(rt: HostRuntime) -> Result<(), Fail> {
+fn a_pool_above_what_is_needed_acts_as_that(rt: HostRuntime) {
     // Far more messages than any pool may have.
     plays(
         &rt,
@@ -35,12 +34,12 @@ fn a_pool_above_what_is_needed_acts_as_that(rt: HostRuntime) -> Result<(), Fail>
                 Told::Refused(Refusal::ExceedsMaxActiveRequests),
             ),
         ],
-    )
+    );
 }
 
 #[test]
-fn want_of_memory_is_told_before_too_many_ports(rt: HostRuntime) -> Result<(), Fail> {
-    let refused = Told::Refused(Refusal::UnableToCreateDataSegment);
+fn want_of_memory_is_told_before_too_many_ports(rt: HostRuntime) {
+    const REFUSED: Told = Told::Refused(Refusal::UnableToCreateDataSegment);
     plays(
         &rt,
         rt.alloc(),
@@ -48,12 +47,12 @@ fn want_of_memory_is_told_before_too_many_ports(rt: HostRuntime) -> Result<(), F
             (1, Asked::Server, Told::Server(0)),
             (0, Asked::Client(Given::Nothing), Told::Client(1)),
             (0, Asked::Client(Given::Nothing), Told::Client(2)),
-            (0, Asked::Client(Given::Longest(1 << 60)), refused),
+            (0, Asked::Client(Given::Longest(1 << 60)), REFUSED),
             (
                 0,
                 Asked::Client(Given::Nothing),
                 Told::Refused(Refusal::ExceedsMaxSupportedClients),
             ),
         ],
-    )
+    );
 }

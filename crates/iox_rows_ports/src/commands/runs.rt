@@ -4,18 +4,17 @@ use super::{Asked, Given, Told};
 use iox_control::Settings;
 use iox_model::reply::Refusal;
 use iox_types::BackpressureStrategy;
-use std::test::Fail;
 
 #[test]
-fn a_request_pushes_out_one_that_was_given_up(rt: HostRuntime) -> Result<(), Fail> {
-    let settings = Settings {
+fn a_request_pushes_out_one_that_was_given_up(rt: HostRuntime) {
+    const SETTINGS: Settings = Settings {
         active_requests: 1,
         ..FIRST
     };
     plays_with(
         &rt,
         rt.alloc(),
-        settings,
+        &SETTINGS,
         &[
             (0, Asked::Client(Given::Nothing), Told::Client(0)),
             (1, Asked::Server, Told::Server(1)),
@@ -26,19 +25,19 @@ fn a_request_pushes_out_one_that_was_given_up(rt: HostRuntime) -> Result<(), Fai
             (1, Asked::Read(4), Told::Words(1, 8)),
             (1, Asked::Receive(1), Told::Nothing),
         ],
-    )
+    );
 }
 
 #[test]
-fn a_second_request_awaits_the_end_of_the_first(rt: HostRuntime) -> Result<(), Fail> {
-    let settings = Settings {
+fn a_second_request_awaits_the_end_of_the_first(rt: HostRuntime) {
+    const SETTINGS: Settings = Settings {
         active_requests: 1,
         ..FIRST
     };
     plays_with(
         &rt,
         rt.alloc(),
-        settings,
+        &SETTINGS,
         &[
             (0, Asked::Client(Given::Nothing), Told::Client(0)),
             (1, Asked::Server, Told::Server(1)),
@@ -51,26 +50,28 @@ fn a_second_request_awaits_the_end_of_the_first(rt: HostRuntime) -> Result<(), F
             (0, Asked::Release(2), Told::Done),
             (0, Asked::Request(0, 9, 1), Told::Handle(3)),
         ],
-    )
+    );
 }
 
-/// A server has room for one request of a client, and does not lose it for another.
-fn full_after_one(client_strategy: BackpressureStrategy) -> Settings {
-    Settings {
-        active_requests: 1,
-        request_overflow: false,
-        client_strategy,
-        ..FIRST
-    }
-}
+/// A server has room for one request of a client, and does not lose it for another. A client
+/// discards.
+const FULL_AFTER_ONE: Settings = Settings {
+    active_requests: 1,
+    request_overflow: false,
+    client_strategy: BackpressureStrategy::DiscardData,
+    ..FIRST
+};
 
 #[test]
-fn a_refused_copy_uses_no_number(rt: HostRuntime) -> Result<(), Fail> {
-    let settings = full_after_one(BackpressureStrategy::RetryUntilDelivered);
+fn a_refused_copy_uses_no_number(rt: HostRuntime) {
+    const SETTINGS: Settings = Settings {
+        client_strategy: BackpressureStrategy::RetryUntilDelivered,
+        ..FULL_AFTER_ONE
+    };
     plays_with(
         &rt,
         rt.alloc(),
-        settings,
+        &SETTINGS,
         &[
             (0, Asked::Client(Given::Nothing), Told::Client(0)),
             (1, Asked::Server, Told::Server(1)),
@@ -83,16 +84,15 @@ fn a_refused_copy_uses_no_number(rt: HostRuntime) -> Result<(), Fail> {
             ),
             (0, Asked::Loan(0, 1), Told::Handle(3)),
         ],
-    )
+    );
 }
 
 #[test]
-fn a_full_server_is_passed_over(rt: HostRuntime) -> Result<(), Fail> {
-    let settings = full_after_one(BackpressureStrategy::DiscardData);
+fn a_full_server_is_passed_over(rt: HostRuntime) {
     plays_with(
         &rt,
         rt.alloc(),
-        settings,
+        &FULL_AFTER_ONE,
         &[
             (0, Asked::Client(Given::Nothing), Told::Client(0)),
             (1, Asked::Server, Told::Server(1)),
@@ -105,19 +105,19 @@ fn a_full_server_is_passed_over(rt: HostRuntime) -> Result<(), Fail> {
             (1, Asked::Read(4), Told::Words(1, 5)),
             (1, Asked::Receive(1), Told::Nothing),
         ],
-    )
+    );
 }
 
 #[test]
-fn a_release_makes_room_for_the_next_response(rt: HostRuntime) -> Result<(), Fail> {
-    let settings = Settings {
+fn a_release_makes_room_for_the_next_response(rt: HostRuntime) {
+    const SETTINGS: Settings = Settings {
         borrowed_responses: 1,
         ..FIRST
     };
     plays_with(
         &rt,
         rt.alloc(),
-        settings,
+        &SETTINGS,
         &[
             (0, Asked::Client(Given::Nothing), Told::Client(0)),
             (1, Asked::Server, Told::Server(1)),
@@ -135,19 +135,19 @@ fn a_release_makes_room_for_the_next_response(rt: HostRuntime) -> Result<(), Fai
             (0, Asked::Receive(2), Told::Handle(5)),
             (0, Asked::Read(5), Told::Words(1, 11)),
         ],
-    )
+    );
 }
 
 #[test]
-fn a_request_that_was_given_up_is_skipped(rt: HostRuntime) -> Result<(), Fail> {
-    let settings = Settings {
+fn a_request_that_was_given_up_is_skipped(rt: HostRuntime) {
+    const SETTINGS: Settings = Settings {
         fire_and_forget: false,
         ..FIRST
     };
     plays_with(
         &rt,
         rt.alloc(),
-        settings,
+        &SETTINGS,
         &[
             (0, Asked::Client(Given::Nothing), Told::Client(0)),
             (1, Asked::Server, Told::Server(1)),
@@ -157,39 +157,37 @@ fn a_request_that_was_given_up_is_skipped(rt: HostRuntime) -> Result<(), Fail> {
             (1, Asked::Receive(1), Told::Nothing),
             (1, Asked::HasRequests(1), Told::Answer(false)),
         ],
-    )
+    );
 }
 
 #[test]
-fn a_client_with_too_many_messages_is_not_made(rt: HostRuntime) -> Result<(), Fail> {
-    let settings = Settings {
+fn a_client_with_too_many_messages_is_not_made(rt: HostRuntime) {
+    const SETTINGS: Settings = Settings {
         loaned_requests: 16_777_215,
         ..FIRST
     };
     plays_with(
         &rt,
         rt.alloc(),
-        settings,
+        &SETTINGS,
         &[(
             0,
             Asked::Client(Given::Nothing),
             Told::Refused(Refusal::UnableToCreateDataSegment),
         )],
-    )
+    );
 }
 
 #[test]
-fn a_client_with_a_small_pool_in_place_of_too_many_messages_is_made(
-    rt: HostRuntime,
-) -> Result<(), Fail> {
-    let settings = Settings {
+fn a_client_with_a_small_pool_in_place_of_too_many_messages_is_made(rt: HostRuntime) {
+    const SETTINGS: Settings = Settings {
         loaned_requests: 16_777_215,
         ..FIRST
     };
     plays_with(
         &rt,
         rt.alloc(),
-        settings,
+        &SETTINGS,
         &[
             (0, Asked::Client(Given::Pool(1)), Told::Client(0)),
             (
@@ -198,30 +196,30 @@ fn a_client_with_a_small_pool_in_place_of_too_many_messages_is_made(
                 Told::Refused(Refusal::UnableToCreateDataSegment),
             ),
         ],
-    )
+    );
 }
 
 #[test]
-fn a_client_lends_to_no_other_node(rt: HostRuntime) -> Result<(), Fail> {
+fn a_client_lends_to_no_other_node(rt: HostRuntime) {
     plays_with(
         &rt,
         rt.alloc(),
-        FIRST,
+        &FIRST,
         &[
             (0, Asked::Client(Given::Nothing), Told::Client(0)),
             (1, Asked::Server, Told::Server(1)),
             (1, Asked::Loan(0, 1), Told::Refused(Refusal::ForeignNumber)),
             (0, Asked::Loan(0, 1), Told::Handle(2)),
         ],
-    )
+    );
 }
 
 #[test]
-fn a_loan_has_no_more_elements_than_its_client(rt: HostRuntime) -> Result<(), Fail> {
+fn a_loan_has_no_more_elements_than_its_client(rt: HostRuntime) {
     plays_with(
         &rt,
         rt.alloc(),
-        FIRST,
+        &FIRST,
         &[
             (0, Asked::Client(Given::Longest(32)), Told::Client(0)),
             (
@@ -239,5 +237,5 @@ fn a_loan_has_no_more_elements_than_its_client(rt: HostRuntime) -> Result<(), Fa
             ),
             (0, Asked::Loan(0, 32), Told::Handle(2)),
         ],
-    )
+    );
 }

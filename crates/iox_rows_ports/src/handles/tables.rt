@@ -1,10 +1,30 @@
-ghost use Rattle.std.specs.Prelude.{◌≡◌};
+//! A table. A test is a list of what is done and of what has to come of it, which one function
+//! plays.
+ghost use Rattle.std.specs.Prelude.{◌≡◌, ◌≤◌};
 
-use crate::expected::{equal, holds};
+use crate::expected::{equal, holds, is_so};
 use iox_handles::{Entry, Table};
 use iox_model::kind::Kind;
+use std::alloc::Global;
 use std::process::Abort;
-use std::test::Fail;
+
+/// What is done with handles or asked of them, and what has to come of it. Numbers come first.
+enum Deed {
+    /// A handle of this kind is added, and stands in this place.
+    Adds(u64, Kind, usize),
+    /// At this hint a handle of this kind is found, or none.
+    Finds(u64, usize, Option<Kind>),
+    /// At this hint a handle of this kind is removed, or none.
+    Removes(u64, usize, Option<Kind>),
+    /// It gets this kind, and at this hint it had that kind, or there is none.
+    Changes(u64, Kind, usize, Option<Kind>),
+    /// How many handles of that kind and of ports 2 and 3 there are.
+    Counts(Kind, (usize, usize)),
+    Room(usize),
+    Reserves(usize),
+    /// There is no memory for so many more.
+    LacksRoom(usize),
+}
 
 fn entry(number: u64, kind: Kind) -> Entry
     ensures { result.number ≡ number }
@@ -21,71 +41,134 @@ fn entry(number: u64, kind: Kind) -> Entry
     }
 }
 
-/// Ends the test if another handle is found, or none.
-fn finds(rt: &impl Abort, table: &Table, number: u64, hint: usize, kind: Kind) {
-    equal(rt, table.find(number, hint), Some(entry(number, kind)));
+/// The handle of that number, if it has a kind.
+fn known(number: u64, kind: Option<Kind>) -> Option<Entry> {
+    Some(entry(number, kind?))
 }
 
-/// Ends the test if a handle is found.
-fn finds_none(rt: &impl Abort, table: &Table, number: u64, hint: usize) {
-    equal(rt, table.find(number, hint), None);
+/// Ends the test if something else is seen.
+fn sees(rt: &impl Abort, table: &Table, deed: &Deed) {
+    match deed {
+        Deed::Finds(number, hint, kind) => {
+            equal(rt, table.find(*number, *hint), known(*number, *kind));
+        }
+        Deed::Counts(kind, wanted) => {
+            equal(rt, (table.count(2, *kind), table.count(3, *kind)), *wanted);
+        }
+        Deed::Room(wanted) => equal(rt, table.room(), *wanted),
+        _ => holds(rt, false),
+    }
 }
 
-/// How many handles of that kind and of ports 2 and 3 there are, and for how many there is room.
-fn counts(table: &Table, kind: Kind) -> (usize, usize, usize) {
-    (table.count(2, kind), table.count(3, kind), table.room())
+/// Does it, where no handle has that number or a greater one. It tells what no handle has then.
+fn does(rt: &impl Abort, table: &mut Table, next: u64, deed: &Deed) -> u64
+    requires { table.old.next ≤ next }
+    ensures { table.new.next ≤ result }
+{
+    match deed {
+        Deed::Adds(number, kind, place) => {
+            is_so(
+                rt,
+                table.room() > 0 && *number >= next && *number < u64::MAX,
+            );
+            equal(rt, table.add(entry(*number, *kind)), *place);
+            return *number + 1;
+        }
+        Deed::Removes(number, hint, kind) => {
+            equal(rt, table.remove(*number, *hint), known(*number, *kind));
+        }
+        Deed::Changes(number, kind, hint, from) => {
+            equal(
+                rt,
+                table.change(entry(*number, *kind), *hint),
+                known(*number, *from),
+            );
+        }
+        Deed::Reserves(more) => table.reserve(*more).expect(rt, "room"),
+        Deed::LacksRoom(more) => holds(rt, table.reserve(*more).is_err()),
+        _ => sees(rt, table, deed),
+    }
+    next
+}
+
+/// Does all of it with a table in which no handle was.
+fn goes(rt: &impl Abort, table: &mut Table, list: &[Deed])
+    requires { table.old.next ≡ 0 }
+{
+    let mut next = 0;
+    for deed in list {
+        next = does(rt, table, next, deed);
+    }
+}
+
+/// Does all of it with a new table, which has room for so many.
+fn plays(rt: &impl Abort, alloc: Global, room: usize, list: &[Deed]) {
+    let mut table = Table::new(alloc, room).expect(rt, "a table");
+    goes(rt, &mut table, list);
 }
 
 #[test]
-fn handles_come_and_go_by_number(rt: HostRuntime) -> Result<(), Fail> {
-    let mut table = Table::new(rt.alloc(), 2)?;
-    let first = table.add(entry(5, Kind::RequestMut));
-    let second = table.add(entry(9, Kind::Response));
-    equal(&rt, counts(&table, Kind::Response), (1, 0, 0));
-    finds(&rt, &table, 5, first, Kind::RequestMut);
-    finds(&rt, &table, 9, first, Kind::Response);
-    finds_none(&rt, &table, 6, second);
-    let removed = table.remove(5, 7);
-    equal(&rt, removed, Some(entry(5, Kind::RequestMut)));
-    let again = table.remove(5, first);
-    equal(&rt, again, None);
-    equal(&rt, counts(&table, Kind::Response), (1, 0, 1));
-    let third = table.add(entry(10, Kind::ActiveRequest));
-    equal(&rt, third, first);
-    finds(&rt, &table, 10, third, Kind::ActiveRequest);
-    finds(&rt, &table, 9, second, Kind::Response);
-    Ok(())
-}
-
-/// Ends the test if the handle is not changed from this kind.
-fn changes(rt: &impl Abort, table: &mut Table, sent: Entry, hint: usize, from: Kind) {
-    let before = entry(sent.number, from);
-    equal(rt, table.change(sent, hint), Some(before));
-}
-
-#[test]
-fn a_handle_changes_under_its_number(rt: HostRuntime) -> Result<(), Fail> {
-    let mut table = Table::new(rt.alloc(), 1)?;
-    let place = table.add(entry(0, Kind::RequestMut));
-    let sent = entry(0, Kind::PendingResponse);
-    changes(&rt, &mut table, sent, place, Kind::RequestMut);
-    finds(&rt, &table, 0, place, Kind::PendingResponse);
-    let unknown = table.change(entry(1, Kind::Response), place);
-    equal(&rt, unknown, None);
-    finds_none(&rt, &table, 1, place);
-    Ok(())
+fn handles_come_and_go_by_number(rt: HostRuntime) {
+    plays(
+        &rt,
+        rt.alloc(),
+        2,
+        &[
+            Deed::Adds(5, Kind::RequestMut, 0),
+            Deed::Adds(9, Kind::Response, 1),
+            Deed::Counts(Kind::Response, (1, 0)),
+            Deed::Room(0),
+            Deed::Finds(5, 0, Some(Kind::RequestMut)),
+            Deed::Finds(9, 0, Some(Kind::Response)),
+            Deed::Finds(6, 1, None),
+            Deed::Removes(5, 7, Some(Kind::RequestMut)),
+            Deed::Removes(5, 0, None),
+            Deed::Counts(Kind::Response, (1, 0)),
+            Deed::Room(1),
+            // It stands where the first was.
+            Deed::Adds(10, Kind::ActiveRequest, 0),
+            Deed::Finds(10, 0, Some(Kind::ActiveRequest)),
+            Deed::Finds(9, 1, Some(Kind::Response)),
+        ],
+    );
 }
 
 #[test]
-fn room_is_reserved_or_nothing_changes(rt: HostRuntime) -> Result<(), Fail> {
-    let mut table = Table::new(rt.alloc(), 0)?;
-    equal(&rt, table.room(), 0);
-    table.reserve(2)?;
-    equal(&rt, table.room(), 2);
-    let place = table.add(entry(3, Kind::Response));
-    holds(&rt, table.reserve(usize::MAX - 1).is_err());
-    equal(&rt, table.room(), 1);
-    finds(&rt, &table, 3, place, Kind::Response);
-    holds(&rt, Table::new(rt.alloc(), usize::MAX).is_err());
-    Ok(())
+fn a_handle_changes_under_its_number(rt: HostRuntime) {
+    plays(
+        &rt,
+        rt.alloc(),
+        1,
+        &[
+            Deed::Adds(0, Kind::RequestMut, 0),
+            Deed::Changes(0, Kind::PendingResponse, 0, Some(Kind::RequestMut)),
+            Deed::Finds(0, 0, Some(Kind::PendingResponse)),
+            Deed::Changes(1, Kind::Response, 0, None),
+            Deed::Finds(1, 0, None),
+        ],
+    );
+}
+
+/// Ends the test unless there is no memory for so many handles.
+fn lacks_memory(rt: &impl Abort, alloc: Global, room: usize) {
+    holds(rt, Table::new(alloc, room).is_err());
+}
+
+#[test]
+fn room_is_reserved_or_nothing_changes(rt: HostRuntime) {
+    plays(
+        &rt,
+        rt.alloc(),
+        0,
+        &[
+            Deed::Room(0),
+            Deed::Reserves(2),
+            Deed::Room(2),
+            Deed::Adds(3, Kind::Response, 0),
+            Deed::LacksRoom(usize::MAX - 1),
+            Deed::Room(1),
+            Deed::Finds(3, 0, Some(Kind::Response)),
+        ],
+    );
+    lacks_memory(&rt, rt.alloc(), usize::MAX);
 }
