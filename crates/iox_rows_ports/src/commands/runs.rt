@@ -53,6 +53,28 @@ fn a_second_request_awaits_the_end_of_the_first(rt: HostRuntime) {
     );
 }
 
+#[test]
+fn two_responses_come_in_their_order_and_then_none(rt: HostRuntime) {
+    plays_with(
+        &rt,
+        rt.alloc(),
+        &FIRST,
+        &[
+            (0, Asked::Client(Given::Nothing), Told::Client(0)),
+            (1, Asked::Server, Told::Server(1)),
+            (0, Asked::Request(0, 123, 1), Told::Handle(2)),
+            (1, Asked::Receive(1), Told::Handle(3)),
+            (1, Asked::Response(3, 456), Told::Done),
+            (1, Asked::Response(3, 789), Told::Done),
+            (0, Asked::Receive(2), Told::Handle(4)),
+            (0, Asked::Receive(2), Told::Handle(5)),
+            (0, Asked::Receive(2), Told::Nothing),
+            (0, Asked::Read(4), Told::Words(1, 456)),
+            (0, Asked::Read(5), Told::Words(1, 789)),
+        ],
+    );
+}
+
 /// A server has room for one request of a client, and does not lose it for another. A client
 /// discards.
 const FULL_AFTER_ONE: Settings = Settings {
