@@ -1,7 +1,8 @@
 //! A client stops at each place of a call, and the server continues.
+use super::on::On;
 use super::play::{Act, Ask, Told};
 use super::settings::NO_OVERFLOW;
-use super::stops::{On, Stop, stops};
+use super::stops::{Stop, stops};
 use std::test::Fail;
 
 /// A request is sent and received.
@@ -43,7 +44,7 @@ const SERVER_GOES_ON: [Act; 3] = [
 
 #[test]
 fn in_its_loan(rt: HostRuntime) -> Result<(), Fail> {
-    let stop = Stop {
+    const STOP: &Stop<'static> = &Stop {
         on: On::Ones(NO_OVERFLOW),
         before: &[],
         node: 0,
@@ -51,12 +52,12 @@ fn in_its_loan(rt: HostRuntime) -> Result<(), Fail> {
         steps: 9,
         after: &[(0, &NOTHING_CAME)],
     };
-    stops(&rt, rt.alloc(), stop)
+    stops(&rt, STOP)
 }
 
 #[test]
 fn in_its_copy(rt: HostRuntime) -> Result<(), Fail> {
-    let stop = Stop {
+    const STOP: &Stop<'static> = &Stop {
         on: On::Ones(NO_OVERFLOW),
         before: &[],
         node: 0,
@@ -64,12 +65,12 @@ fn in_its_copy(rt: HostRuntime) -> Result<(), Fail> {
         steps: 19,
         after: &[(0, &NOTHING_CAME), (19, &REQUEST_CAME)],
     };
-    stops(&rt, rt.alloc(), stop)
+    stops(&rt, STOP)
 }
 
 #[test]
 fn in_its_send(rt: HostRuntime) -> Result<(), Fail> {
-    let stop = Stop {
+    const STOP: &Stop<'static> = &Stop {
         on: On::Ones(NO_OVERFLOW),
         before: &[
             Act::Whole(0, Ask::Loan(0), 9, Told::Handle(2)),
@@ -80,12 +81,12 @@ fn in_its_send(rt: HostRuntime) -> Result<(), Fail> {
         steps: 9,
         after: &[(0, &NOTHING_CAME), (9, &REQUEST_CAME)],
     };
-    stops(&rt, rt.alloc(), stop)
+    stops(&rt, STOP)
 }
 
 #[test]
 fn in_its_write(rt: HostRuntime) -> Result<(), Fail> {
-    let stop = Stop {
+    const STOP: &Stop<'static> = &Stop {
         on: On::Ones(NO_OVERFLOW),
         before: &[Act::Whole(0, Ask::Loan(0), 9, Told::Handle(2))],
         node: 0,
@@ -93,12 +94,12 @@ fn in_its_write(rt: HostRuntime) -> Result<(), Fail> {
         steps: 1,
         after: &[(0, &NOTHING_CAME)],
     };
-    stops(&rt, rt.alloc(), stop)
+    stops(&rt, STOP)
 }
 
 #[test]
 fn as_it_releases_a_loan(rt: HostRuntime) -> Result<(), Fail> {
-    let stop = Stop {
+    const STOP: &Stop<'static> = &Stop {
         on: On::Ones(NO_OVERFLOW),
         before: &[Act::Whole(0, Ask::Loan(0), 9, Told::Handle(2))],
         node: 0,
@@ -106,12 +107,12 @@ fn as_it_releases_a_loan(rt: HostRuntime) -> Result<(), Fail> {
         steps: 1,
         after: &[(0, &NOTHING_CAME)],
     };
-    stops(&rt, rt.alloc(), stop)
+    stops(&rt, STOP)
 }
 
 #[test]
 fn as_it_gives_its_request_up(rt: HostRuntime) -> Result<(), Fail> {
-    let stop = Stop {
+    const STOP: &Stop<'static> = &Stop {
         on: On::Ones(NO_OVERFLOW),
         before: &RECEIVED,
         node: 0,
@@ -136,12 +137,12 @@ fn as_it_gives_its_request_up(rt: HostRuntime) -> Result<(), Fail> {
             ),
         ],
     };
-    stops(&rt, rt.alloc(), stop)
+    stops(&rt, STOP)
 }
 
 #[test]
 fn as_it_hints(rt: HostRuntime) -> Result<(), Fail> {
-    let stop = Stop {
+    const STOP: &Stop<'static> = &Stop {
         on: On::Ones(NO_OVERFLOW),
         before: &RECEIVED,
         node: 0,
@@ -166,12 +167,12 @@ fn as_it_hints(rt: HostRuntime) -> Result<(), Fail> {
             ),
         ],
     };
-    stops(&rt, rt.alloc(), stop)
+    stops(&rt, STOP)
 }
 
 #[test]
 fn as_it_receives(rt: HostRuntime) -> Result<(), Fail> {
-    let stop = Stop {
+    const STOP: &Stop<'static> = &Stop {
         on: On::Ones(NO_OVERFLOW),
         before: &[
             Act::Whole(0, Ask::CopyRequest(0, 7), 19, Told::Handle(2)),
@@ -206,12 +207,12 @@ fn as_it_receives(rt: HostRuntime) -> Result<(), Fail> {
             ),
         ],
     };
-    stops(&rt, rt.alloc(), stop)
+    stops(&rt, STOP)
 }
 
 #[test]
 fn as_it_finds_nothing(rt: HostRuntime) -> Result<(), Fail> {
-    let stop = Stop {
+    const STOP: &Stop<'static> = &Stop {
         on: On::Ones(NO_OVERFLOW),
         before: &RECEIVED,
         node: 0,
@@ -225,12 +226,12 @@ fn as_it_finds_nothing(rt: HostRuntime) -> Result<(), Fail> {
             ],
         )],
     };
-    stops(&rt, rt.alloc(), stop)
+    stops(&rt, STOP)
 }
 
 #[test]
 fn as_it_gives_a_response_back(rt: HostRuntime) -> Result<(), Fail> {
-    let stop = Stop {
+    const STOP: &Stop<'static> = &Stop {
         on: On::Ones(NO_OVERFLOW),
         before: &[
             Act::Whole(0, Ask::CopyRequest(0, 7), 19, Told::Handle(2)),
@@ -262,12 +263,12 @@ fn as_it_gives_a_response_back(rt: HostRuntime) -> Result<(), Fail> {
             ),
         ],
     };
-    stops(&rt, rt.alloc(), stop)
+    stops(&rt, STOP)
 }
 
 #[test]
 fn as_it_looks_for_a_response(rt: HostRuntime) -> Result<(), Fail> {
-    let stop = Stop {
+    const STOP: &Stop<'static> = &Stop {
         on: On::Ones(NO_OVERFLOW),
         before: &RECEIVED,
         node: 0,
@@ -275,12 +276,12 @@ fn as_it_looks_for_a_response(rt: HostRuntime) -> Result<(), Fail> {
         steps: 2,
         after: &[(0, &SERVER_GOES_ON)],
     };
-    stops(&rt, rt.alloc(), stop)
+    stops(&rt, STOP)
 }
 
 #[test]
 fn as_it_asks_who_is_there(rt: HostRuntime) -> Result<(), Fail> {
-    let stop = Stop {
+    const STOP: &Stop<'static> = &Stop {
         on: On::Ones(NO_OVERFLOW),
         before: &RECEIVED,
         node: 0,
@@ -288,12 +289,12 @@ fn as_it_asks_who_is_there(rt: HostRuntime) -> Result<(), Fail> {
         steps: 1,
         after: &[(0, &SERVER_GOES_ON)],
     };
-    stops(&rt, rt.alloc(), stop)
+    stops(&rt, STOP)
 }
 
 #[test]
 fn as_it_reads(rt: HostRuntime) -> Result<(), Fail> {
-    let stop = Stop {
+    const STOP: &Stop<'static> = &Stop {
         on: On::Ones(NO_OVERFLOW),
         before: &RECEIVED,
         node: 0,
@@ -301,5 +302,5 @@ fn as_it_reads(rt: HostRuntime) -> Result<(), Fail> {
         steps: 1,
         after: &[(0, &SERVER_GOES_ON)],
     };
-    stops(&rt, rt.alloc(), stop)
+    stops(&rt, STOP)
 }

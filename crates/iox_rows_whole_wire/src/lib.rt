@@ -28,6 +28,8 @@ mod kinds_of_replies;
 #[cfg(test)]
 mod lists;
 #[cfg(test)]
+mod on;
+#[cfg(test)]
 mod play;
 #[cfg(test)]
 mod replies;

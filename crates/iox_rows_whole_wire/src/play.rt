@@ -11,6 +11,8 @@ use std::process::Abort;
 /// No call of these tests takes as many steps.
 const MOST_STEPS: u64 = 1000;
 
+const TWELVE: &[u64] = &[1, 2, 3, 4, 5, 6, 7, 8, 9, 10, 11, 12];
+
 /// A call of the port or the handle of that number. What is written or copied is one word.
 #[derive(Clone, Copy)]
 pub(super) enum Ask {
@@ -29,6 +31,8 @@ pub(super) enum Ask {
     /// Of two words, as a message of that role.
     WriteTwo(u64, Role, [u64; 2]),
     CopyTwo(u64, Role, [u64; 2]),
+    /// Of the words 1 to 12, as a request.
+    CopyTwelve(u64),
     Receive(u64),
     HasRequests(u64),
     Read(u64),
@@ -70,6 +74,8 @@ pub(super) enum Told {
 pub(super) enum Act {
     /// It makes a call from its begin to its end, in so many steps, and is answered that.
     Whole(u64, Ask, u64, Told),
+    /// The same, in however many steps.
+    Calls(u64, Ask, Told),
     Begins(u64, Ask),
     /// It makes so many steps, and its call continues.
     Goes(u64, u64),
@@ -79,10 +85,30 @@ pub(super) enum Act {
     RefusedCall(u64, Ask, WireRefusal),
     RefusedStep(u64, WireRefusal),
     RefusedDeath(u64, WireRefusal),
+    /// A node begins to look for requests of its server of that number.
+    Looks(u64, u64),
+    RefusedLook(u64, u64, WireRefusal),
+    /// Room is made for so many steps, or is not.
+    Reserves(usize),
+    LacksRoom(usize),
     /// The port keeps so many messages.
     Keeps(u64, usize),
     /// The port has so many outstanding at the other, on that lane.
     Lacks(u64, u64, u64, usize),
+    /// The wire has that word at that place.
+    Holds(usize, u64),
+    /// It has so many words, so many words that are 0, so many finished calls, and so many events.
+    HasWords(usize),
+    HasZeros(usize),
+    Finishes(usize),
+    Records(usize),
+    /// Its first finished call was answered so.
+    FirstReply(Told),
+    /// What the node read last.
+    HasRead(u64, Told),
+    /// The node died behind so many events, or it lives.
+    DiedAfter(u64, usize),
+    Lives(u64),
 }
 
 /// What came of it.
@@ -90,12 +116,19 @@ pub(super) enum Act {
 pub(super) enum Came {
     /// The call ended with so many steps more.
     Ended(u64, Told),
+    Answered(Told),
     /// It is under way.
     UnderWay,
     Died,
     Refused(WireRefusal),
     /// So many messages were counted.
     Counted(usize),
+    /// This word was found, if there is one.
+    Found(Option<u64>),
+    /// Whether there is room.
+    Room(bool),
+    /// The node died behind so many events, if it did.
+    Lost(Option<usize>),
 }
 
 /// What a call that is refused answers.
@@ -243,6 +276,7 @@ pub(super) fn begin(wire: &mut Wire, node: u64, ask: Ask) -> Result<(), WireRefu
         Ask::CopyNoRequest(number) => copies(wire, node, number, Role::Client, &[]),
         Ask::WriteTwo(number, role, words) => writes(wire, node, number, role, &words),
         Ask::CopyTwo(number, role, words) => copies(wire, node, number, role, &words),
+        Ask::CopyTwelve(number) => copies(wire, node, number, Role::Client, TWELVE),
         Ask::Receive(number) => wire.begin(node, NodeCall::Receive { number }),
         Ask::HasRequests(number) => wire.begin(node, NodeCall::HasRequests { number }),
         Ask::Read(number) => of(wire, node, number, HandleCall::Read),
@@ -274,6 +308,14 @@ pub(super) fn calls(wire: &mut Wire, node: u64, ask: Ask) -> Came {
     }
 }
 
+/// The same, in however many steps.
+fn answers(wire: &mut Wire, node: u64, ask: Ask) -> Came {
+    match calls(wire, node, ask) {
+        Came::Ended(_, told) => Came::Answered(told),
+        came => came,
+    }
+}
+
 /// What comes of the begin of a call.
 fn begins(wire: &mut Wire, node: u64, ask: Ask) -> Came {
     match begin(wire, node, ask) {
@@ -290,17 +332,63 @@ fn dies(wire: &mut Wire, node: u64) -> Came {
     }
 }
 
+/// What comes of the begin of a look.
+fn looks(wire: &mut Wire, node: u64, number: u64) -> Came {
+    match wire.begin_has_requests(node, number) {
+        Err(refusal) => Came::Refused(refusal),
+        Ok(()) => Came::UnderWay,
+    }
+}
+
 /// What comes of what a node does.
 fn acts(wire: &mut Wire, act: Act) -> Came {
     match act {
         Act::Whole(node, ask, _, _) | Act::RefusedCall(node, ask, _) => calls(wire, node, ask),
+        Act::Calls(node, ask, _) => answers(wire, node, ask),
         Act::Begins(node, ask) => begins(wire, node, ask),
         Act::Goes(node, most) => steps(wire, node, most),
         Act::Ends(node, _, _) => steps(wire, node, MOST_STEPS),
         Act::RefusedStep(node, _) => steps(wire, node, 1),
         Act::Dies(node) | Act::RefusedDeath(node, _) => dies(wire, node),
+        Act::Looks(node, number) | Act::RefusedLook(node, number, _) => looks(wire, node, number),
+        Act::Reserves(count) | Act::LacksRoom(count) => Came::Room(wire.reserve(count).is_ok()),
+        fact => seen(wire, fact),
+    }
+}
+
+/// How many words are 0.
+fn zeros(words: &[u64]) -> usize {
+    let mut count: usize = 0;
+    for word in words {
+        if *word == 0 {
+            count = count.saturating_add(1);
+        }
+    }
+    count
+}
+
+/// What the first finished call was answered.
+fn first_reply(wire: &Wire) -> Came {
+    match wire.replies().get(0) {
+        Some(finished) => Came::Answered(replied(finished.reply)),
+        None => Came::UnderWay,
+    }
+}
+
+/// What is found of the wire.
+fn seen(wire: &Wire, fact: Act) -> Came {
+    match fact {
         Act::Keeps(port, _) => Came::Counted(wire.kept(port)),
         Act::Lacks(port, other, lane, _) => Came::Counted(wire.outstanding(port, other, lane)),
+        Act::Holds(place, _) => Came::Found(wire.words().get(place).copied()),
+        Act::HasWords(_) => Came::Counted(wire.words().len()),
+        Act::HasZeros(_) => Came::Counted(zeros(wire.words())),
+        Act::Finishes(_) => Came::Counted(wire.replies().len()),
+        Act::Records(_) => Came::Counted(wire.events().len()),
+        Act::FirstReply(_) => first_reply(wire),
+        Act::HasRead(node, _) => Came::Answered(word_read(wire.words_read(node))),
+        Act::DiedAfter(node, _) | Act::Lives(node) => Came::Lost(wire.died_after(node)),
+        _ => Came::UnderWay,
     }
 }
 
@@ -308,12 +396,26 @@ fn acts(wire: &mut Wire, act: Act) -> Came {
 fn wanted(act: Act) -> Came {
     match act {
         Act::Whole(_, _, steps, told) | Act::Ends(_, steps, told) => Came::Ended(steps, told),
-        Act::Begins(_, _) | Act::Goes(_, _) => Came::UnderWay,
+        Act::Calls(_, _, told) | Act::FirstReply(told) | Act::HasRead(_, told) => {
+            Came::Answered(told)
+        }
+        Act::Begins(_, _) | Act::Goes(_, _) | Act::Looks(_, _) => Came::UnderWay,
         Act::Dies(_) => Came::Died,
         Act::RefusedCall(_, _, refusal)
         | Act::RefusedStep(_, refusal)
-        | Act::RefusedDeath(_, refusal) => Came::Refused(refusal),
-        Act::Keeps(_, count) | Act::Lacks(_, _, _, count) => Came::Counted(count),
+        | Act::RefusedDeath(_, refusal)
+        | Act::RefusedLook(_, _, refusal) => Came::Refused(refusal),
+        Act::Reserves(_) => Came::Room(true),
+        Act::LacksRoom(_) => Came::Room(false),
+        Act::Keeps(_, count)
+        | Act::Lacks(_, _, _, count)
+        | Act::HasWords(count)
+        | Act::HasZeros(count)
+        | Act::Finishes(count)
+        | Act::Records(count) => Came::Counted(count),
+        Act::Holds(_, word) => Came::Found(Some(word)),
+        Act::DiedAfter(_, events) => Came::Lost(Some(events)),
+        Act::Lives(_) => Came::Lost(None),
     }
 }
 

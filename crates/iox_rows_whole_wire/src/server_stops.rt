@@ -1,7 +1,8 @@
 //! A server stops at each place of a call, and the client continues.
+use super::on::On;
 use super::play::{Act, Ask, Told};
 use super::settings::NO_OVERFLOW;
-use super::stops::{On, Stop, stops};
+use super::stops::{Stop, stops};
 use std::test::Fail;
 
 /// A request is sent.
@@ -48,7 +49,7 @@ const RESPONSE_CAME: [Act; 10] = [
 
 #[test]
 fn as_it_receives(rt: HostRuntime) -> Result<(), Fail> {
-    let stop = Stop {
+    const STOP: &Stop<'static> = &Stop {
         on: On::Ones(NO_OVERFLOW),
         before: &SENT,
         node: 1,
@@ -97,12 +98,12 @@ fn as_it_receives(rt: HostRuntime) -> Result<(), Fail> {
             ),
         ],
     };
-    stops(&rt, rt.alloc(), stop)
+    stops(&rt, STOP)
 }
 
 #[test]
 fn in_its_loan(rt: HostRuntime) -> Result<(), Fail> {
-    let stop = Stop {
+    const STOP: &Stop<'static> = &Stop {
         on: On::Ones(NO_OVERFLOW),
         before: &RECEIVED,
         node: 1,
@@ -110,12 +111,12 @@ fn in_its_loan(rt: HostRuntime) -> Result<(), Fail> {
         steps: 14,
         after: &[(0, &CLIENT_GOES_ON)],
     };
-    stops(&rt, rt.alloc(), stop)
+    stops(&rt, STOP)
 }
 
 #[test]
 fn in_its_write(rt: HostRuntime) -> Result<(), Fail> {
-    let stop = Stop {
+    const STOP: &Stop<'static> = &Stop {
         on: On::Ones(NO_OVERFLOW),
         before: &LENT,
         node: 1,
@@ -123,12 +124,12 @@ fn in_its_write(rt: HostRuntime) -> Result<(), Fail> {
         steps: 1,
         after: &[(0, &CLIENT_GOES_ON)],
     };
-    stops(&rt, rt.alloc(), stop)
+    stops(&rt, STOP)
 }
 
 #[test]
 fn as_it_releases_a_loan(rt: HostRuntime) -> Result<(), Fail> {
-    let stop = Stop {
+    const STOP: &Stop<'static> = &Stop {
         on: On::Ones(NO_OVERFLOW),
         before: &LENT,
         node: 1,
@@ -136,12 +137,12 @@ fn as_it_releases_a_loan(rt: HostRuntime) -> Result<(), Fail> {
         steps: 1,
         after: &[(0, &CLIENT_GOES_ON)],
     };
-    stops(&rt, rt.alloc(), stop)
+    stops(&rt, STOP)
 }
 
 #[test]
 fn in_its_copy(rt: HostRuntime) -> Result<(), Fail> {
-    let stop = Stop {
+    const STOP: &Stop<'static> = &Stop {
         on: On::Ones(NO_OVERFLOW),
         before: &RECEIVED,
         node: 1,
@@ -149,12 +150,12 @@ fn in_its_copy(rt: HostRuntime) -> Result<(), Fail> {
         steps: 24,
         after: &[(0, &CLIENT_GOES_ON), (24, &RESPONSE_CAME)],
     };
-    stops(&rt, rt.alloc(), stop)
+    stops(&rt, STOP)
 }
 
 #[test]
 fn in_its_send(rt: HostRuntime) -> Result<(), Fail> {
-    let stop = Stop {
+    const STOP: &Stop<'static> = &Stop {
         on: On::Ones(NO_OVERFLOW),
         before: &[
             Act::Whole(0, Ask::CopyRequest(0, 7), 19, Told::Handle(2)),
@@ -167,12 +168,12 @@ fn in_its_send(rt: HostRuntime) -> Result<(), Fail> {
         steps: 9,
         after: &[(0, &CLIENT_GOES_ON), (9, &RESPONSE_CAME)],
     };
-    stops(&rt, rt.alloc(), stop)
+    stops(&rt, STOP)
 }
 
 #[test]
 fn as_it_gives_a_request_back(rt: HostRuntime) -> Result<(), Fail> {
-    let stop = Stop {
+    const STOP: &Stop<'static> = &Stop {
         on: On::Ones(NO_OVERFLOW),
         before: &RECEIVED,
         node: 1,
@@ -205,12 +206,12 @@ fn as_it_gives_a_request_back(rt: HostRuntime) -> Result<(), Fail> {
             ),
         ],
     };
-    stops(&rt, rt.alloc(), stop)
+    stops(&rt, STOP)
 }
 
 #[test]
 fn as_it_looks_for_requests(rt: HostRuntime) -> Result<(), Fail> {
-    let stop = Stop {
+    const STOP: &Stop<'static> = &Stop {
         on: On::Ones(NO_OVERFLOW),
         before: &SENT,
         node: 1,
@@ -226,12 +227,12 @@ fn as_it_looks_for_requests(rt: HostRuntime) -> Result<(), Fail> {
             ],
         )],
     };
-    stops(&rt, rt.alloc(), stop)
+    stops(&rt, STOP)
 }
 
 #[test]
 fn as_it_finds_nothing(rt: HostRuntime) -> Result<(), Fail> {
-    let stop = Stop {
+    const STOP: &Stop<'static> = &Stop {
         on: On::Ones(NO_OVERFLOW),
         before: &[],
         node: 1,
@@ -245,12 +246,12 @@ fn as_it_finds_nothing(rt: HostRuntime) -> Result<(), Fail> {
             ],
         )],
     };
-    stops(&rt, rt.alloc(), stop)
+    stops(&rt, STOP)
 }
 
 #[test]
 fn as_it_asks_who_is_there(rt: HostRuntime) -> Result<(), Fail> {
-    let stop = Stop {
+    const STOP: &Stop<'static> = &Stop {
         on: On::Ones(NO_OVERFLOW),
         before: &RECEIVED,
         node: 1,
@@ -258,12 +259,12 @@ fn as_it_asks_who_is_there(rt: HostRuntime) -> Result<(), Fail> {
         steps: 1,
         after: &[(0, &CLIENT_GOES_ON)],
     };
-    stops(&rt, rt.alloc(), stop)
+    stops(&rt, STOP)
 }
 
 #[test]
 fn as_it_looks_for_a_hint(rt: HostRuntime) -> Result<(), Fail> {
-    let stop = Stop {
+    const STOP: &Stop<'static> = &Stop {
         on: On::Ones(NO_OVERFLOW),
         before: &RECEIVED,
         node: 1,
@@ -271,12 +272,12 @@ fn as_it_looks_for_a_hint(rt: HostRuntime) -> Result<(), Fail> {
         steps: 1,
         after: &[(0, &CLIENT_GOES_ON)],
     };
-    stops(&rt, rt.alloc(), stop)
+    stops(&rt, STOP)
 }
 
 #[test]
 fn as_it_reads(rt: HostRuntime) -> Result<(), Fail> {
-    let stop = Stop {
+    const STOP: &Stop<'static> = &Stop {
         on: On::Ones(NO_OVERFLOW),
         before: &RECEIVED,
         node: 1,
@@ -284,5 +285,5 @@ fn as_it_reads(rt: HostRuntime) -> Result<(), Fail> {
         steps: 1,
         after: &[(0, &CLIENT_GOES_ON)],
     };
-    stops(&rt, rt.alloc(), stop)
+    stops(&rt, STOP)
 }

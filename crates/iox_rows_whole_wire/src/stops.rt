@@ -1,23 +1,10 @@
 //! A node stops at a place of its call, and the other one continues.
+use super::on::{On, opened};
 use super::play::{Act, Ask, Came, begin, plays, steps};
-use super::settings::{Service, open};
-use super::{four, wide};
-use crate::expected::equal;
+use crate::expected::{equal, holds};
 use iox_wire::{Wire, WireRefusal};
-use std::alloc::Global;
 use std::process::Abort;
 use std::test::Fail;
-
-/// The wire on which a node stops.
-#[derive(Clone, Copy)]
-pub(super) enum On {
-    /// Each limit is 1.
-    Ones(Service),
-    /// It has four ports.
-    Four(Service),
-    /// It has wide messages.
-    Wide,
-}
 
 /// What comes of a stop.
 #[derive(Clone, Copy)]
@@ -41,7 +28,7 @@ pub(super) struct Between<'a> {
 }
 
 /// What comes after a stop behind so many steps.
-fn after<'a>(stop: Stop<'a>, made: u64) -> &'a [Act] {
+fn after<'a>(stop: &Stop<'a>, made: u64) -> &'a [Act] {
     let mut table: &'a [Act] = &[];
     for (from, then) in stop.after {
         if *from <= made {
@@ -51,18 +38,9 @@ fn after<'a>(stop: Stop<'a>, made: u64) -> &'a [Act] {
     table
 }
 
-/// The wire on which that comes.
-fn opened(alloc: Global, on: On) -> Result<Wire, Fail> {
-    match on {
-        On::Ones(service) => open(alloc, service),
-        On::Four(service) => four::open(alloc, service),
-        On::Wide => Ok(wide::open(alloc, false)??),
-    }
-}
-
 /// Makes so many steps, with what comes between. Then the call is under way, or over behind its
 /// last one.
-fn goes(rt: &impl Abort, wire: &mut Wire, stop: Stop<'_>, made: u64, between: Between<'_>) {
+fn goes(rt: &impl Abort, wire: &mut Wire, stop: &Stop<'_>, made: u64, between: &Between<'_>) {
     let mut left = made;
     if between.made <= made {
         equal(rt, steps(wire, stop.node, between.made), Came::UnderWay);
@@ -77,52 +55,69 @@ fn goes(rt: &impl Abort, wire: &mut Wire, stop: Stop<'_>, made: u64, between: Be
     );
 }
 
+/// The node dies, and makes no step then.
+fn dies(rt: &impl Abort, wire: &mut Wire, node: u64) {
+    equal(rt, wire.declare_dead(node).err(), None);
+    equal(rt, wire.step(node).err(), Some(WireRefusal::NodeIsDead));
+}
+
 /// The node stops behind so many steps of its call, while others do something behind one of them.
 fn stops_behind(
     rt: &impl Abort,
     wire: &mut Wire,
-    stop: Stop<'_>,
+    stop: &Stop<'_>,
     made: u64,
-    between: Between<'_>,
-) -> Result<(), Fail> {
+    between: &Between<'_>,
+) {
     plays(rt, wire, stop.before);
-    begin(wire, stop.node, stop.ask)?;
+    equal(rt, begin(wire, stop.node, stop.ask).err(), None);
     goes(rt, wire, stop, made, between);
-    wire.declare_dead(stop.node)?;
-    let dead = Some(WireRefusal::NodeIsDead);
-    equal(rt, wire.step(stop.node).err(), dead);
+    dies(rt, wire, stop.node);
     plays(rt, wire, after(stop, made));
-    Ok(())
 }
 
 /// The same on a new wire.
 fn stops_on_a_wire(
-    rt: &impl Abort,
-    alloc: Global,
-    stop: Stop<'_>,
+    rt: &(impl Abort + AllocGlobal),
+    stop: &Stop<'_>,
     made: u64,
-    between: Between<'_>,
+    between: &Between<'_>,
 ) -> Result<(), Fail> {
-    let mut wire = opened(alloc, stop.on)?;
-    stops_behind(rt, &mut wire, stop, made, between)
+    let mut wire = opened(rt.alloc(), stop.on)?;
+    stops_behind(rt, &mut wire, stop, made, between);
+    Ok(())
 }
 
 /// Ends the test where something else comes of a stop behind some number of steps, while others do
 /// something behind one of them.
 pub(super) fn stops_around(
-    rt: &impl Abort,
-    alloc: Global,
-    stop: Stop<'_>,
-    between: Between<'_>,
+    rt: &(impl Abort + AllocGlobal),
+    stop: &Stop<'_>,
+    between: &Between<'_>,
 ) -> Result<(), Fail> {
     for made in 0..stop.steps.saturating_add(1) {
-        stops_on_a_wire(rt, alloc, stop, made, between)?;
+        stops_on_a_wire(rt, stop, made, between)?;
     }
     Ok(())
 }
 
 /// The same where nothing comes between.
-pub(super) fn stops(rt: &impl Abort, alloc: Global, stop: Stop<'_>) -> Result<(), Fail> {
-    let acts: &[Act] = &[];
-    stops_around(rt, alloc, stop, Between { made: 0, acts })
+pub(super) fn stops(rt: &(impl Abort + AllocGlobal), stop: &Stop<'_>) -> Result<(), Fail> {
+    stops_around(rt, stop, &Between { made: 0, acts: &[] })
+}
+
+/// The same twice: the second time other things come after a stop.
+pub(super) fn stops_and_counts(
+    rt: &(impl Abort + AllocGlobal),
+    stop: &Stop<'_>,
+    counts: &[(u64, &[Act])],
+) -> Result<(), Fail> {
+    stops(rt, stop)?;
+    stops(
+        rt,
+        &Stop {
+            after: counts,
+            ..*stop
+        },
+    )
 }

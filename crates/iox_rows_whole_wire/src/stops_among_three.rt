@@ -1,7 +1,8 @@
 //! A node of three stops at each place of a call, and the other two go on.
+use super::on::On;
 use super::play::{Act, Ask, Told};
 use super::settings::{NO_OVERFLOW, OVERFLOW};
-use super::stops::{On, Stop, stops};
+use super::stops::{Stop, stops};
 use std::test::Fail;
 
 /// Both servers receive a request.
@@ -13,7 +14,7 @@ const BOTH_RECEIVED: [Act; 3] = [
 
 #[test]
 fn client_stops_in_its_copy(rt: HostRuntime) -> Result<(), Fail> {
-    let stop = Stop {
+    const STOP: &Stop<'static> = &Stop {
         on: On::Four(NO_OVERFLOW),
         before: &[],
         node: 0,
@@ -60,12 +61,12 @@ fn client_stops_in_its_copy(rt: HostRuntime) -> Result<(), Fail> {
             ),
         ],
     };
-    stops(&rt, rt.alloc(), stop)
+    stops(&rt, STOP)
 }
 
 #[test]
 fn client_stops_as_it_gives_its_request_up(rt: HostRuntime) -> Result<(), Fail> {
-    let stop = Stop {
+    const STOP: &Stop<'static> = &Stop {
         on: On::Four(NO_OVERFLOW),
         before: &BOTH_RECEIVED,
         node: 0,
@@ -97,12 +98,12 @@ fn client_stops_as_it_gives_its_request_up(rt: HostRuntime) -> Result<(), Fail> 
             ),
         ],
     };
-    stops(&rt, rt.alloc(), stop)
+    stops(&rt, STOP)
 }
 
 #[test]
 fn client_stops_as_it_hints(rt: HostRuntime) -> Result<(), Fail> {
-    let stop = Stop {
+    const STOP: &Stop<'static> = &Stop {
         on: On::Four(NO_OVERFLOW),
         before: &BOTH_RECEIVED,
         node: 0,
@@ -132,12 +133,12 @@ fn client_stops_as_it_hints(rt: HostRuntime) -> Result<(), Fail> {
             ),
         ],
     };
-    stops(&rt, rt.alloc(), stop)
+    stops(&rt, STOP)
 }
 
 #[test]
 fn server_stops_as_it_receives(rt: HostRuntime) -> Result<(), Fail> {
-    let stop = Stop {
+    const STOP: &Stop<'static> = &Stop {
         on: On::Four(NO_OVERFLOW),
         before: &[Act::Whole(0, Ask::CopyRequest(0, 7), 30, Told::Handle(4))],
         node: 1,
@@ -181,12 +182,12 @@ fn server_stops_as_it_receives(rt: HostRuntime) -> Result<(), Fail> {
             ),
         ],
     };
-    stops(&rt, rt.alloc(), stop)
+    stops(&rt, STOP)
 }
 
 #[test]
 fn server_stops_in_its_copy(rt: HostRuntime) -> Result<(), Fail> {
-    let stop = Stop {
+    const STOP: &Stop<'static> = &Stop {
         on: On::Four(NO_OVERFLOW),
         before: &BOTH_RECEIVED,
         node: 1,
@@ -214,12 +215,12 @@ fn server_stops_in_its_copy(rt: HostRuntime) -> Result<(), Fail> {
             ),
         ],
     };
-    stops(&rt, rt.alloc(), stop)
+    stops(&rt, STOP)
 }
 
 #[test]
 fn server_stops_as_it_gives_a_request_back(rt: HostRuntime) -> Result<(), Fail> {
-    let stop = Stop {
+    const STOP: &Stop<'static> = &Stop {
         on: On::Four(NO_OVERFLOW),
         before: &BOTH_RECEIVED,
         node: 1,
@@ -255,12 +256,12 @@ fn server_stops_as_it_gives_a_request_back(rt: HostRuntime) -> Result<(), Fail> 
             ),
         ],
     };
-    stops(&rt, rt.alloc(), stop)
+    stops(&rt, STOP)
 }
 
 #[test]
 fn client_pushes_requests_out(rt: HostRuntime) -> Result<(), Fail> {
-    let stop = Stop {
+    const STOP: &Stop<'static> = &Stop {
         on: On::Four(OVERFLOW),
         before: &[
             Act::Whole(0, Ask::CopyRequest(0, 1), 26, Told::Handle(4)),
@@ -324,5 +325,5 @@ fn client_pushes_requests_out(rt: HostRuntime) -> Result<(), Fail> {
             ),
         ],
     };
-    stops(&rt, rt.alloc(), stop)
+    stops(&rt, STOP)
 }

@@ -1,7 +1,8 @@
 //! A node stops among the words of a message that it writes, copies or reads, and the other one
 //! continues.
+use super::on::On;
 use super::play::{Act, Ask, Told};
-use super::stops::{On, Stop, stops};
+use super::stops::{Stop, stops};
 use iox_model::kind::Role;
 use std::test::Fail;
 
@@ -69,7 +70,7 @@ const NO_RESPONSE: [Act; 5] = [
 
 #[test]
 fn client_writes_over_its_words(rt: HostRuntime) -> Result<(), Fail> {
-    let stop = Stop {
+    const STOP: &Stop<'static> = &Stop {
         on: On::Wide,
         before: &LENT,
         node: 0,
@@ -77,12 +78,12 @@ fn client_writes_over_its_words(rt: HostRuntime) -> Result<(), Fail> {
         steps: 2,
         after: &[(0, &NO_REQUEST)],
     };
-    stops(&rt, rt.alloc(), stop)
+    stops(&rt, STOP)
 }
 
 #[test]
 fn client_reads_its_loan(rt: HostRuntime) -> Result<(), Fail> {
-    let stop = Stop {
+    const STOP: &Stop<'static> = &Stop {
         on: On::Wide,
         before: &LENT,
         node: 0,
@@ -90,12 +91,12 @@ fn client_reads_its_loan(rt: HostRuntime) -> Result<(), Fail> {
         steps: 3,
         after: &[(0, &NO_REQUEST)],
     };
-    stops(&rt, rt.alloc(), stop)
+    stops(&rt, STOP)
 }
 
 #[test]
 fn client_copies_words(rt: HostRuntime) -> Result<(), Fail> {
-    let stop = Stop {
+    const STOP: &Stop<'static> = &Stop {
         on: On::Wide,
         before: &[],
         node: 0,
@@ -121,12 +122,12 @@ fn client_copies_words(rt: HostRuntime) -> Result<(), Fail> {
             ),
         ],
     };
-    stops(&rt, rt.alloc(), stop)
+    stops(&rt, STOP)
 }
 
 #[test]
 fn server_reads_its_request(rt: HostRuntime) -> Result<(), Fail> {
-    let stop = Stop {
+    const STOP: &Stop<'static> = &Stop {
         on: On::Wide,
         before: &RECEIVED,
         node: 1,
@@ -150,12 +151,12 @@ fn server_reads_its_request(rt: HostRuntime) -> Result<(), Fail> {
             ],
         )],
     };
-    stops(&rt, rt.alloc(), stop)
+    stops(&rt, STOP)
 }
 
 #[test]
 fn server_writes_over_its_words(rt: HostRuntime) -> Result<(), Fail> {
-    let stop = Stop {
+    const STOP: &Stop<'static> = &Stop {
         on: On::Wide,
         before: &RESPONSE_IS_LENT,
         node: 1,
@@ -163,12 +164,12 @@ fn server_writes_over_its_words(rt: HostRuntime) -> Result<(), Fail> {
         steps: 2,
         after: &[(0, &NO_RESPONSE)],
     };
-    stops(&rt, rt.alloc(), stop)
+    stops(&rt, STOP)
 }
 
 #[test]
 fn server_copies_words(rt: HostRuntime) -> Result<(), Fail> {
-    let stop = Stop {
+    const STOP: &Stop<'static> = &Stop {
         on: On::Wide,
         before: &RECEIVED,
         node: 1,
@@ -193,12 +194,12 @@ fn server_copies_words(rt: HostRuntime) -> Result<(), Fail> {
             ),
         ],
     };
-    stops(&rt, rt.alloc(), stop)
+    stops(&rt, STOP)
 }
 
 #[test]
 fn client_reads_its_response(rt: HostRuntime) -> Result<(), Fail> {
-    let stop = Stop {
+    const STOP: &Stop<'static> = &Stop {
         on: On::Wide,
         before: &ANSWERED,
         node: 0,
@@ -206,5 +207,5 @@ fn client_reads_its_response(rt: HostRuntime) -> Result<(), Fail> {
         steps: 4,
         after: &[(0, &SERVER_GOES_ON)],
     };
-    stops(&rt, rt.alloc(), stop)
+    stops(&rt, STOP)
 }

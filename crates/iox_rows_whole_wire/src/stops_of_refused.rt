@@ -1,8 +1,8 @@
 //! A node stops in a call that is refused, and the other one continues.
-use super::play::{Act, Ask, Told, plays};
-use super::settings::{NO_OVERFLOW, open};
-use super::stops::{On, Stop, stops};
-use std::alloc::Global;
+use super::on::{ONES, On, plays_behind};
+use super::play::{Act, Ask, Told};
+use super::settings::NO_OVERFLOW;
+use super::stops::{Stop, stops_and_counts};
 use std::process::Abort;
 use std::test::Fail;
 
@@ -40,90 +40,155 @@ const NONE_CAME: [Act; 5] = [
     Act::Whole(0, Ask::CopyRequest(0, 6), 19, Told::Handle(3)),
 ];
 
-/// Plays the one table on a wire, and then the other.
-fn plays_behind(rt: &impl Abort, alloc: Global, before: &[Act], table: &[Act]) -> Result<(), Fail> {
-    let mut wire = open(alloc, NO_OVERFLOW)?;
-    plays(rt, &mut wire, before);
-    plays(rt, &mut wire, table);
-    Ok(())
+/// A call that is refused, what it is answered with its only step, and what comes of a stop in it.
+struct Refused<'a> {
+    told: &'a [Act],
+    stop: Stop<'a>,
+    /// What the port keeps before the step and behind it.
+    counts: &'a [(u64, &'a [Act])],
 }
 
-/// Ends the test where a call of the client's is not refused so with its only step, behind which it
-/// keeps so many messages, or where something else comes of a stop.
-fn refuses(rt: &impl Abort, alloc: Global, ask: Ask, told: Told, kept: usize) -> Result<(), Fail> {
-    let refused = [Act::Whole(0, ask, 1, told), Act::Keeps(0, kept)];
-    plays_behind(rt, alloc, &LIMITED, &refused)?;
-    let stop = Stop {
-        on: On::Ones(NO_OVERFLOW),
-        before: &LIMITED,
-        node: 0,
-        ask,
-        steps: 1,
-        after: &[(0, &ONE_CAME)],
-    };
-    stops(rt, alloc, stop)?;
-    let (before, behind) = ([Act::Keeps(0, 2)], [Act::Keeps(0, kept)]);
-    let counts = Stop {
-        after: &[(0, &before), (1, &behind)],
-        ..stop
-    };
-    stops(rt, alloc, counts)
-}
-
-/// The same of a call of the server's, which keeps its loan.
-fn server_is_refused(rt: &impl Abort, alloc: Global, ask: Ask, told: Told) -> Result<(), Fail> {
-    let refused = [Act::Whole(1, ask, 1, told), Act::Keeps(1, 1)];
-    plays_behind(rt, alloc, &SERVER_IS_LIMITED, &refused)?;
-    let stop = Stop {
-        on: On::Ones(NO_OVERFLOW),
-        before: &SERVER_IS_LIMITED,
-        node: 1,
-        ask,
-        steps: 1,
-        after: &[(0, &NONE_CAME)],
-    };
-    stops(rt, alloc, stop)
-}
-
-/// The same of each of these.
-fn all_refuse(rt: &impl Abort, alloc: Global, calls: &[(Ask, Told, usize)]) -> Result<(), Fail> {
-    for (ask, told, kept) in calls {
-        refuses(rt, alloc, *ask, *told, *kept)?;
+/// Ends the test where one of these is not refused so, or where something else comes of a stop.
+fn are_refused(rt: &(impl Abort + AllocGlobal), calls: &[Refused<'_>]) -> Result<(), Fail> {
+    for call in calls {
+        plays_behind(rt, ONES, call.stop.before, call.told)?;
+        stops_and_counts(rt, &call.stop, call.counts)?;
     }
     Ok(())
 }
+
+/// A stop in a call of the client's.
+const CLIENT_STOPS: Stop<'static> = Stop {
+    on: On::Ones(NO_OVERFLOW),
+    before: &LIMITED,
+    node: 0,
+    ask: Ask::Loan(0),
+    steps: 1,
+    after: &[(0, &ONE_CAME)],
+};
+
+/// The client keeps its request and its loan.
+const KEEPS_BOTH: &[(u64, &[Act])] = &[(0, &[Act::Keeps(0, 2)])];
+
+/// Its loan ends.
+const KEEPS_ONE: &[(u64, &[Act])] = &[(0, &[Act::Keeps(0, 2)]), (1, &[Act::Keeps(0, 1)])];
 
 #[test]
 fn client_is_refused_in_one_step(rt: HostRuntime) -> Result<(), Fail> {
-    const CALLS: &[(Ask, Told, usize)] = &[
-        (Ask::Loan(0), Told::ExceedsMaxLoans, 2),
-        (Ask::LoanOf(0, 2), Told::ExceedsMaxLoanSize, 2),
-        (Ask::CopyRequest(0, 8), Told::ExceedsMaxLoans, 2),
-        (Ask::WriteNoRequest(3), Told::WrongLength, 2),
-        (Ask::Send(3), Told::ExceedsMaxActiveRequests, 1),
+    const CALLS: &[Refused<'static>] = &[
+        Refused {
+            told: &[
+                Act::Whole(0, Ask::Loan(0), 1, Told::ExceedsMaxLoans),
+                Act::Keeps(0, 2),
+            ],
+            stop: CLIENT_STOPS,
+            counts: KEEPS_BOTH,
+        },
+        Refused {
+            told: &[
+                Act::Whole(0, Ask::LoanOf(0, 2), 1, Told::ExceedsMaxLoanSize),
+                Act::Keeps(0, 2),
+            ],
+            stop: Stop {
+                ask: Ask::LoanOf(0, 2),
+                ..CLIENT_STOPS
+            },
+            counts: KEEPS_BOTH,
+        },
+        Refused {
+            told: &[
+                Act::Whole(0, Ask::CopyRequest(0, 8), 1, Told::ExceedsMaxLoans),
+                Act::Keeps(0, 2),
+            ],
+            stop: Stop {
+                ask: Ask::CopyRequest(0, 8),
+                ..CLIENT_STOPS
+            },
+            counts: KEEPS_BOTH,
+        },
+        Refused {
+            told: &[
+                Act::Whole(0, Ask::WriteNoRequest(3), 1, Told::WrongLength),
+                Act::Keeps(0, 2),
+            ],
+            stop: Stop {
+                ask: Ask::WriteNoRequest(3),
+                ..CLIENT_STOPS
+            },
+            counts: KEEPS_BOTH,
+        },
+        Refused {
+            told: &[
+                Act::Whole(0, Ask::Send(3), 1, Told::ExceedsMaxActiveRequests),
+                Act::Keeps(0, 1),
+            ],
+            stop: Stop {
+                ask: Ask::Send(3),
+                ..CLIENT_STOPS
+            },
+            counts: KEEPS_ONE,
+        },
     ];
-    all_refuse(&rt, rt.alloc(), CALLS)
+    are_refused(&rt, CALLS)
 }
 
-/// And of each of these.
-fn server_is_always_refused(
-    rt: &impl Abort,
-    alloc: Global,
-    calls: &[(Ask, Told)],
-) -> Result<(), Fail> {
-    for (ask, told) in calls {
-        server_is_refused(rt, alloc, *ask, *told)?;
-    }
-    Ok(())
-}
+/// A stop in a call of the server's.
+const SERVER_STOPS: Stop<'static> = Stop {
+    on: On::Ones(NO_OVERFLOW),
+    before: &SERVER_IS_LIMITED,
+    node: 1,
+    ask: Ask::Loan(2),
+    steps: 1,
+    after: &[(0, &NONE_CAME)],
+};
+
+/// The server keeps its loan.
+const KEEPS_LOAN: &[(u64, &[Act])] = &[(0, &[Act::Keeps(1, 1)])];
 
 #[test]
 fn server_is_refused_in_one_step(rt: HostRuntime) -> Result<(), Fail> {
-    const CALLS: &[(Ask, Told)] = &[
-        (Ask::Loan(2), Told::ExceedsMaxLoans),
-        (Ask::LoanOf(2, 2), Told::ExceedsMaxLoanSize),
-        (Ask::CopyResponse(2, 8), Told::ExceedsMaxLoans),
-        (Ask::WriteNoResponse(3), Told::WrongLength),
+    const CALLS: &[Refused<'static>] = &[
+        Refused {
+            told: &[
+                Act::Whole(1, Ask::Loan(2), 1, Told::ExceedsMaxLoans),
+                Act::Keeps(1, 1),
+            ],
+            stop: SERVER_STOPS,
+            counts: KEEPS_LOAN,
+        },
+        Refused {
+            told: &[
+                Act::Whole(1, Ask::LoanOf(2, 2), 1, Told::ExceedsMaxLoanSize),
+                Act::Keeps(1, 1),
+            ],
+            stop: Stop {
+                ask: Ask::LoanOf(2, 2),
+                ..SERVER_STOPS
+            },
+            counts: KEEPS_LOAN,
+        },
+        Refused {
+            told: &[
+                Act::Whole(1, Ask::CopyResponse(2, 8), 1, Told::ExceedsMaxLoans),
+                Act::Keeps(1, 1),
+            ],
+            stop: Stop {
+                ask: Ask::CopyResponse(2, 8),
+                ..SERVER_STOPS
+            },
+            counts: KEEPS_LOAN,
+        },
+        Refused {
+            told: &[
+                Act::Whole(1, Ask::WriteNoResponse(3), 1, Told::WrongLength),
+                Act::Keeps(1, 1),
+            ],
+            stop: Stop {
+                ask: Ask::WriteNoResponse(3),
+                ..SERVER_STOPS
+            },
+            counts: KEEPS_LOAN,
+        },
     ];
-    server_is_always_refused(&rt, rt.alloc(), CALLS)
+    are_refused(&rt, CALLS)
 }

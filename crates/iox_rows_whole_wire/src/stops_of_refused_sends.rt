@@ -1,8 +1,9 @@
 //! A node stops in a send or a copy that is refused: its peer is full, it has as many as it may, or
 //! nobody waits for its response. The other one continues.
+use super::on::On;
 use super::play::{Act, Ask, Told};
 use super::settings::NO_OVERFLOW;
-use super::stops::{On, Stop, stops};
+use super::stops::{Stop, stops_and_counts};
 use std::test::Fail;
 
 /// A request fills the queue of the server, and is given up.
@@ -115,7 +116,7 @@ const BOTH_HAVE_THE_FIRST: [Act; 6] = [
 
 #[test]
 fn client_sends_to_a_full_server(rt: HostRuntime) -> Result<(), Fail> {
-    let stop = Stop {
+    const STOP: &Stop<'static> = &Stop {
         on: On::Ones(NO_OVERFLOW),
         before: &SERVER_IS_FULL_FOR_A_LOAN,
         node: 0,
@@ -123,17 +124,13 @@ fn client_sends_to_a_full_server(rt: HostRuntime) -> Result<(), Fail> {
         steps: 4,
         after: &[(0, &FIRST_CAME)],
     };
-    stops(&rt, rt.alloc(), stop)?;
-    let counts = Stop {
-        after: &[(0, &[Act::Keeps(0, 2)]), (4, &[Act::Keeps(0, 1)])],
-        ..stop
-    };
-    stops(&rt, rt.alloc(), counts)
+    const COUNTS: &[(u64, &[Act])] = &[(0, &[Act::Keeps(0, 2)]), (4, &[Act::Keeps(0, 1)])];
+    stops_and_counts(&rt, STOP, COUNTS)
 }
 
 #[test]
 fn client_copies_to_a_full_server(rt: HostRuntime) -> Result<(), Fail> {
-    let stop = Stop {
+    const STOP: &Stop<'static> = &Stop {
         on: On::Ones(NO_OVERFLOW),
         before: &SERVER_IS_FULL,
         node: 0,
@@ -141,21 +138,17 @@ fn client_copies_to_a_full_server(rt: HostRuntime) -> Result<(), Fail> {
         steps: 14,
         after: &[(0, &FIRST_CAME)],
     };
-    stops(&rt, rt.alloc(), stop)?;
-    let counts = Stop {
-        after: &[
-            (0, &[Act::Keeps(0, 1)]),
-            (2, &[Act::Keeps(0, 2)]),
-            (14, &[Act::Keeps(0, 1)]),
-        ],
-        ..stop
-    };
-    stops(&rt, rt.alloc(), counts)
+    const COUNTS: &[(u64, &[Act])] = &[
+        (0, &[Act::Keeps(0, 1)]),
+        (2, &[Act::Keeps(0, 2)]),
+        (14, &[Act::Keeps(0, 1)]),
+    ];
+    stops_and_counts(&rt, STOP, COUNTS)
 }
 
 #[test]
 fn client_copies_past_its_limit(rt: HostRuntime) -> Result<(), Fail> {
-    let stop = Stop {
+    const STOP: &Stop<'static> = &Stop {
         on: On::Ones(NO_OVERFLOW),
         before: &PENDING,
         node: 0,
@@ -163,21 +156,17 @@ fn client_copies_past_its_limit(rt: HostRuntime) -> Result<(), Fail> {
         steps: 10,
         after: &[(0, &PENDING_CAME)],
     };
-    stops(&rt, rt.alloc(), stop)?;
-    let counts = Stop {
-        after: &[
-            (0, &[Act::Keeps(0, 1)]),
-            (2, &[Act::Keeps(0, 2)]),
-            (10, &[Act::Keeps(0, 1)]),
-        ],
-        ..stop
-    };
-    stops(&rt, rt.alloc(), counts)
+    const COUNTS: &[(u64, &[Act])] = &[
+        (0, &[Act::Keeps(0, 1)]),
+        (2, &[Act::Keeps(0, 2)]),
+        (10, &[Act::Keeps(0, 1)]),
+    ];
+    stops_and_counts(&rt, STOP, COUNTS)
 }
 
 #[test]
 fn server_sends_to_a_full_client(rt: HostRuntime) -> Result<(), Fail> {
-    let stop = Stop {
+    const STOP: &Stop<'static> = &Stop {
         on: On::Ones(NO_OVERFLOW),
         before: &CLIENT_IS_FULL_FOR_A_LOAN,
         node: 1,
@@ -185,17 +174,13 @@ fn server_sends_to_a_full_client(rt: HostRuntime) -> Result<(), Fail> {
         steps: 5,
         after: &[(0, &RESPONSE_CAME)],
     };
-    stops(&rt, rt.alloc(), stop)?;
-    let counts = Stop {
-        after: &[(0, &[Act::Keeps(1, 2)]), (5, &[Act::Keeps(1, 1)])],
-        ..stop
-    };
-    stops(&rt, rt.alloc(), counts)
+    const COUNTS: &[(u64, &[Act])] = &[(0, &[Act::Keeps(1, 2)]), (5, &[Act::Keeps(1, 1)])];
+    stops_and_counts(&rt, STOP, COUNTS)
 }
 
 #[test]
 fn server_copies_to_a_full_client(rt: HostRuntime) -> Result<(), Fail> {
-    let stop = Stop {
+    const STOP: &Stop<'static> = &Stop {
         on: On::Ones(NO_OVERFLOW),
         before: &CLIENT_IS_FULL,
         node: 1,
@@ -203,21 +188,17 @@ fn server_copies_to_a_full_client(rt: HostRuntime) -> Result<(), Fail> {
         steps: 20,
         after: &[(0, &RESPONSE_CAME)],
     };
-    stops(&rt, rt.alloc(), stop)?;
-    let counts = Stop {
-        after: &[
-            (0, &[Act::Keeps(1, 1)]),
-            (8, &[Act::Keeps(1, 2)]),
-            (20, &[Act::Keeps(1, 1)]),
-        ],
-        ..stop
-    };
-    stops(&rt, rt.alloc(), counts)
+    const COUNTS: &[(u64, &[Act])] = &[
+        (0, &[Act::Keeps(1, 1)]),
+        (8, &[Act::Keeps(1, 2)]),
+        (20, &[Act::Keeps(1, 1)]),
+    ];
+    stops_and_counts(&rt, STOP, COUNTS)
 }
 
 #[test]
 fn server_sends_where_nobody_waits(rt: HostRuntime) -> Result<(), Fail> {
-    let stop = Stop {
+    const STOP: &Stop<'static> = &Stop {
         on: On::Ones(NO_OVERFLOW),
         before: &NOBODY_WAITS_FOR_A_LOAN,
         node: 1,
@@ -225,17 +206,13 @@ fn server_sends_where_nobody_waits(rt: HostRuntime) -> Result<(), Fail> {
         steps: 1,
         after: &[(0, &NONE_CAME)],
     };
-    stops(&rt, rt.alloc(), stop)?;
-    let counts = Stop {
-        after: &[(0, &[Act::Keeps(1, 1)]), (1, &[Act::Keeps(1, 0)])],
-        ..stop
-    };
-    stops(&rt, rt.alloc(), counts)
+    const COUNTS: &[(u64, &[Act])] = &[(0, &[Act::Keeps(1, 1)]), (1, &[Act::Keeps(1, 0)])];
+    stops_and_counts(&rt, STOP, COUNTS)
 }
 
 #[test]
 fn server_copies_where_nobody_waits(rt: HostRuntime) -> Result<(), Fail> {
-    let stop = Stop {
+    const STOP: &Stop<'static> = &Stop {
         on: On::Ones(NO_OVERFLOW),
         before: &NOBODY_WAITS,
         node: 1,
@@ -243,21 +220,17 @@ fn server_copies_where_nobody_waits(rt: HostRuntime) -> Result<(), Fail> {
         steps: 16,
         after: &[(0, &NONE_CAME)],
     };
-    stops(&rt, rt.alloc(), stop)?;
-    let counts = Stop {
-        after: &[
-            (0, &[Act::Keeps(1, 0)]),
-            (8, &[Act::Keeps(1, 1)]),
-            (16, &[Act::Keeps(1, 0)]),
-        ],
-        ..stop
-    };
-    stops(&rt, rt.alloc(), counts)
+    const COUNTS: &[(u64, &[Act])] = &[
+        (0, &[Act::Keeps(1, 0)]),
+        (8, &[Act::Keeps(1, 1)]),
+        (16, &[Act::Keeps(1, 0)]),
+    ];
+    stops_and_counts(&rt, STOP, COUNTS)
 }
 
 #[test]
 fn client_sends_where_the_second_server_is_full(rt: HostRuntime) -> Result<(), Fail> {
-    let stop = Stop {
+    const STOP: &Stop<'static> = &Stop {
         on: On::Four(NO_OVERFLOW),
         before: &SECOND_IS_FULL,
         node: 0,
@@ -265,10 +238,6 @@ fn client_sends_where_the_second_server_is_full(rt: HostRuntime) -> Result<(), F
         steps: 8,
         after: &[(0, &BOTH_HAVE_THE_FIRST)],
     };
-    stops(&rt, rt.alloc(), stop)?;
-    let counts = Stop {
-        after: &[(0, &[Act::Keeps(0, 2)]), (8, &[Act::Keeps(0, 1)])],
-        ..stop
-    };
-    stops(&rt, rt.alloc(), counts)
+    const COUNTS: &[(u64, &[Act])] = &[(0, &[Act::Keeps(0, 2)]), (8, &[Act::Keeps(0, 1)])];
+    stops_and_counts(&rt, STOP, COUNTS)
 }

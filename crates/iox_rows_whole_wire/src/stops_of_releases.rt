@@ -1,8 +1,9 @@
 //! A server stops as it gives a request back that its client hints at or gives up, before or
 //! meanwhile.
+use super::on::On;
 use super::play::{Act, Ask, Told};
 use super::settings::NO_OVERFLOW;
-use super::stops::{Between, On, Stop, stops, stops_around};
+use super::stops::{Between, Stop, stops, stops_around};
 use std::test::Fail;
 
 /// A request is sent and received.
@@ -70,7 +71,7 @@ const CLOSED_BACK: [Act; 6] = [
 
 #[test]
 fn request_was_given_up(rt: HostRuntime) -> Result<(), Fail> {
-    let stop = Stop {
+    const STOP: &Stop<'static> = &Stop {
         on: On::Ones(NO_OVERFLOW),
         before: &GIVEN_UP,
         node: 1,
@@ -78,13 +79,13 @@ fn request_was_given_up(rt: HostRuntime) -> Result<(), Fail> {
         steps: 5,
         after: &[(0, &NOT_BACK), (4, &BACK)],
     };
-    stops(&rt, rt.alloc(), stop)
+    stops(&rt, STOP)
 }
 
 /// The server saw the request open without a hint, so it looks once more before it closes it.
 #[test]
 fn hint_comes_between(rt: HostRuntime) -> Result<(), Fail> {
-    let stop = Stop {
+    const STOP: &Stop<'static> = &Stop {
         on: On::Ones(NO_OVERFLOW),
         before: &RECEIVED,
         node: 1,
@@ -92,16 +93,16 @@ fn hint_comes_between(rt: HostRuntime) -> Result<(), Fail> {
         steps: 7,
         after: &[(0, &OPEN_NOT_BACK), (4, &OPEN_BACK), (7, &CLOSED_BACK)],
     };
-    let between = Between {
+    const BETWEEN: &Between<'static> = &Between {
         made: 5,
         acts: &[Act::Whole(0, Ask::SetHint(2), 2, Told::Done)],
     };
-    stops_around(&rt, rt.alloc(), stop, between)
+    stops_around(&rt, STOP, BETWEEN)
 }
 
 #[test]
 fn hint_came_before(rt: HostRuntime) -> Result<(), Fail> {
-    let stop = Stop {
+    const STOP: &Stop<'static> = &Stop {
         on: On::Ones(NO_OVERFLOW),
         before: &RECEIVED,
         node: 1,
@@ -109,16 +110,16 @@ fn hint_came_before(rt: HostRuntime) -> Result<(), Fail> {
         steps: 6,
         after: &[(0, &OPEN_NOT_BACK), (4, &OPEN_BACK), (6, &CLOSED_BACK)],
     };
-    let between = Between {
+    const BETWEEN: &Between<'static> = &Between {
         made: 0,
         acts: &[Act::Whole(0, Ask::SetHint(2), 2, Told::Done)],
     };
-    stops_around(&rt, rt.alloc(), stop, between)
+    stops_around(&rt, STOP, BETWEEN)
 }
 
 #[test]
 fn client_gives_up_between(rt: HostRuntime) -> Result<(), Fail> {
-    let stop = Stop {
+    const STOP: &Stop<'static> = &Stop {
         on: On::Ones(NO_OVERFLOW),
         before: &RECEIVED,
         node: 1,
@@ -126,9 +127,9 @@ fn client_gives_up_between(rt: HostRuntime) -> Result<(), Fail> {
         steps: 6,
         after: &[(0, &OPEN_NOT_BACK), (4, &OPEN_BACK), (5, &BACK)],
     };
-    let between = Between {
+    const BETWEEN: &Between<'static> = &Between {
         made: 5,
         acts: &[Act::Whole(0, Ask::Release(2), 1, Told::Done)],
     };
-    stops_around(&rt, rt.alloc(), stop, between)
+    stops_around(&rt, STOP, BETWEEN)
 }

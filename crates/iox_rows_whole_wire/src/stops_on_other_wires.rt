@@ -1,12 +1,13 @@
 //! Nodes stop where queues overflow, and where requests are dropped once they are given up.
+use super::on::On;
 use super::play::{Act, Ask, Told};
 use super::settings::{NO_FIRE_AND_FORGET, OVERFLOW};
-use super::stops::{On, Stop, stops};
+use super::stops::{Stop, stops};
 use std::test::Fail;
 
 #[test]
 fn client_pushes_a_request_out(rt: HostRuntime) -> Result<(), Fail> {
-    let stop = Stop {
+    const STOP: &Stop<'static> = &Stop {
         on: On::Ones(OVERFLOW),
         before: &[
             Act::Whole(0, Ask::CopyRequest(0, 1), 17, Told::Handle(2)),
@@ -56,12 +57,12 @@ fn client_pushes_a_request_out(rt: HostRuntime) -> Result<(), Fail> {
             ),
         ],
     };
-    stops(&rt, rt.alloc(), stop)
+    stops(&rt, STOP)
 }
 
 #[test]
 fn server_stops_as_it_receives(rt: HostRuntime) -> Result<(), Fail> {
-    let stop = Stop {
+    const STOP: &Stop<'static> = &Stop {
         on: On::Ones(OVERFLOW),
         before: &[Act::Whole(0, Ask::CopyRequest(0, 7), 17, Told::Handle(2))],
         node: 1,
@@ -92,12 +93,12 @@ fn server_stops_as_it_receives(rt: HostRuntime) -> Result<(), Fail> {
             ),
         ],
     };
-    stops(&rt, rt.alloc(), stop)
+    stops(&rt, STOP)
 }
 
 #[test]
 fn server_pushes_a_response_out(rt: HostRuntime) -> Result<(), Fail> {
-    let stop = Stop {
+    const STOP: &Stop<'static> = &Stop {
         on: On::Ones(OVERFLOW),
         before: &[
             Act::Whole(0, Ask::CopyRequest(0, 7), 17, Told::Handle(2)),
@@ -145,12 +146,12 @@ fn server_pushes_a_response_out(rt: HostRuntime) -> Result<(), Fail> {
             ),
         ],
     };
-    stops(&rt, rt.alloc(), stop)
+    stops(&rt, STOP)
 }
 
 #[test]
 fn server_skips_a_request(rt: HostRuntime) -> Result<(), Fail> {
-    let stop = Stop {
+    const STOP: &Stop<'static> = &Stop {
         on: On::Ones(NO_FIRE_AND_FORGET),
         before: &[
             Act::Whole(0, Ask::CopyRequest(0, 7), 19, Told::Handle(2)),
@@ -186,12 +187,12 @@ fn server_skips_a_request(rt: HostRuntime) -> Result<(), Fail> {
             ),
         ],
     };
-    stops(&rt, rt.alloc(), stop)
+    stops(&rt, STOP)
 }
 
 #[test]
 fn client_stops_in_a_copy_that_may_be_dropped(rt: HostRuntime) -> Result<(), Fail> {
-    let stop = Stop {
+    const STOP: &Stop<'static> = &Stop {
         on: On::Ones(NO_FIRE_AND_FORGET),
         before: &[],
         node: 0,
@@ -217,5 +218,5 @@ fn client_stops_in_a_copy_that_may_be_dropped(rt: HostRuntime) -> Result<(), Fai
             ),
         ],
     };
-    stops(&rt, rt.alloc(), stop)
+    stops(&rt, STOP)
 }

@@ -1,8 +1,9 @@
 //! Nodes stop as they get messages back, as they look at their limit, and as a client gives a
 //! response back that came to an earlier request.
+use super::on::On;
 use super::play::{Act, Ask, Told};
 use super::settings::NO_OVERFLOW;
-use super::stops::{On, Stop, stops};
+use super::stops::{Stop, stops};
 use std::test::Fail;
 
 /// A response is received and given back.
@@ -73,7 +74,7 @@ const STALE_WAITS: [Act; 13] = [
 
 #[test]
 fn server_stops_as_its_loan_gets_a_response_back(rt: HostRuntime) -> Result<(), Fail> {
-    let stop = Stop {
+    const STOP: &Stop<'static> = &Stop {
         on: On::Ones(NO_OVERFLOW),
         before: &RESPONSE_IS_BACK,
         node: 1,
@@ -109,12 +110,12 @@ fn server_stops_as_its_loan_gets_a_response_back(rt: HostRuntime) -> Result<(), 
             ),
         ],
     };
-    stops(&rt, rt.alloc(), stop)
+    stops(&rt, STOP)
 }
 
 #[test]
 fn client_stops_as_its_send_gets_a_request_back(rt: HostRuntime) -> Result<(), Fail> {
-    let stop = Stop {
+    const STOP: &Stop<'static> = &Stop {
         on: On::Ones(NO_OVERFLOW),
         before: &REQUEST_IS_BACK,
         node: 0,
@@ -149,7 +150,7 @@ fn client_stops_as_its_send_gets_a_request_back(rt: HostRuntime) -> Result<(), F
             ),
         ],
     };
-    stops(&rt, rt.alloc(), stop)
+    stops(&rt, STOP)
 }
 
 /// No request came, and that which was given back is outstanding.
@@ -178,7 +179,7 @@ const ON_LOAN: [Act; 4] = [
 
 #[test]
 fn client_stops_as_its_loan_gets_a_request_back(rt: HostRuntime) -> Result<(), Fail> {
-    let stop = Stop {
+    const STOP: &Stop<'static> = &Stop {
         on: On::Ones(NO_OVERFLOW),
         before: &REQUEST_IS_BACK_ALONE,
         node: 0,
@@ -186,12 +187,12 @@ fn client_stops_as_its_loan_gets_a_request_back(rt: HostRuntime) -> Result<(), F
         steps: 13,
         after: &[(0, &OUTSTANDING), (4, &GOT_BACK), (6, &ON_LOAN)],
     };
-    stops(&rt, rt.alloc(), stop)
+    stops(&rt, STOP)
 }
 
 #[test]
 fn client_stops_as_its_copy_gets_a_request_back(rt: HostRuntime) -> Result<(), Fail> {
-    let stop = Stop {
+    const STOP: &Stop<'static> = &Stop {
         on: On::Ones(NO_OVERFLOW),
         before: &REQUEST_IS_BACK_ALONE,
         node: 0,
@@ -214,12 +215,12 @@ fn client_stops_as_its_copy_gets_a_request_back(rt: HostRuntime) -> Result<(), F
             ),
         ],
     };
-    stops(&rt, rt.alloc(), stop)
+    stops(&rt, STOP)
 }
 
 #[test]
 fn client_stops_in_a_receive_at_its_limit(rt: HostRuntime) -> Result<(), Fail> {
-    let stop = Stop {
+    const STOP: &Stop<'static> = &Stop {
         on: On::Ones(NO_OVERFLOW),
         before: &RESPONSE_WAITS,
         node: 0,
@@ -236,12 +237,12 @@ fn client_stops_in_a_receive_at_its_limit(rt: HostRuntime) -> Result<(), Fail> {
             ],
         )],
     };
-    stops(&rt, rt.alloc(), stop)
+    stops(&rt, STOP)
 }
 
 #[test]
 fn server_stops_in_a_receive_at_its_limit(rt: HostRuntime) -> Result<(), Fail> {
-    let stop = Stop {
+    const STOP: &Stop<'static> = &Stop {
         on: On::Ones(NO_OVERFLOW),
         before: &REQUEST_WAITS,
         node: 1,
@@ -258,12 +259,12 @@ fn server_stops_in_a_receive_at_its_limit(rt: HostRuntime) -> Result<(), Fail> {
             ],
         )],
     };
-    stops(&rt, rt.alloc(), stop)
+    stops(&rt, STOP)
 }
 
 #[test]
 fn client_stops_as_it_gives_a_stale_response_back(rt: HostRuntime) -> Result<(), Fail> {
-    let stop = Stop {
+    const STOP: &Stop<'static> = &Stop {
         on: On::Ones(NO_OVERFLOW),
         before: &STALE_WAITS,
         node: 0,
@@ -301,5 +302,5 @@ fn client_stops_as_it_gives_a_stale_response_back(rt: HostRuntime) -> Result<(),
             ),
         ],
     };
-    stops(&rt, rt.alloc(), stop)
+    stops(&rt, STOP)
 }

@@ -5,7 +5,8 @@ ghost use Rattle.std.specs.Prelude.{◌≡◌, ◌∷◌, [], IfOk};
 ghost use Rattle.iox_rows_whole_wire.specs.Wide.{AreWideTerms, HasUserHeader, IsWide, IsWidePlan};
 ghost use Rattle.iox_rows_whole_wire.specs.Wide.{IsWidePort, wide_limits};
 
-use super::play::{Act, Ask, Told, plays};
+use super::on::{WIDE, plays_on};
+use super::play::{Act, Ask, Told};
 use crate::expected::equal;
 use iox_model::kind::Role;
 use iox_types::{MessageTypeDetails, RequestHeader, ResponseHeader, TypeDetail, TypeVariant};
@@ -133,13 +134,6 @@ pub(super) fn open(alloc: Global, huge: bool) -> Result<Result<Wire, WireNewErro
     Ok(Wire::new(alloc, plan, terms, &[0, 1]))
 }
 
-/// Plays a table on such a wire.
-fn plays_on(rt: &impl Abort, alloc: Global, huge: bool, table: &[Act]) -> Result<(), Fail> {
-    let mut wire = open(alloc, huge)??;
-    plays(rt, &mut wire, table);
-    Ok(())
-}
-
 #[test]
 fn wire_of_too_many_words_does_not_open(rt: HostRuntime) -> Result<(), Fail> {
     let opened = open(rt.alloc(), true)?;
@@ -203,98 +197,86 @@ fn refusal_is_shown_by_its_name(rt: HostRuntime) -> Result<(), Fail> {
 
 #[test]
 fn words_come_as_they_were_sent(rt: HostRuntime) -> Result<(), Fail> {
-    plays_on(
-        &rt,
-        rt.alloc(),
-        false,
-        &[
-            Act::Whole(0, Ask::Loan(0), 10, Told::Handle(2)),
-            Act::Whole(0, Ask::Read(2), 3, Told::Three(5, 0, 0)),
-            Act::Whole(0, Ask::WriteTwo(2, Role::Client, [8, 9]), 2, Told::Done),
-            Act::Whole(0, Ask::WriteRequest(2, 8), 1, Told::WrongLength),
-            Act::Whole(0, Ask::Read(2), 3, Told::Three(5, 8, 9)),
-            Act::Whole(0, Ask::Send(2), 9, Told::Sent(1)),
-            Act::Whole(1, Ask::Receive(1), 11, Told::Handle(2)),
-            Act::Whole(1, Ask::Read(2), 3, Told::Three(5, 8, 9)),
-            Act::Whole(1, Ask::CopyTwo(2, Role::Server, [10, 11]), 23, Told::Done),
-            Act::Whole(0, Ask::Receive(2), 10, Told::Handle(3)),
-            Act::Whole(0, Ask::Read(3), 4, Told::Four(6, 7, 10, 11)),
-        ],
-    )
+    const TABLE: &[Act] = &[
+        Act::Whole(0, Ask::Loan(0), 10, Told::Handle(2)),
+        Act::Whole(0, Ask::Read(2), 3, Told::Three(5, 0, 0)),
+        Act::Whole(0, Ask::WriteTwo(2, Role::Client, [8, 9]), 2, Told::Done),
+        Act::Whole(0, Ask::WriteRequest(2, 8), 1, Told::WrongLength),
+        Act::Whole(0, Ask::Read(2), 3, Told::Three(5, 8, 9)),
+        Act::Whole(0, Ask::Send(2), 9, Told::Sent(1)),
+        Act::Whole(1, Ask::Receive(1), 11, Told::Handle(2)),
+        Act::Whole(1, Ask::Read(2), 3, Told::Three(5, 8, 9)),
+        Act::Whole(1, Ask::CopyTwo(2, Role::Server, [10, 11]), 23, Told::Done),
+        Act::Whole(0, Ask::Receive(2), 10, Told::Handle(3)),
+        Act::Whole(0, Ask::Read(3), 4, Told::Four(6, 7, 10, 11)),
+    ];
+    plays_on(&rt, WIDE, TABLE)
 }
 
 #[test]
 fn requests_are_dropped_that_find_no_room(rt: HostRuntime) -> Result<(), Fail> {
-    plays_on(
-        &rt,
-        rt.alloc(),
-        false,
-        &[
-            Act::Whole(
-                0,
-                Ask::CopyTwo(0, Role::Client, [1, 2]),
-                21,
-                Told::Handle(2),
-            ),
-            Act::Whole(0, Ask::Release(2), 1, Told::Done),
-            Act::Whole(0, Ask::Loan(0), 10, Told::Handle(3)),
-            Act::Whole(0, Ask::Send(3), 5, Told::Sent(0)),
-            // one slot is the server's, one that of the pending response
-            Act::Whole(0, Ask::Loan(0), 2, Told::OutOfMemory),
-            Act::Whole(
-                0,
-                Ask::CopyTwo(0, Role::Client, [3, 4]),
-                2,
-                Told::OutOfMemory,
-            ),
-            Act::Whole(0, Ask::IsConnected(3), 1, Told::Answer(true)),
-            Act::Whole(0, Ask::Release(3), 1, Told::Done),
-            Act::Whole(1, Ask::Receive(1), 11, Told::Handle(2)),
-            Act::Whole(1, Ask::Read(2), 3, Told::Three(5, 1, 2)),
-            Act::Whole(1, Ask::Receive(1), 2, Told::Nothing),
-            Act::Whole(
-                0,
-                Ask::CopyTwo(0, Role::Client, [5, 6]),
-                21,
-                Told::Handle(4),
-            ),
-            Act::Whole(0, Ask::Loan(0), 2, Told::OutOfMemory),
-            Act::Whole(1, Ask::Release(2), 5, Told::Done),
-            Act::Whole(0, Ask::Loan(0), 14, Told::Handle(5)),
-        ],
-    )
+    const TABLE: &[Act] = &[
+        Act::Whole(
+            0,
+            Ask::CopyTwo(0, Role::Client, [1, 2]),
+            21,
+            Told::Handle(2),
+        ),
+        Act::Whole(0, Ask::Release(2), 1, Told::Done),
+        Act::Whole(0, Ask::Loan(0), 10, Told::Handle(3)),
+        Act::Whole(0, Ask::Send(3), 5, Told::Sent(0)),
+        // one slot is the server's, one that of the pending response
+        Act::Whole(0, Ask::Loan(0), 2, Told::OutOfMemory),
+        Act::Whole(
+            0,
+            Ask::CopyTwo(0, Role::Client, [3, 4]),
+            2,
+            Told::OutOfMemory,
+        ),
+        Act::Whole(0, Ask::IsConnected(3), 1, Told::Answer(true)),
+        Act::Whole(0, Ask::Release(3), 1, Told::Done),
+        Act::Whole(1, Ask::Receive(1), 11, Told::Handle(2)),
+        Act::Whole(1, Ask::Read(2), 3, Told::Three(5, 1, 2)),
+        Act::Whole(1, Ask::Receive(1), 2, Told::Nothing),
+        Act::Whole(
+            0,
+            Ask::CopyTwo(0, Role::Client, [5, 6]),
+            21,
+            Told::Handle(4),
+        ),
+        Act::Whole(0, Ask::Loan(0), 2, Told::OutOfMemory),
+        Act::Whole(1, Ask::Release(2), 5, Told::Done),
+        Act::Whole(0, Ask::Loan(0), 14, Told::Handle(5)),
+    ];
+    plays_on(&rt, WIDE, TABLE)
 }
 
 #[test]
 fn responses_are_dropped_that_find_no_room(rt: HostRuntime) -> Result<(), Fail> {
-    plays_on(
-        &rt,
-        rt.alloc(),
-        false,
-        &[
-            Act::Whole(
-                0,
-                Ask::CopyTwo(0, Role::Client, [1, 2]),
-                21,
-                Told::Handle(2),
-            ),
-            Act::Whole(1, Ask::Receive(1), 11, Told::Handle(2)),
-            Act::Whole(1, Ask::CopyTwo(2, Role::Server, [3, 4]), 23, Told::Done),
-            Act::Whole(1, Ask::CopyTwo(2, Role::Server, [5, 6]), 19, Told::Done),
-            Act::Whole(0, Ask::Receive(2), 10, Told::Handle(3)),
-            Act::Whole(0, Ask::Read(3), 4, Told::Four(6, 7, 3, 4)),
-            Act::Whole(0, Ask::Receive(2), 2, Told::Nothing),
-            Act::Whole(1, Ask::CopyTwo(2, Role::Server, [7, 8]), 23, Told::Done),
-            // one slot is the client's, one waits
-            Act::Whole(1, Ask::Loan(2), 4, Told::OutOfMemory),
-            Act::Whole(
-                1,
-                Ask::CopyTwo(2, Role::Server, [9, 9]),
-                4,
-                Told::OutOfMemory,
-            ),
-            Act::Whole(0, Ask::Release(3), 4, Told::Done),
-            Act::Whole(1, Ask::Loan(2), 16, Told::Handle(3)),
-        ],
-    )
+    const TABLE: &[Act] = &[
+        Act::Whole(
+            0,
+            Ask::CopyTwo(0, Role::Client, [1, 2]),
+            21,
+            Told::Handle(2),
+        ),
+        Act::Whole(1, Ask::Receive(1), 11, Told::Handle(2)),
+        Act::Whole(1, Ask::CopyTwo(2, Role::Server, [3, 4]), 23, Told::Done),
+        Act::Whole(1, Ask::CopyTwo(2, Role::Server, [5, 6]), 19, Told::Done),
+        Act::Whole(0, Ask::Receive(2), 10, Told::Handle(3)),
+        Act::Whole(0, Ask::Read(3), 4, Told::Four(6, 7, 3, 4)),
+        Act::Whole(0, Ask::Receive(2), 2, Told::Nothing),
+        Act::Whole(1, Ask::CopyTwo(2, Role::Server, [7, 8]), 23, Told::Done),
+        // one slot is the client's, one waits
+        Act::Whole(1, Ask::Loan(2), 4, Told::OutOfMemory),
+        Act::Whole(
+            1,
+            Ask::CopyTwo(2, Role::Server, [9, 9]),
+            4,
+            Told::OutOfMemory,
+        ),
+        Act::Whole(0, Ask::Release(3), 4, Told::Done),
+        Act::Whole(1, Ask::Loan(2), 16, Told::Handle(3)),
+    ];
+    plays_on(&rt, WIDE, TABLE)
 }
