@@ -1,7 +1,8 @@
 //! What lists say that a call answers.
 use super::chances::{Kind, Owned, written};
 use super::lists::{CLIENTS, Held, Lists, Message, SERVERS, of_one_request, response_to};
-use super::play::{Ask, Told};
+use super::play::Ask;
+use super::told::Told;
 use std::alloc::AllocError;
 
 /// What a receive answers that got nothing.

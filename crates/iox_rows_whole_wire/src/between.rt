@@ -1,12 +1,15 @@
 //! Calls of two nodes whose steps come between each other.
-use super::on::{ONES, OVERFLOWING_ONES, plays_on};
-use super::play::{Act, Ask, Told};
+use super::on::{ONES, OVERFLOWING_ONES, Play, plays_all};
+use super::play::{Act, Ask};
+use super::told::Told;
 use iox_wire::WireRefusal;
 use std::test::Fail;
 
-#[test]
-fn a_response_comes_too_late(rt: HostRuntime) -> Result<(), Fail> {
-    const TABLE: &[Act] = &[
+const A_RESPONSE_COMES_TOO_LATE: Play<'static> = Play {
+    name: "a_response_comes_too_late",
+    on: ONES,
+    before: &[],
+    table: &[
         Act::Whole(0, Ask::CopyRequest(0, 1), 19, Told::Handle(2)),
         Act::Whole(1, Ask::Receive(1), 11, Told::Handle(2)),
         Act::Whole(1, Ask::Loan(2), 14, Told::Handle(3)),
@@ -24,13 +27,14 @@ fn a_response_comes_too_late(rt: HostRuntime) -> Result<(), Fail> {
         Act::Whole(1, Ask::Release(2), 5, Told::Done),
         Act::Whole(1, Ask::Receive(1), 11, Told::Handle(4)),
         Act::Whole(1, Ask::Read(4), 1, Told::Word(2)),
-    ];
-    plays_on(&rt, ONES, TABLE)
-}
+    ],
+};
 
-#[test]
-fn a_server_dies_as_it_receives(rt: HostRuntime) -> Result<(), Fail> {
-    const TABLE: &[Act] = &[
+const A_SERVER_DIES_AS_IT_RECEIVES: Play<'static> = Play {
+    name: "a_server_dies_as_it_receives",
+    on: ONES,
+    before: &[],
+    table: &[
         Act::Whole(0, Ask::CopyRequest(0, 7), 19, Told::Handle(2)),
         Act::Begins(1, Ask::Receive(1)),
         Act::Goes(1, 4),
@@ -40,13 +44,14 @@ fn a_server_dies_as_it_receives(rt: HostRuntime) -> Result<(), Fail> {
         Act::Whole(0, Ask::IsConnected(2), 1, Told::Answer(true)),
         Act::Whole(0, Ask::Loan(0), 9, Told::Handle(3)),
         Act::Whole(0, Ask::Loan(0), 1, Told::ExceedsMaxLoans),
-    ];
-    plays_on(&rt, ONES, TABLE)
-}
+    ],
+};
 
-#[test]
-fn a_hint_comes_between(rt: HostRuntime) -> Result<(), Fail> {
-    const TABLE: &[Act] = &[
+const A_HINT_COMES_BETWEEN: Play<'static> = Play {
+    name: "a_hint_comes_between",
+    on: ONES,
+    before: &[],
+    table: &[
         Act::Whole(0, Ask::CopyRequest(0, 1), 19, Told::Handle(2)),
         Act::Whole(1, Ask::Receive(1), 11, Told::Handle(2)),
         Act::Begins(1, Ask::Release(2)),
@@ -55,13 +60,14 @@ fn a_hint_comes_between(rt: HostRuntime) -> Result<(), Fail> {
         Act::Ends(1, 2, Told::Done),
         Act::Whole(0, Ask::IsConnected(2), 1, Told::Answer(false)),
         Act::Whole(0, Ask::SetHint(2), 1, Told::Done),
-    ];
-    plays_on(&rt, ONES, TABLE)
-}
+    ],
+};
 
-#[test]
-fn a_client_closes_between(rt: HostRuntime) -> Result<(), Fail> {
-    const TABLE: &[Act] = &[
+const A_CLIENT_CLOSES_BETWEEN: Play<'static> = Play {
+    name: "a_client_closes_between",
+    on: ONES,
+    before: &[],
+    table: &[
         Act::Whole(0, Ask::CopyRequest(0, 1), 19, Told::Handle(2)),
         Act::Whole(1, Ask::Receive(1), 11, Told::Handle(2)),
         Act::Begins(1, Ask::Release(2)),
@@ -70,13 +76,14 @@ fn a_client_closes_between(rt: HostRuntime) -> Result<(), Fail> {
         Act::Ends(1, 1, Told::Done),
         // the request was given back
         Act::Whole(0, Ask::CopyRequest(0, 2), 23, Told::Handle(3)),
-    ];
-    plays_on(&rt, ONES, TABLE)
-}
+    ],
+};
 
-#[test]
-fn a_server_closes_between(rt: HostRuntime) -> Result<(), Fail> {
-    const TABLE: &[Act] = &[
+const A_SERVER_CLOSES_BETWEEN: Play<'static> = Play {
+    name: "a_server_closes_between",
+    on: ONES,
+    before: &[],
+    table: &[
         Act::Whole(0, Ask::CopyRequest(0, 1), 19, Told::Handle(2)),
         Act::Whole(1, Ask::Receive(1), 11, Told::Handle(2)),
         Act::Begins(0, Ask::SetHint(2)),
@@ -84,13 +91,14 @@ fn a_server_closes_between(rt: HostRuntime) -> Result<(), Fail> {
         Act::Whole(1, Ask::Release(2), 6, Told::Done),
         Act::Ends(0, 1, Told::Done),
         Act::Whole(0, Ask::IsConnected(2), 1, Told::Answer(false)),
-    ];
-    plays_on(&rt, ONES, TABLE)
-}
+    ],
+};
 
-#[test]
-fn the_oldest_request_is_pushed_out(rt: HostRuntime) -> Result<(), Fail> {
-    const TABLE: &[Act] = &[
+const THE_OLDEST_REQUEST_IS_PUSHED_OUT: Play<'static> = Play {
+    name: "the_oldest_request_is_pushed_out",
+    on: OVERFLOWING_ONES,
+    before: &[],
+    table: &[
         Act::Whole(0, Ask::CopyRequest(0, 1), 17, Told::Handle(2)),
         Act::Whole(1, Ask::Receive(1), 11, Told::Handle(2)),
         Act::Whole(0, Ask::Release(2), 1, Told::Done),
@@ -105,13 +113,14 @@ fn the_oldest_request_is_pushed_out(rt: HostRuntime) -> Result<(), Fail> {
         Act::Whole(1, Ask::Release(2), 5, Told::Done),
         Act::Whole(1, Ask::Receive(1), 11, Told::Handle(3)),
         Act::Whole(1, Ask::Read(3), 1, Told::Word(3)),
-    ];
-    plays_on(&rt, OVERFLOWING_ONES, TABLE)
-}
+    ],
+};
 
-#[test]
-fn a_request_is_taken_before_it_is_pushed_out(rt: HostRuntime) -> Result<(), Fail> {
-    const TABLE: &[Act] = &[
+const A_REQUEST_IS_TAKEN_BEFORE_IT_IS_PUSHED_OUT: Play<'static> = Play {
+    name: "a_request_is_taken_before_it_is_pushed_out",
+    on: OVERFLOWING_ONES,
+    before: &[],
+    table: &[
         Act::Whole(0, Ask::CopyRequest(0, 1), 17, Told::Handle(2)),
         Act::Whole(0, Ask::Release(2), 1, Told::Done),
         Act::Begins(0, Ask::CopyRequest(0, 2)),
@@ -124,13 +133,14 @@ fn a_request_is_taken_before_it_is_pushed_out(rt: HostRuntime) -> Result<(), Fai
         Act::Whole(1, Ask::Read(3), 1, Told::Word(2)),
         Act::Whole(1, Ask::Release(3), 6, Told::Done),
         Act::Whole(1, Ask::Receive(1), 2, Told::Nothing),
-    ];
-    plays_on(&rt, OVERFLOWING_ONES, TABLE)
-}
+    ],
+};
 
-#[test]
-fn a_request_is_pushed_out_before_it_is_taken(rt: HostRuntime) -> Result<(), Fail> {
-    const TABLE: &[Act] = &[
+const A_REQUEST_IS_PUSHED_OUT_BEFORE_IT_IS_TAKEN: Play<'static> = Play {
+    name: "a_request_is_pushed_out_before_it_is_taken",
+    on: OVERFLOWING_ONES,
+    before: &[],
+    table: &[
         Act::Whole(0, Ask::CopyRequest(0, 1), 17, Told::Handle(2)),
         Act::Whole(0, Ask::Release(2), 1, Told::Done),
         Act::Begins(1, Ask::Receive(1)),
@@ -140,13 +150,14 @@ fn a_request_is_pushed_out_before_it_is_taken(rt: HostRuntime) -> Result<(), Fai
         Act::Whole(1, Ask::Read(2), 1, Told::Word(2)),
         Act::Whole(1, Ask::Release(2), 6, Told::Done),
         Act::Whole(1, Ask::Receive(1), 2, Told::Nothing),
-    ];
-    plays_on(&rt, OVERFLOWING_ONES, TABLE)
-}
+    ],
+};
 
-#[test]
-fn the_oldest_response_is_pushed_out(rt: HostRuntime) -> Result<(), Fail> {
-    const TABLE: &[Act] = &[
+const THE_OLDEST_RESPONSE_IS_PUSHED_OUT: Play<'static> = Play {
+    name: "the_oldest_response_is_pushed_out",
+    on: OVERFLOWING_ONES,
+    before: &[],
+    table: &[
         Act::Whole(0, Ask::CopyRequest(0, 1), 17, Told::Handle(2)),
         Act::Whole(1, Ask::Receive(1), 11, Told::Handle(2)),
         Act::Whole(1, Ask::CopyResponse(2, 10), 22, Told::Done),
@@ -159,6 +170,21 @@ fn the_oldest_response_is_pushed_out(rt: HostRuntime) -> Result<(), Fail> {
         Act::Whole(0, Ask::Receive(2), 10, Told::Handle(4)),
         Act::Whole(0, Ask::Read(4), 1, Told::Word(12)),
         Act::Whole(1, Ask::CopyResponse(2, 13), 26, Told::Done),
+    ],
+};
+
+#[test]
+fn calls_come_between_each_other(rt: HostRuntime) -> Result<(), Fail> {
+    const PLAYS: &[Play<'static>] = &[
+        A_RESPONSE_COMES_TOO_LATE,
+        A_SERVER_DIES_AS_IT_RECEIVES,
+        A_HINT_COMES_BETWEEN,
+        A_CLIENT_CLOSES_BETWEEN,
+        A_SERVER_CLOSES_BETWEEN,
+        THE_OLDEST_REQUEST_IS_PUSHED_OUT,
+        A_REQUEST_IS_TAKEN_BEFORE_IT_IS_PUSHED_OUT,
+        A_REQUEST_IS_PUSHED_OUT_BEFORE_IT_IS_TAKEN,
+        THE_OLDEST_RESPONSE_IS_PUSHED_OUT,
     ];
-    plays_on(&rt, OVERFLOWING_ONES, TABLE)
+    plays_all(&rt, PLAYS)
 }

@@ -1,6 +1,7 @@
 //! What a port keeps and has outstanding, where full queues give up their oldest message.
-use super::on::{OVERFLOWING_ONES, plays_behind};
-use super::play::{Act, Ask, Told};
+use super::on::{OVERFLOWING_ONES, Play, plays_all};
+use super::play::{Act, Ask};
+use super::told::Told;
 use std::test::Fail;
 
 /// One request comes to the server, and one waits; both are given up by the client.
@@ -14,9 +15,11 @@ const TWO: &[Act] = &[
     Act::Calls(0, Ask::Release(3), Told::Done),
 ];
 
-#[test]
-fn evicted_request_is_outstanding_up_to_the_last_step(rt: HostRuntime) -> Result<(), Fail> {
-    const TABLE: &[Act] = &[
+const EVICTED_REQUEST_IS_OUTSTANDING_UP_TO_THE_LAST_STEP: Play<'static> = Play {
+    name: "evicted_request_is_outstanding_up_to_the_last_step",
+    on: OVERFLOWING_ONES,
+    before: TWO,
+    table: &[
         Act::Keeps(0, 2),
         Act::Lacks(0, 1, 0, 2),
         Act::Begins(0, Ask::CopyRequest(0, 13)),
@@ -32,31 +35,34 @@ fn evicted_request_is_outstanding_up_to_the_last_step(rt: HostRuntime) -> Result
         Act::Whole(0, Ask::Loan(0), 9, Told::Handle(5)),
         Act::Keeps(0, 3),
         Act::Lacks(0, 1, 0, 2),
-    ];
-    plays_behind(&rt, OVERFLOWING_ONES, TWO, TABLE)
-}
+    ],
+};
 
-#[test]
-fn other_ways_have_nothing_outstanding(rt: HostRuntime) -> Result<(), Fail> {
-    const TABLE: &[Act] = &[
+const OTHER_WAYS_HAVE_NOTHING_OUTSTANDING: Play<'static> = Play {
+    name: "other_ways_have_nothing_outstanding",
+    on: OVERFLOWING_ONES,
+    before: TWO,
+    table: &[
         Act::Keeps(1, 0),
         Act::Lacks(1, 0, 0, 0),
         Act::Lacks(0, 1, 1, 0),
         Act::Lacks(0, 0, 0, 0),
         Act::Lacks(0, 7, 0, 0),
-    ];
-    plays_behind(&rt, OVERFLOWING_ONES, TWO, TABLE)
-}
+    ],
+};
 
-#[test]
-fn no_port_has_nothing(rt: HostRuntime) -> Result<(), Fail> {
-    const TABLE: &[Act] = &[Act::Keeps(7, 0), Act::Lacks(7, 1, 0, 0)];
-    plays_behind(&rt, OVERFLOWING_ONES, TWO, TABLE)
-}
+const NO_PORT_HAS_NOTHING: Play<'static> = Play {
+    name: "no_port_has_nothing",
+    on: OVERFLOWING_ONES,
+    before: TWO,
+    table: &[Act::Keeps(7, 0), Act::Lacks(7, 1, 0, 0)],
+};
 
-#[test]
-fn port_of_a_dead_node_has_what_it_had(rt: HostRuntime) -> Result<(), Fail> {
-    const TABLE: &[Act] = &[
+const PORT_OF_A_DEAD_NODE_HAS_WHAT_IT_HAD: Play<'static> = Play {
+    name: "port_of_a_dead_node_has_what_it_had",
+    on: OVERFLOWING_ONES,
+    before: TWO,
+    table: &[
         Act::Begins(0, Ask::CopyRequest(0, 13)),
         Act::Goes(0, 17),
         Act::Dies(0),
@@ -67,6 +73,16 @@ fn port_of_a_dead_node_has_what_it_had(rt: HostRuntime) -> Result<(), Fail> {
         Act::Whole(1, Ask::Receive(1), 11, Told::Handle(3)),
         Act::Keeps(0, 3),
         Act::Lacks(0, 1, 0, 3),
+    ],
+};
+
+#[test]
+fn ports_keep_and_have_outstanding(rt: HostRuntime) -> Result<(), Fail> {
+    const PLAYS: &[Play<'static>] = &[
+        EVICTED_REQUEST_IS_OUTSTANDING_UP_TO_THE_LAST_STEP,
+        OTHER_WAYS_HAVE_NOTHING_OUTSTANDING,
+        NO_PORT_HAS_NOTHING,
+        PORT_OF_A_DEAD_NODE_HAS_WHAT_IT_HAD,
     ];
-    plays_behind(&rt, OVERFLOWING_ONES, TWO, TABLE)
+    plays_all(&rt, PLAYS)
 }

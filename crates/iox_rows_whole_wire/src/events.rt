@@ -1,6 +1,7 @@
 //! The events that a wire records: each moment, with its node and the serials of messages.
 use super::on::{OVERFLOWING_ONES, opened};
-use super::play::{Act, Ask, Told, plays};
+use super::play::{Act, Ask, plays};
+use super::told::Told;
 use crate::expected::{equal, holds};
 use iox_wire::{Event, Way, WireEvent};
 use std::process::Abort;
@@ -171,31 +172,43 @@ const GETS_BACK_0: WireEvent = WireEvent {
     },
 };
 
-/// A wire on which full queues give up their oldest message has recorded nothing, and plays these
-/// tables. Then it recorded these events, and no other.
-fn records(
-    rt: &(impl Abort + AllocGlobal),
-    before: &[Act],
-    table: &[Act],
-    wanted: &[WireEvent],
-) -> Result<(), Fail> {
+/// What a wire records on which full queues give up their oldest message.
+struct Recording<'a> {
+    /// What a failed test tells.
+    name: &'a str,
+    before: &'a [Act],
+    table: &'a [Act],
+    wanted: &'a [WireEvent],
+}
+
+/// A new wire has recorded nothing, and plays the tables. Then it recorded these events, and no
+/// other.
+fn records(rt: &(impl Abort + AllocGlobal), recording: &Recording<'_>) -> Result<(), Fail> {
     let mut wire = opened(rt.alloc(), *OVERFLOWING_ONES)?;
     holds(rt, wire.events().is_empty());
-    plays(rt, &mut wire, before);
-    plays(rt, &mut wire, table);
-    equal(rt, wire.events(), wanted);
+    plays(rt, &mut wire, recording.name, recording.before);
+    plays(rt, &mut wire, recording.name, recording.table);
+    equal(rt, wire.events(), recording.wanted);
     Ok(())
 }
 
-#[test]
-fn request_is_copied_and_received(rt: HostRuntime) -> Result<(), Fail> {
-    const CALLS: &[Act] = &[
+/// Ends the test where something else is recorded than one of these.
+fn record_all(rt: &(impl Abort + AllocGlobal), list: &[Recording<'_>]) -> Result<(), Fail> {
+    for recording in list {
+        records(rt, recording)?;
+    }
+    Ok(())
+}
+
+const REQUEST_IS_COPIED_AND_RECEIVED: Recording<'static> = Recording {
+    name: "request_is_copied_and_received",
+    before: &[],
+    table: &[
         Act::Calls(0, Ask::CopyRequest(0, 11), Told::Handle(2)),
         Act::Calls(1, Ask::Receive(1), Told::Handle(2)),
-    ];
-    const WANTED: &[WireEvent] = &[NONE_BACK, NONE_BACK, OPENS_0, DELIVERS_0, TAKES_0];
-    records(&rt, &[], CALLS, WANTED)
-}
+    ],
+    wanted: &[NONE_BACK, NONE_BACK, OPENS_0, DELIVERS_0, TAKES_0],
+};
 
 /// Four loans are made and given up, so the next one has the first slot again. Then a request is
 /// copied.
@@ -211,20 +224,22 @@ const COPY_BEHIND_FOUR: &[Act] = &[
     Act::Calls(0, Ask::CopyRequest(0, 11), Told::Handle(6)),
 ];
 
-#[test]
-fn serial_is_told_and_not_the_slot(rt: HostRuntime) -> Result<(), Fail> {
-    const WANTED: &[WireEvent] = &[
+const SERIAL_IS_TOLD_AND_NOT_THE_SLOT: Recording<'static> = Recording {
+    name: "serial_is_told_and_not_the_slot",
+    before: &[],
+    table: COPY_BEHIND_FOUR,
+    wanted: &[
         NONE_BACK, NONE_BACK, NONE_BACK, NONE_BACK, NONE_BACK, NONE_BACK, OPENS_4, DELIVERS_4,
-    ];
-    records(&rt, &[], COPY_BEHIND_FOUR, WANTED)
-}
+    ],
+};
 
 /// The client gives its request up, copies another one and dies behind the push. The server
 /// receives both. A lane that is given back is the last of the free ones, so the second request has
 /// another.
-#[test]
-fn survivor_takes_what_a_dead_client_pushed(rt: HostRuntime) -> Result<(), Fail> {
-    const TABLE: &[Act] = &[
+const SURVIVOR_TAKES_WHAT_A_DEAD_CLIENT_PUSHED: Recording<'static> = Recording {
+    name: "survivor_takes_what_a_dead_client_pushed",
+    before: COPY_BEHIND_FOUR,
+    table: &[
         Act::Calls(0, Ask::Release(6), Told::Done),
         Act::Begins(0, Ask::CopyRequest(0, 12)),
         Act::Goes(0, 17),
@@ -232,8 +247,8 @@ fn survivor_takes_what_a_dead_client_pushed(rt: HostRuntime) -> Result<(), Fail>
         Act::Calls(1, Ask::Receive(1), Told::Handle(2)),
         Act::Calls(1, Ask::Release(2), Told::Done),
         Act::Calls(1, Ask::Receive(1), Told::Handle(3)),
-    ];
-    const WANTED: &[WireEvent] = &[
+    ],
+    wanted: &[
         NONE_BACK,
         NONE_BACK,
         NONE_BACK,
@@ -251,19 +266,19 @@ fn survivor_takes_what_a_dead_client_pushed(rt: HostRuntime) -> Result<(), Fail>
         GIVES_BACK_4,
         SERVER_CLOSES_4,
         TAKES_5,
-    ];
-    records(&rt, COPY_BEHIND_FOUR, TABLE, WANTED)
-}
+    ],
+};
 
 /// A lane that is given back is the last of the free ones, so the second request has another.
-#[test]
-fn full_queue_pushes_its_oldest_request_out(rt: HostRuntime) -> Result<(), Fail> {
-    const CALLS: &[Act] = &[
+const FULL_QUEUE_PUSHES_ITS_OLDEST_REQUEST_OUT: Recording<'static> = Recording {
+    name: "full_queue_pushes_its_oldest_request_out",
+    before: &[],
+    table: &[
         Act::Calls(0, Ask::CopyRequest(0, 11), Told::Handle(2)),
         Act::Calls(0, Ask::Release(2), Told::Done),
         Act::Calls(0, Ask::CopyRequest(0, 12), Told::Handle(3)),
-    ];
-    const WANTED: &[WireEvent] = &[
+    ],
+    wanted: &[
         NONE_BACK,
         NONE_BACK,
         OPENS_0,
@@ -275,6 +290,16 @@ fn full_queue_pushes_its_oldest_request_out(rt: HostRuntime) -> Result<(), Fail>
         DELIVERS_1,
         EVICTS,
         GETS_BACK_0,
+    ],
+};
+
+#[test]
+fn moments_are_recorded_in_their_order(rt: HostRuntime) -> Result<(), Fail> {
+    const RECORDINGS: &[Recording<'static>] = &[
+        REQUEST_IS_COPIED_AND_RECEIVED,
+        SERIAL_IS_TOLD_AND_NOT_THE_SLOT,
+        SURVIVOR_TAKES_WHAT_A_DEAD_CLIENT_PUSHED,
+        FULL_QUEUE_PUSHES_ITS_OLDEST_REQUEST_OUT,
     ];
-    records(&rt, &[], CALLS, WANTED)
+    record_all(&rt, RECORDINGS)
 }

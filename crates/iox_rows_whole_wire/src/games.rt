@@ -3,8 +3,9 @@ use super::chances::{Call, Chance, Kind, Owned, PORTS, ask, bound, lent_by, rece
 use super::deaths::Death;
 use super::delivered::Delivered;
 use super::four;
-use super::play::{Ask, Came, Told, begin, steps};
+use super::play::{Ask, Came, begin, came_shown, steps};
 use super::settings::{NO_FIRE_AND_FORGET, NO_OVERFLOW, OVERFLOW, Service};
+use super::told::{Told, shown};
 use crate::expected::{equal, holds};
 use iox_wire::Wire;
 use std::alloc::Global;
@@ -120,7 +121,7 @@ impl Game {
     fn may_send(&self, of: Owned, told: Told) -> bool {
         let requests = matches!(of.kind, Kind::Client | Kind::WrittenRequest);
         if requests && self.count(of.node, Kind::Pending) > 0 {
-            return told == Told::ExceedsMaxActiveRequests;
+            return matches!(told, Told::ExceedsMaxActiveRequests);
         }
         match told {
             Told::UnableToDeliver => self.may_be_full(of.kind),
@@ -150,18 +151,18 @@ impl Game {
     fn may(&self, call: Call, told: Told) -> bool {
         let of = call.of;
         match call.ask {
-            Ask::Loan(_) if self.lends_no_more(of) => told == Told::ExceedsMaxLoans,
+            Ask::Loan(_) if self.lends_no_more(of) => matches!(told, Told::ExceedsMaxLoans),
             Ask::Loan(_) => matches!(told, Told::Handle(number) if self.is_new(of.node, number)),
             Ask::CopyRequest(_, _) | Ask::CopyResponse(_, _) if self.lends_no_more(of) => {
-                told == Told::ExceedsMaxLoans
+                matches!(told, Told::ExceedsMaxLoans)
             }
             Ask::CopyRequest(_, _) | Ask::CopyResponse(_, _) | Ask::Send(_) => {
                 self.may_send(of, told)
             }
             Ask::Receive(_) => self.may_receive(call, told),
-            Ask::Read(_) => told == Told::Word(of.word),
-            Ask::Release(_) | Ask::SetHint(_) => told == Told::Done,
-            Ask::WriteRequest(_, _) | Ask::WriteResponse(_, _) => told == Told::Done,
+            Ask::Read(_) => matches!(told, Told::Word(word) if word == of.word),
+            Ask::Release(_) | Ask::SetHint(_) => matches!(told, Told::Done),
+            Ask::WriteRequest(_, _) | Ask::WriteResponse(_, _) => matches!(told, Told::Done),
             _ => matches!(told, Told::Answer(_)),
         }
     }
@@ -290,10 +291,10 @@ impl Game {
             Came::UnderWay => self.calls.push(call)?,
             Came::Ended(_, told) => {
                 let may = self.may(call, told);
-                equal(rt, (told, may), (told, true));
+                equal(rt, (shown(told), may), (shown(told), true));
                 self.ends(call, told)?;
             }
-            came => equal(rt, came, Came::UnderWay),
+            came => equal(rt, came_shown(came), came_shown(Came::UnderWay)),
         }
         Ok(())
     }

@@ -58,6 +58,8 @@ mod stops_on_other_wires;
 #[cfg(test)]
 mod stops_on_returns;
 #[cfg(test)]
+mod told;
+#[cfg(test)]
 mod two_servers;
 #[cfg(test)]
 mod units;

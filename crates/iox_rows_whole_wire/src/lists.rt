@@ -1,8 +1,8 @@
 //! What calls on a wire of four ports, that come one after another, have to answer: told by a few
 //! lists.
 use super::chances::{Kind, Owned, PORTS};
-use super::play::Told;
 use super::settings::Service;
+use super::told::Told;
 use std::alloc::{AllocError, Global};
 
 pub(super) const CLIENTS: [u64; 2] = [0, 3];

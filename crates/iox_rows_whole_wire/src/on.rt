@@ -49,24 +49,27 @@ pub(super) fn opened(alloc: Global, on: On) -> Result<Wire, Fail> {
     }
 }
 
-/// Plays the one table on a new wire, and then the other.
-pub(super) fn plays_behind(
-    rt: &(impl Abort + AllocGlobal),
-    on: &On,
-    before: &[Act],
-    table: &[Act],
-) -> Result<(), Fail> {
-    let mut wire = opened(rt.alloc(), *on)?;
-    plays(rt, &mut wire, before);
-    plays(rt, &mut wire, table);
+/// What is played on a new wire: the one table, and then the other.
+pub(super) struct Play<'a> {
+    /// What a failed test tells.
+    pub(super) name: &'a str,
+    pub(super) on: &'a On,
+    pub(super) before: &'a [Act],
+    pub(super) table: &'a [Act],
+}
+
+/// Plays that.
+fn plays_on(rt: &(impl Abort + AllocGlobal), play: &Play<'_>) -> Result<(), Fail> {
+    let mut wire = opened(rt.alloc(), *play.on)?;
+    plays(rt, &mut wire, play.name, play.before);
+    plays(rt, &mut wire, play.name, play.table);
     Ok(())
 }
 
-/// Plays a table on a new wire.
-pub(super) fn plays_on(
-    rt: &(impl Abort + AllocGlobal),
-    on: &On,
-    table: &[Act],
-) -> Result<(), Fail> {
-    plays_behind(rt, on, &[], table)
+/// Plays all of these, each on a wire of its own.
+pub(super) fn plays_all(rt: &(impl Abort + AllocGlobal), list: &[Play<'_>]) -> Result<(), Fail> {
+    for play in list {
+        plays_on(rt, play)?;
+    }
+    Ok(())
 }

@@ -1,11 +1,8 @@
 //! Tables of what nodes of a wire do, and of what they are answered.
+use super::told::{Shown, Told, answer, replied, shown, word_read};
 use crate::expected::equal;
 use iox_model::kind::Role;
-use iox_wire::{
-    CopyReply, HandleCall, LendReply, NodeCall, NodePayload, NodeReply, Progress, ReceiveReply,
-    RequestReply, RespondReply, ResponseCopyReply, SeatReply, ToldReply, Wire, WireRefusal,
-};
-use iox_wire_locals::CallRefusal;
+use iox_wire::{HandleCall, NodeCall, NodePayload, Progress, Wire, WireRefusal};
 use std::process::Abort;
 
 /// No call of these tests takes as many steps.
@@ -41,32 +38,6 @@ pub(super) enum Ask {
     SetHint(u64),
     HasHint(u64),
     HasResponse(u64),
-}
-
-/// What a call answered.
-#[derive(Clone, Copy, Debug, PartialEq, Eq)]
-pub(super) enum Told {
-    Done,
-    Handle(u64),
-    Sent(u64),
-    Nothing,
-    Answer(bool),
-    /// No word was read.
-    NoWord,
-    /// One word was read.
-    Word(u64),
-    /// So many were read.
-    Three(u64, u64, u64),
-    Four(u64, u64, u64, u64),
-    OtherWords,
-    WrongLength,
-    ExceedsMaxLoanSize,
-    ExceedsMaxLoans,
-    OutOfMemory,
-    ExceedsMaxActiveRequests,
-    ExceedsMaxBorrows,
-    UnableToDeliver,
-    OtherRefusal,
 }
 
 /// What a node does, and what is to come of it.
@@ -112,7 +83,7 @@ pub(super) enum Act {
 }
 
 /// What came of it.
-#[derive(Clone, Copy, Debug, PartialEq, Eq)]
+#[derive(Clone, Copy)]
 pub(super) enum Came {
     /// The call ended with so many steps more.
     Ended(u64, Told),
@@ -123,108 +94,10 @@ pub(super) enum Came {
     Refused(WireRefusal),
     /// So many messages were counted.
     Counted(usize),
-    /// This word was found, if there is one.
+    /// This word or this number was found, if there is one.
     Found(Option<u64>),
     /// Whether there is room.
     Room(bool),
-    /// The node died behind so many events, if it did.
-    Lost(Option<usize>),
-}
-
-/// What a call that is refused answers.
-fn refusal(refusal: CallRefusal) -> Told {
-    match refusal {
-        CallRefusal::WrongLength => Told::WrongLength,
-        CallRefusal::ExceedsMaxLoanSize => Told::ExceedsMaxLoanSize,
-        CallRefusal::ExceedsMaxLoans => Told::ExceedsMaxLoans,
-        CallRefusal::OutOfMemory => Told::OutOfMemory,
-        CallRefusal::ExceedsMaxActiveRequests => Told::ExceedsMaxActiveRequests,
-        CallRefusal::ExceedsMaxBorrows => Told::ExceedsMaxBorrows,
-        CallRefusal::UnableToDeliver => Told::UnableToDeliver,
-        CallRefusal::UnknownNumber | CallRefusal::WrongKind => Told::OtherRefusal,
-    }
-}
-
-/// What a loan answers.
-fn lent(reply: LendReply) -> Told {
-    match reply {
-        LendReply::Handle(number) => Told::Handle(number),
-        LendReply::Refused(refused) => refusal(refused),
-    }
-}
-
-/// What the send of a request answers.
-fn requested(reply: RequestReply) -> Told {
-    match reply {
-        RequestReply::Sent(count) => Told::Sent(count),
-        RequestReply::Handle(number) => Told::Handle(number),
-        RequestReply::ExceedsMaxActiveRequests => Told::ExceedsMaxActiveRequests,
-        RequestReply::UnableToDeliver => Told::UnableToDeliver,
-    }
-}
-
-/// What the send of a response answers.
-fn responded(reply: RespondReply) -> Told {
-    match reply {
-        RespondReply::Done => Told::Done,
-        RespondReply::UnableToDeliver => Told::UnableToDeliver,
-    }
-}
-
-/// What was read last.
-fn word_read(words: Option<&[u64]>) -> Told {
-    match words {
-        Some([]) => Told::NoWord,
-        Some([word]) => Told::Word(*word),
-        Some([a, b, c]) => Told::Three(*a, *b, *c),
-        Some([a, b, c, d]) => Told::Four(*a, *b, *c, *d),
-        _ => Told::OtherWords,
-    }
-}
-
-/// What a call that was asked of one port or handle answers.
-fn answered(reply: SeatReply, words: Option<&[u64]>) -> Told {
-    match reply {
-        SeatReply::Done => Told::Done,
-        SeatReply::Answer(answer) => Told::Answer(answer),
-        SeatReply::Words => word_read(words),
-        SeatReply::Refused(refused) => refusal(refused),
-    }
-}
-
-/// What that reply says, where a read has these words.
-fn what_is_told(reply: NodeReply, words: Option<&[u64]>) -> Told {
-    match reply {
-        NodeReply::OfSeat(reply) => answered(reply, words),
-        NodeReply::OfReceive(ReceiveReply::Nothing) => Told::Nothing,
-        NodeReply::OfReceive(ReceiveReply::ExceedsMaxBorrows) => Told::ExceedsMaxBorrows,
-        NodeReply::OfReceive(ReceiveReply::Handle(number)) => Told::Handle(number),
-        NodeReply::OfLoan(reply) => lent(reply),
-        NodeReply::OfRequest(reply) => requested(reply),
-        NodeReply::OfResponse(reply) => responded(reply),
-        NodeReply::OfRequestCopy(CopyReply::Handle(number)) => Told::Handle(number),
-        NodeReply::OfRequestCopy(CopyReply::Refused(refused)) => refusal(refused),
-        NodeReply::OfResponseCopy(ResponseCopyReply::Done) => Told::Done,
-        NodeReply::OfResponseCopy(ResponseCopyReply::Refused(refused)) => refusal(refused),
-    }
-}
-
-/// What that reply of a finished call says.
-pub(super) fn replied(reply: ToldReply<'_>) -> Told {
-    match reply {
-        ToldReply::Handle(number) => Told::Handle(number),
-        ToldReply::Sent(count) => Told::Sent(count),
-        ToldReply::Done => Told::Done,
-        ToldReply::Nothing => Told::Nothing,
-        ToldReply::Answer(answer) => Told::Answer(answer),
-        ToldReply::Words(words) => word_read(Some(words)),
-        ToldReply::Refused(refused) => refusal(refused),
-    }
-}
-
-/// What that reply of the node says.
-pub(super) fn answer(wire: &Wire, node: u64, reply: NodeReply) -> Told {
-    what_is_told(reply, wire.words_read(node))
 }
 
 /// The node begins to write these words.
@@ -251,40 +124,59 @@ fn copies(
     wire.begin(node, NodeCall::SendCopy { number, payload })
 }
 
-/// The node begins a loan of so many elements.
-fn lends(wire: &mut Wire, node: u64, number: u64, elements: u64) -> Result<(), WireRefusal> {
-    wire.begin(node, NodeCall::Loan { number, elements })
-}
-
-/// The node begins a call of a handle.
-fn of(wire: &mut Wire, node: u64, number: u64, call: HandleCall) -> Result<(), WireRefusal> {
-    wire.begin(node, NodeCall::Handle { number, call })
-}
-
-/// The node begins that call.
-pub(super) fn begin(wire: &mut Wire, node: u64, ask: Ask) -> Result<(), WireRefusal> {
+/// A call of a handle.
+fn handle_call(ask: Ask) -> Option<(u64, HandleCall)> {
     match ask {
-        Ask::Loan(number) => lends(wire, node, number, 1),
-        Ask::LoanOf(number, elements) => lends(wire, node, number, elements),
+        Ask::Read(number) => Some((number, HandleCall::Read)),
+        Ask::Release(number) => Some((number, HandleCall::Release)),
+        Ask::IsConnected(number) => Some((number, HandleCall::IsConnected)),
+        Ask::SetHint(number) => Some((number, HandleCall::SetHint)),
+        Ask::HasHint(number) => Some((number, HandleCall::HasHint)),
+        Ask::HasResponse(number) => Some((number, HandleCall::HasResponse)),
+        _ => None,
+    }
+}
+
+/// Another call that brings no words.
+fn call_without_words(ask: Ask) -> Option<NodeCall<'static>> {
+    match ask {
+        Ask::Loan(number) => {
+            let elements = 1;
+            Some(NodeCall::Loan { number, elements })
+        }
+        Ask::LoanOf(number, elements) => Some(NodeCall::Loan { number, elements }),
+        Ask::Send(number) => Some(NodeCall::Send { number }),
+        Ask::Receive(number) => Some(NodeCall::Receive { number }),
+        Ask::HasRequests(number) => Some(NodeCall::HasRequests { number }),
+        _ => None,
+    }
+}
+
+/// The node begins a write or a copy. Nothing else is left.
+fn begin_with_words(wire: &mut Wire, node: u64, ask: Ask) -> Result<(), WireRefusal> {
+    match ask {
         Ask::WriteRequest(number, word) => writes(wire, node, number, Role::Client, &[word]),
         Ask::WriteResponse(number, word) => writes(wire, node, number, Role::Server, &[word]),
         Ask::WriteNoRequest(number) => writes(wire, node, number, Role::Client, &[]),
         Ask::WriteNoResponse(number) => writes(wire, node, number, Role::Server, &[]),
-        Ask::Send(number) => wire.begin(node, NodeCall::Send { number }),
+        Ask::WriteTwo(number, role, words) => writes(wire, node, number, role, &words),
         Ask::CopyRequest(number, word) => copies(wire, node, number, Role::Client, &[word]),
         Ask::CopyResponse(number, word) => copies(wire, node, number, Role::Server, &[word]),
         Ask::CopyNoRequest(number) => copies(wire, node, number, Role::Client, &[]),
-        Ask::WriteTwo(number, role, words) => writes(wire, node, number, role, &words),
         Ask::CopyTwo(number, role, words) => copies(wire, node, number, role, &words),
         Ask::CopyTwelve(number) => copies(wire, node, number, Role::Client, TWELVE),
-        Ask::Receive(number) => wire.begin(node, NodeCall::Receive { number }),
-        Ask::HasRequests(number) => wire.begin(node, NodeCall::HasRequests { number }),
-        Ask::Read(number) => of(wire, node, number, HandleCall::Read),
-        Ask::Release(number) => of(wire, node, number, HandleCall::Release),
-        Ask::IsConnected(number) => of(wire, node, number, HandleCall::IsConnected),
-        Ask::SetHint(number) => of(wire, node, number, HandleCall::SetHint),
-        Ask::HasHint(number) => of(wire, node, number, HandleCall::HasHint),
-        Ask::HasResponse(number) => of(wire, node, number, HandleCall::HasResponse),
+        _ => Err(WireRefusal::WrongKind),
+    }
+}
+
+/// The node begins that call.
+pub(super) fn begin(wire: &mut Wire, node: u64, ask: Ask) -> Result<(), WireRefusal> {
+    if let Some((number, call)) = handle_call(ask) {
+        return wire.begin(node, NodeCall::Handle { number, call });
+    }
+    match call_without_words(ask) {
+        Some(call) => wire.begin(node, call),
+        None => begin_with_words(wire, node, ask),
     }
 }
 
@@ -375,6 +267,12 @@ fn first_reply(wire: &Wire) -> Came {
     }
 }
 
+/// Behind how many events the node died, if it did.
+fn died_after(wire: &Wire, node: u64) -> Option<u64> {
+    let events = wire.died_after(node)?;
+    Some(events as u64)
+}
+
 /// What is found of the wire.
 fn seen(wire: &Wire, fact: Act) -> Came {
     match fact {
@@ -387,7 +285,7 @@ fn seen(wire: &Wire, fact: Act) -> Came {
         Act::Records(_) => Came::Counted(wire.events().len()),
         Act::FirstReply(_) => first_reply(wire),
         Act::HasRead(node, _) => Came::Answered(word_read(wire.words_read(node))),
-        Act::DiedAfter(node, _) | Act::Lives(node) => Came::Lost(wire.died_after(node)),
+        Act::DiedAfter(node, _) | Act::Lives(node) => Came::Found(died_after(wire, node)),
         _ => Came::UnderWay,
     }
 }
@@ -414,15 +312,38 @@ fn wanted(act: Act) -> Came {
         | Act::Finishes(count)
         | Act::Records(count) => Came::Counted(count),
         Act::Holds(_, word) => Came::Found(Some(word)),
-        Act::DiedAfter(_, events) => Came::Lost(Some(events)),
-        Act::Lives(_) => Came::Lost(None),
+        Act::DiedAfter(_, events) => Came::Found(Some(events as u64)),
+        Act::Lives(_) => Came::Found(None),
     }
 }
 
-/// Plays a table, and ends the test where something else comes of it.
-pub(super) fn plays(rt: &impl Abort, wire: &mut Wire, table: &[Act]) {
+/// The name of what came, a number, an answer, and a refusal. What came is the same if these are.
+pub(super) type ShownCame = (&'static str, u64, Option<Shown>, Option<WireRefusal>);
+
+/// What shows that.
+pub(super) fn came_shown(came: Came) -> ShownCame {
+    match came {
+        Came::Ended(steps, told) => ("Ended", steps, Some(shown(told)), None),
+        Came::Answered(told) => ("Answered", 0, Some(shown(told)), None),
+        Came::UnderWay => ("UnderWay", 0, None, None),
+        Came::Died => ("Died", 0, None, None),
+        Came::Refused(refusal) => ("Refused", 0, None, Some(refusal)),
+        Came::Counted(count) => ("Counted", count as u64, None, None),
+        Came::Found(Some(word)) => ("Found", word, None, None),
+        Came::Found(None) => ("NotFound", 0, None, None),
+        Came::Room(true) => ("Room", 0, None, None),
+        Came::Room(false) => ("NoRoom", 0, None, None),
+    }
+}
+
+/// Plays the table of that name, and ends the test where something else comes of it.
+pub(super) fn plays(rt: &impl Abort, wire: &mut Wire, name: &str, table: &[Act]) {
     for (place, act) in table.iter().enumerate() {
         let came = acts(wire, *act);
-        equal(rt, (place, came), (place, wanted(*act)));
+        equal(
+            rt,
+            (name, place, came_shown(came)),
+            (name, place, came_shown(wanted(*act))),
+        );
     }
 }

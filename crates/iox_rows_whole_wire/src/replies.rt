@@ -1,7 +1,8 @@
 //! The finished calls that a wire keeps: each with its node, its call, its reply, and the numbers
 //! of events before its begin and before its end.
 use super::on::{ONES, OVERFLOWING_ONES, On, opened};
-use super::play::{Act, Ask, Told, plays, replied};
+use super::play::{Act, Ask, plays};
+use super::told::{Told, replied, shown};
 use crate::expected::{equal, holds};
 use iox_wire::{FinishedCall, HandleCall, ToldCall, Wire};
 use std::process::Abort;
@@ -37,7 +38,7 @@ fn asked(call: ToldCall<'_>) -> Asked {
 fn is_row(rt: &impl Abort, place: usize, call: FinishedCall<'_>, row: &Row) {
     equal(rt, (place, call.node), (place, row.0));
     equal(rt, asked(call.call), row.1);
-    equal(rt, replied(call.reply), row.2);
+    equal(rt, shown(replied(call.reply)), shown(row.2));
     equal(rt, (call.begun, call.ended), (row.3, row.4));
 }
 
@@ -79,10 +80,18 @@ enum Part<'a> {
     FirstCopied(&'a [u64]),
 }
 
+/// What comes of these on a new wire.
+struct Case<'a> {
+    /// What a failed test tells.
+    name: &'a str,
+    on: &'a On,
+    parts: &'a [Part<'a>],
+}
+
 /// Ends the test where something else comes of this.
-fn is_so(rt: &impl Abort, wire: &mut Wire, part: Part<'_>) {
+fn is_so(rt: &impl Abort, wire: &mut Wire, name: &str, part: Part<'_>) {
     match part {
-        Part::Plays(table) => plays(rt, wire, table),
+        Part::Plays(table) => plays(rt, wire, name, table),
         Part::Finished(rows) => are_finished(rt, wire, rows),
         Part::UnderWay(node, asked) => equal(rt, under_way(wire, node), asked),
         Part::FirstCopied(words) => equal(rt, first_copied(wire), Some(words)),
@@ -90,22 +99,31 @@ fn is_so(rt: &impl Abort, wire: &mut Wire, part: Part<'_>) {
 }
 
 /// Or of these.
-fn are_so(rt: &impl Abort, wire: &mut Wire, parts: &[Part<'_>]) {
-    for part in parts {
-        is_so(rt, wire, *part);
+fn are_so(rt: &impl Abort, wire: &mut Wire, case: &Case<'_>) {
+    for part in case.parts {
+        is_so(rt, wire, case.name, *part);
     }
 }
 
 /// The same on a new wire.
-fn come(rt: &(impl Abort + AllocGlobal), on: &On, parts: &[Part<'_>]) -> Result<(), Fail> {
-    let mut wire = opened(rt.alloc(), *on)?;
-    are_so(rt, &mut wire, parts);
+fn comes(rt: &(impl Abort + AllocGlobal), case: &Case<'_>) -> Result<(), Fail> {
+    let mut wire = opened(rt.alloc(), *case.on)?;
+    are_so(rt, &mut wire, case);
     Ok(())
 }
 
-#[test]
-fn reply_has_its_call_and_its_words(rt: HostRuntime) -> Result<(), Fail> {
-    const PARTS: &[Part<'static>] = &[
+/// The same of each of these.
+fn come(rt: &(impl Abort + AllocGlobal), list: &[Case<'_>]) -> Result<(), Fail> {
+    for case in list {
+        comes(rt, case)?;
+    }
+    Ok(())
+}
+
+const REPLY_HAS_ITS_CALL_AND_ITS_WORDS: Case<'static> = Case {
+    name: "reply_has_its_call_and_its_words",
+    on: OVERFLOWING_ONES,
+    parts: &[
         Part::Finished(&[]),
         Part::Plays(&[
             Act::Calls(0, Ask::CopyRequest(0, 11), Told::Handle(2)),
@@ -121,14 +139,14 @@ fn reply_has_its_call_and_its_words(rt: HostRuntime) -> Result<(), Fail> {
             (1, ("loan", 2, Some(1)), Told::Handle(3), 5, 9),
             (1, ("write", 3, Some(12)), Told::Done, 9, 9),
         ]),
-    ];
-    come(&rt, OVERFLOWING_ONES, PARTS)
-}
+    ],
+};
 
 /// The server's look begins before the client's copy does, and ends after it.
-#[test]
-fn replies_stand_in_the_order_of_their_ends(rt: HostRuntime) -> Result<(), Fail> {
-    const PARTS: &[Part<'static>] = &[
+const REPLIES_STAND_IN_THE_ORDER_OF_THEIR_ENDS: Case<'static> = Case {
+    name: "replies_stand_in_the_order_of_their_ends",
+    on: ONES,
+    parts: &[
         Part::Plays(&[
             Act::Begins(1, Ask::HasRequests(1)),
             Act::Goes(1, 1),
@@ -140,14 +158,14 @@ fn replies_stand_in_the_order_of_their_ends(rt: HostRuntime) -> Result<(), Fail>
             (0, ("copy", 0, Some(11)), Told::Handle(2), 0, 5),
             (1, ("look", 1, None), Told::Answer(true), 0, 6),
         ]),
-    ];
-    come(&rt, ONES, PARTS)
-}
+    ],
+};
 
 /// The server looks, the client dies in the last step of its copy, and the server looks again.
-#[test]
-fn call_of_a_dead_node_stays_under_way(rt: HostRuntime) -> Result<(), Fail> {
-    const PARTS: &[Part<'static>] = &[
+const CALL_OF_A_DEAD_NODE_STAYS_UNDER_WAY: Case<'static> = Case {
+    name: "call_of_a_dead_node_stays_under_way",
+    on: ONES,
+    parts: &[
         Part::Plays(&[Act::Calls(1, Ask::HasRequests(1), Told::Answer(false))]),
         Part::UnderWay(0, None),
         Part::Plays(&[
@@ -164,19 +182,29 @@ fn call_of_a_dead_node_stays_under_way(rt: HostRuntime) -> Result<(), Fail> {
         Part::Plays(&[Act::DiedAfter(0, 5), Act::Lives(1)]),
         Part::UnderWay(1, None),
         Part::UnderWay(2, None),
-    ];
-    come(&rt, ONES, PARTS)
-}
+    ],
+};
 
 /// The longest message of the wire has ten words.
-#[test]
-fn words_past_the_longest_message_are_left_out(rt: HostRuntime) -> Result<(), Fail> {
-    const PARTS: &[Part<'static>] = &[
+const WORDS_PAST_THE_LONGEST_MESSAGE_ARE_LEFT_OUT: Case<'static> = Case {
+    name: "words_past_the_longest_message_are_left_out",
+    on: OVERFLOWING_ONES,
+    parts: &[
         Part::Plays(&[
             Act::Whole(0, Ask::CopyTwelve(0), 1, Told::ExceedsMaxLoanSize),
             Act::Calls(0, Ask::CopyRequest(0, 13), Told::Handle(2)),
         ]),
         Part::FirstCopied(&[1, 2, 3, 4, 5, 6, 7, 8, 9, 10]),
+    ],
+};
+
+#[test]
+fn finished_calls_are_kept(rt: HostRuntime) -> Result<(), Fail> {
+    const CASES: &[Case<'static>] = &[
+        REPLY_HAS_ITS_CALL_AND_ITS_WORDS,
+        REPLIES_STAND_IN_THE_ORDER_OF_THEIR_ENDS,
+        CALL_OF_A_DEAD_NODE_STAYS_UNDER_WAY,
+        WORDS_PAST_THE_LONGEST_MESSAGE_ARE_LEFT_OUT,
     ];
-    come(&rt, OVERFLOWING_ONES, PARTS)
+    come(&rt, CASES)
 }

@@ -1,12 +1,15 @@
 //! What each call answers on a wire where each limit is 1, and how many steps it takes.
-use super::on::{DROPPING_ONES, ONES, plays_on};
-use super::play::{Act, Ask, Told};
+use super::on::{DROPPING_ONES, ONES, Play, plays_all};
+use super::play::{Act, Ask};
+use super::told::Told;
 use iox_wire::WireRefusal;
 use std::test::Fail;
 
-#[test]
-fn each_call_takes_its_steps(rt: HostRuntime) -> Result<(), Fail> {
-    const TABLE: &[Act] = &[
+const EACH_CALL_TAKES_ITS_STEPS: Play<'static> = Play {
+    name: "each_call_takes_its_steps",
+    on: ONES,
+    before: &[],
+    table: &[
         // a request is lent, written and sent
         Act::Whole(0, Ask::Loan(0), 9, Told::Handle(2)),
         Act::Whole(0, Ask::Loan(0), 1, Told::ExceedsMaxLoans),
@@ -59,13 +62,14 @@ fn each_call_takes_its_steps(rt: HostRuntime) -> Result<(), Fail> {
         Act::Whole(0, Ask::Release(5), 1, Told::Done),
         Act::RefusedCall(0, Ask::Release(5), WireRefusal::UnknownNumber),
         Act::Whole(0, Ask::CopyRequest(0, 8), 19, Told::Handle(6)),
-    ];
-    plays_on(&rt, ONES, TABLE)
-}
+    ],
+};
 
-#[test]
-fn sends_past_a_limit_end_their_loans(rt: HostRuntime) -> Result<(), Fail> {
-    const TABLE: &[Act] = &[
+const SENDS_PAST_A_LIMIT_END_THEIR_LOANS: Play<'static> = Play {
+    name: "sends_past_a_limit_end_their_loans",
+    on: ONES,
+    before: &[],
+    table: &[
         Act::Whole(0, Ask::CopyRequest(0, 1), 19, Told::Handle(2)),
         // one request is active, as many as may be
         Act::Whole(
@@ -94,26 +98,28 @@ fn sends_past_a_limit_end_their_loans(rt: HostRuntime) -> Result<(), Fail> {
         Act::Whole(0, Ask::Send(5), 13, Told::Sent(1)),
         Act::Whole(1, Ask::Receive(1), 11, Told::Handle(3)),
         Act::Whole(1, Ask::IsConnected(3), 1, Told::Answer(true)),
-    ];
-    plays_on(&rt, ONES, TABLE)
-}
+    ],
+};
 
-#[test]
-fn a_request_is_there_with_the_last_step_of_its_copy(rt: HostRuntime) -> Result<(), Fail> {
-    const TABLE: &[Act] = &[
+const A_REQUEST_IS_THERE_WITH_THE_LAST_STEP_OF_ITS_COPY: Play<'static> = Play {
+    name: "a_request_is_there_with_the_last_step_of_its_copy",
+    on: ONES,
+    before: &[],
+    table: &[
         Act::Begins(0, Ask::CopyRequest(0, 5)),
         Act::Goes(0, 18),
         Act::Whole(1, Ask::Receive(1), 2, Told::Nothing),
         Act::Ends(0, 1, Told::Handle(2)),
         Act::Whole(1, Ask::Receive(1), 11, Told::Handle(2)),
         Act::Whole(1, Ask::Read(2), 1, Told::Word(5)),
-    ];
-    plays_on(&rt, ONES, TABLE)
-}
+    ],
+};
 
-#[test]
-fn requests_of_no_use_are_skipped(rt: HostRuntime) -> Result<(), Fail> {
-    const TABLE: &[Act] = &[
+const REQUESTS_OF_NO_USE_ARE_SKIPPED: Play<'static> = Play {
+    name: "requests_of_no_use_are_skipped",
+    on: DROPPING_ONES,
+    before: &[],
+    table: &[
         Act::Whole(0, Ask::CopyRequest(0, 7), 19, Told::Handle(2)),
         Act::Whole(0, Ask::Release(2), 1, Told::Done),
         Act::Whole(1, Ask::HasRequests(1), 2, Told::Answer(true)),
@@ -122,13 +128,14 @@ fn requests_of_no_use_are_skipped(rt: HostRuntime) -> Result<(), Fail> {
         Act::Whole(0, Ask::CopyRequest(0, 8), 23, Told::Handle(3)),
         Act::Whole(1, Ask::Receive(1), 12, Told::Handle(2)),
         Act::Whole(1, Ask::Read(2), 1, Told::Word(8)),
-    ];
-    plays_on(&rt, DROPPING_ONES, TABLE)
-}
+    ],
+};
 
-#[test]
-fn requests_of_no_use_are_received(rt: HostRuntime) -> Result<(), Fail> {
-    const TABLE: &[Act] = &[
+const REQUESTS_OF_NO_USE_ARE_RECEIVED: Play<'static> = Play {
+    name: "requests_of_no_use_are_received",
+    on: ONES,
+    before: &[],
+    table: &[
         Act::Whole(0, Ask::CopyRequest(0, 7), 19, Told::Handle(2)),
         Act::Whole(0, Ask::Release(2), 1, Told::Done),
         Act::Whole(1, Ask::Receive(1), 11, Told::Handle(2)),
@@ -138,13 +145,14 @@ fn requests_of_no_use_are_received(rt: HostRuntime) -> Result<(), Fail> {
         // nobody waits for a response
         Act::Whole(1, Ask::CopyResponse(2, 5), 16, Told::Done),
         Act::Whole(1, Ask::Release(2), 5, Told::Done),
-    ];
-    plays_on(&rt, ONES, TABLE)
-}
+    ],
+};
 
-#[test]
-fn begin_is_refused_in_the_machines_order(rt: HostRuntime) -> Result<(), Fail> {
-    const TABLE: &[Act] = &[
+const BEGIN_IS_REFUSED_IN_THE_MACHINES_ORDER: Play<'static> = Play {
+    name: "begin_is_refused_in_the_machines_order",
+    on: ONES,
+    before: &[],
+    table: &[
         Act::RefusedCall(9, Ask::Receive(1), WireRefusal::UnknownNode),
         Act::RefusedCall(0, Ask::Receive(7), WireRefusal::UnknownNumber),
         // ports of another node
@@ -196,13 +204,14 @@ fn begin_is_refused_in_the_machines_order(rt: HostRuntime) -> Result<(), Fail> {
         Act::RefusedCall(1, Ask::Receive(1), WireRefusal::NodeIsDead),
         Act::RefusedCall(1, Ask::Receive(7), WireRefusal::NodeIsDead),
         Act::Whole(0, Ask::IsConnected(2), 1, Told::Answer(true)),
-    ];
-    plays_on(&rt, ONES, TABLE)
-}
+    ],
+};
 
-#[test]
-fn a_step_is_refused_by_name(rt: HostRuntime) -> Result<(), Fail> {
-    const TABLE: &[Act] = &[
+const A_STEP_IS_REFUSED_BY_NAME: Play<'static> = Play {
+    name: "a_step_is_refused_by_name",
+    on: ONES,
+    before: &[],
+    table: &[
         Act::RefusedStep(9, WireRefusal::UnknownNode),
         Act::RefusedStep(1, WireRefusal::AtRest),
         Act::Whole(1, Ask::Receive(1), 2, Told::Nothing),
@@ -213,6 +222,19 @@ fn a_step_is_refused_by_name(rt: HostRuntime) -> Result<(), Fail> {
         Act::RefusedDeath(1, WireRefusal::NodeIsDead),
         Act::RefusedDeath(9, WireRefusal::UnknownNode),
         Act::RefusedStep(0, WireRefusal::AtRest),
+    ],
+};
+
+#[test]
+fn calls_answer_and_take_their_steps(rt: HostRuntime) -> Result<(), Fail> {
+    const PLAYS: &[Play<'static>] = &[
+        EACH_CALL_TAKES_ITS_STEPS,
+        SENDS_PAST_A_LIMIT_END_THEIR_LOANS,
+        A_REQUEST_IS_THERE_WITH_THE_LAST_STEP_OF_ITS_COPY,
+        REQUESTS_OF_NO_USE_ARE_SKIPPED,
+        REQUESTS_OF_NO_USE_ARE_RECEIVED,
+        BEGIN_IS_REFUSED_IN_THE_MACHINES_ORDER,
+        A_STEP_IS_REFUSED_BY_NAME,
     ];
-    plays_on(&rt, ONES, TABLE)
+    plays_all(&rt, PLAYS)
 }

@@ -1,9 +1,9 @@
 //! A node stops in a call that is refused, and the other one continues.
-use super::on::{ONES, On, plays_behind};
-use super::play::{Act, Ask, Told};
+use super::on::{ONES, On, Play, plays_all};
+use super::play::{Act, Ask};
 use super::settings::NO_OVERFLOW;
-use super::stops::{Stop, stops_and_counts};
-use std::process::Abort;
+use super::stops::{NOTHING_BETWEEN, Stop, stop_all};
+use super::told::Told;
 use std::test::Fail;
 
 /// The server receives what was sent before, and nothing else.
@@ -40,155 +40,164 @@ const NONE_CAME: [Act; 5] = [
     Act::Whole(0, Ask::CopyRequest(0, 6), 19, Told::Handle(3)),
 ];
 
-/// A call that is refused, what it is answered with its only step, and what comes of a stop in it.
-struct Refused<'a> {
-    told: &'a [Act],
-    stop: Stop<'a>,
-    /// What the port keeps before the step and behind it.
-    counts: &'a [(u64, &'a [Act])],
-}
+/// A call of the client's is refused with its only step.
+const CLIENT_IS_REFUSED: Play<'static> = Play {
+    name: "client_is_refused",
+    on: ONES,
+    before: &LIMITED,
+    table: &[],
+};
 
-/// Ends the test where one of these is not refused so, or where something else comes of a stop.
-fn are_refused(rt: &(impl Abort + AllocGlobal), calls: &[Refused<'_>]) -> Result<(), Fail> {
-    for call in calls {
-        plays_behind(rt, ONES, call.stop.before, call.told)?;
-        stops_and_counts(rt, &call.stop, call.counts)?;
-    }
-    Ok(())
-}
-
-/// A stop in a call of the client's.
+/// A stop in it.
 const CLIENT_STOPS: Stop<'static> = Stop {
+    name: "client_stops",
     on: On::Ones(NO_OVERFLOW),
     before: &LIMITED,
     node: 0,
     ask: Ask::Loan(0),
     steps: 1,
     after: &[(0, &ONE_CAME)],
+    between: NOTHING_BETWEEN,
+    counts: &[(0, &[Act::Keeps(0, 2)])],
 };
-
-/// The client keeps its request and its loan.
-const KEEPS_BOTH: &[(u64, &[Act])] = &[(0, &[Act::Keeps(0, 2)])];
-
-/// Its loan ends.
-const KEEPS_ONE: &[(u64, &[Act])] = &[(0, &[Act::Keeps(0, 2)]), (1, &[Act::Keeps(0, 1)])];
 
 #[test]
 fn client_is_refused_in_one_step(rt: HostRuntime) -> Result<(), Fail> {
-    const CALLS: &[Refused<'static>] = &[
-        Refused {
-            told: &[
+    const PLAYS: &[Play<'static>] = &[
+        Play {
+            table: &[
                 Act::Whole(0, Ask::Loan(0), 1, Told::ExceedsMaxLoans),
                 Act::Keeps(0, 2),
             ],
-            stop: CLIENT_STOPS,
-            counts: KEEPS_BOTH,
+            ..CLIENT_IS_REFUSED
         },
-        Refused {
-            told: &[
+        Play {
+            table: &[
                 Act::Whole(0, Ask::LoanOf(0, 2), 1, Told::ExceedsMaxLoanSize),
                 Act::Keeps(0, 2),
             ],
-            stop: Stop {
-                ask: Ask::LoanOf(0, 2),
-                ..CLIENT_STOPS
-            },
-            counts: KEEPS_BOTH,
+            ..CLIENT_IS_REFUSED
         },
-        Refused {
-            told: &[
+        Play {
+            table: &[
                 Act::Whole(0, Ask::CopyRequest(0, 8), 1, Told::ExceedsMaxLoans),
                 Act::Keeps(0, 2),
             ],
-            stop: Stop {
-                ask: Ask::CopyRequest(0, 8),
-                ..CLIENT_STOPS
-            },
-            counts: KEEPS_BOTH,
+            ..CLIENT_IS_REFUSED
         },
-        Refused {
-            told: &[
+        Play {
+            table: &[
                 Act::Whole(0, Ask::WriteNoRequest(3), 1, Told::WrongLength),
                 Act::Keeps(0, 2),
             ],
-            stop: Stop {
-                ask: Ask::WriteNoRequest(3),
-                ..CLIENT_STOPS
-            },
-            counts: KEEPS_BOTH,
+            ..CLIENT_IS_REFUSED
         },
-        Refused {
-            told: &[
+        Play {
+            table: &[
                 Act::Whole(0, Ask::Send(3), 1, Told::ExceedsMaxActiveRequests),
                 Act::Keeps(0, 1),
             ],
-            stop: Stop {
-                ask: Ask::Send(3),
-                ..CLIENT_STOPS
-            },
-            counts: KEEPS_ONE,
+            ..CLIENT_IS_REFUSED
         },
     ];
-    are_refused(&rt, CALLS)
+    const STOPS: &[Stop<'static>] = &[
+        Stop {
+            ask: Ask::Loan(0),
+            ..CLIENT_STOPS
+        },
+        Stop {
+            ask: Ask::LoanOf(0, 2),
+            ..CLIENT_STOPS
+        },
+        Stop {
+            ask: Ask::CopyRequest(0, 8),
+            ..CLIENT_STOPS
+        },
+        Stop {
+            ask: Ask::WriteNoRequest(3),
+            ..CLIENT_STOPS
+        },
+        Stop {
+            ask: Ask::Send(3),
+            counts: &[(0, &[Act::Keeps(0, 2)]), (1, &[Act::Keeps(0, 1)])],
+            ..CLIENT_STOPS
+        },
+    ];
+    plays_all(&rt, PLAYS)?;
+    stop_all(&rt, STOPS)
 }
 
-/// A stop in a call of the server's.
+/// A call of the server's is refused with its only step.
+const SERVER_IS_REFUSED: Play<'static> = Play {
+    name: "server_is_refused",
+    on: ONES,
+    before: &SERVER_IS_LIMITED,
+    table: &[],
+};
+
+/// A stop in it.
 const SERVER_STOPS: Stop<'static> = Stop {
+    name: "server_stops",
     on: On::Ones(NO_OVERFLOW),
     before: &SERVER_IS_LIMITED,
     node: 1,
     ask: Ask::Loan(2),
     steps: 1,
     after: &[(0, &NONE_CAME)],
+    between: NOTHING_BETWEEN,
+    counts: &[],
 };
-
-/// The server keeps its loan.
-const KEEPS_LOAN: &[(u64, &[Act])] = &[(0, &[Act::Keeps(1, 1)])];
 
 #[test]
 fn server_is_refused_in_one_step(rt: HostRuntime) -> Result<(), Fail> {
-    const CALLS: &[Refused<'static>] = &[
-        Refused {
-            told: &[
+    const PLAYS: &[Play<'static>] = &[
+        Play {
+            table: &[
                 Act::Whole(1, Ask::Loan(2), 1, Told::ExceedsMaxLoans),
                 Act::Keeps(1, 1),
             ],
-            stop: SERVER_STOPS,
-            counts: KEEPS_LOAN,
+            ..SERVER_IS_REFUSED
         },
-        Refused {
-            told: &[
+        Play {
+            table: &[
                 Act::Whole(1, Ask::LoanOf(2, 2), 1, Told::ExceedsMaxLoanSize),
                 Act::Keeps(1, 1),
             ],
-            stop: Stop {
-                ask: Ask::LoanOf(2, 2),
-                ..SERVER_STOPS
-            },
-            counts: KEEPS_LOAN,
+            ..SERVER_IS_REFUSED
         },
-        Refused {
-            told: &[
+        Play {
+            table: &[
                 Act::Whole(1, Ask::CopyResponse(2, 8), 1, Told::ExceedsMaxLoans),
                 Act::Keeps(1, 1),
             ],
-            stop: Stop {
-                ask: Ask::CopyResponse(2, 8),
-                ..SERVER_STOPS
-            },
-            counts: KEEPS_LOAN,
+            ..SERVER_IS_REFUSED
         },
-        Refused {
-            told: &[
+        Play {
+            table: &[
                 Act::Whole(1, Ask::WriteNoResponse(3), 1, Told::WrongLength),
                 Act::Keeps(1, 1),
             ],
-            stop: Stop {
-                ask: Ask::WriteNoResponse(3),
-                ..SERVER_STOPS
-            },
-            counts: KEEPS_LOAN,
+            ..SERVER_IS_REFUSED
         },
     ];
-    are_refused(&rt, CALLS)
+    const STOPS: &[Stop<'static>] = &[
+        Stop {
+            ask: Ask::Loan(2),
+            ..SERVER_STOPS
+        },
+        Stop {
+            ask: Ask::LoanOf(2, 2),
+            ..SERVER_STOPS
+        },
+        Stop {
+            ask: Ask::CopyResponse(2, 8),
+            ..SERVER_STOPS
+        },
+        Stop {
+            ask: Ask::WriteNoResponse(3),
+            ..SERVER_STOPS
+        },
+    ];
+    plays_all(&rt, PLAYS)?;
+    stop_all(&rt, STOPS)
 }

@@ -1,11 +1,14 @@
 //! Calls on a wire of two clients and two servers: what they answer, and how many steps they take.
-use super::on::{FOUR, OVERFLOWING_FOUR, plays_on};
-use super::play::{Act, Ask, Told};
+use super::on::{FOUR, OVERFLOWING_FOUR, Play, plays_all};
+use super::play::{Act, Ask};
+use super::told::Told;
 use std::test::Fail;
 
-#[test]
-fn each_call_visits_all_others(rt: HostRuntime) -> Result<(), Fail> {
-    const TABLE: &[Act] = &[
+const EACH_CALL_VISITS_ALL_OTHERS: Play<'static> = Play {
+    name: "each_call_visits_all_others",
+    on: FOUR,
+    before: &[],
+    table: &[
         // both servers receive what a client sends
         Act::Whole(0, Ask::CopyRequest(0, 7), 30, Told::Handle(4)),
         Act::Whole(1, Ask::HasRequests(1), 2, Told::Answer(true)),
@@ -52,13 +55,14 @@ fn each_call_visits_all_others(rt: HostRuntime) -> Result<(), Fail> {
         Act::Whole(0, Ask::CopyRequest(0, 9), 38, Told::Handle(7)),
         Act::Whole(1, Ask::Receive(1), 11, Told::Handle(6)),
         Act::Whole(1, Ask::Read(6), 1, Told::Word(9)),
-    ];
-    plays_on(&rt, FOUR, TABLE)
-}
+    ],
+};
 
-#[test]
-fn one_full_server_refuses_a_request(rt: HostRuntime) -> Result<(), Fail> {
-    const TABLE: &[Act] = &[
+const ONE_FULL_SERVER_REFUSES_A_REQUEST: Play<'static> = Play {
+    name: "one_full_server_refuses_a_request",
+    on: FOUR,
+    before: &[],
+    table: &[
         Act::Whole(0, Ask::CopyRequest(0, 1), 30, Told::Handle(4)),
         Act::Whole(1, Ask::Receive(1), 11, Told::Handle(4)),
         Act::Whole(0, Ask::Release(4), 2, Told::Done),
@@ -69,13 +73,14 @@ fn one_full_server_refuses_a_request(rt: HostRuntime) -> Result<(), Fail> {
         Act::Whole(0, Ask::CopyRequest(0, 3), 30, Told::Handle(5)),
         Act::Whole(1, Ask::IsConnected(4), 1, Told::Answer(false)),
         Act::Whole(2, Ask::Receive(2), 4, Told::ExceedsMaxBorrows),
-    ];
-    plays_on(&rt, FOUR, TABLE)
-}
+    ],
+};
 
-#[test]
-fn full_servers_give_up_their_oldest_request(rt: HostRuntime) -> Result<(), Fail> {
-    const TABLE: &[Act] = &[
+const FULL_SERVERS_GIVE_UP_THEIR_OLDEST_REQUEST: Play<'static> = Play {
+    name: "full_servers_give_up_their_oldest_request",
+    on: OVERFLOWING_FOUR,
+    before: &[],
+    table: &[
         Act::Whole(0, Ask::CopyRequest(0, 1), 26, Told::Handle(4)),
         Act::Whole(1, Ask::Receive(1), 11, Told::Handle(4)),
         Act::Whole(0, Ask::Release(4), 2, Told::Done),
@@ -89,6 +94,15 @@ fn full_servers_give_up_their_oldest_request(rt: HostRuntime) -> Result<(), Fail
         Act::Whole(0, Ask::Release(5), 2, Told::Done),
         // the first one gave back what it had
         Act::Whole(0, Ask::CopyRequest(0, 3), 30, Told::Handle(6)),
+    ],
+};
+
+#[test]
+fn calls_visit_all_others(rt: HostRuntime) -> Result<(), Fail> {
+    const PLAYS: &[Play<'static>] = &[
+        EACH_CALL_VISITS_ALL_OTHERS,
+        ONE_FULL_SERVER_REFUSES_A_REQUEST,
+        FULL_SERVERS_GIVE_UP_THEIR_OLDEST_REQUEST,
     ];
-    plays_on(&rt, OVERFLOWING_FOUR, TABLE)
+    plays_all(&rt, PLAYS)
 }

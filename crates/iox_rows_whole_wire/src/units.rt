@@ -4,9 +4,10 @@ ghost use Rattle.std.specs.Prelude.{◌≡◌, IfOk};
 ghost use Rattle.iox_rows_whole_wire.specs.Units.{AreTermsOfUnits, HasNoWord, IsMessageOfUnits};
 ghost use Rattle.iox_rows_whole_wire.specs.Units.{IsPlanOfUnits, unit_client, unit_server};
 
-use super::on::{SINGLE_UNITS, UNITS, plays_on};
-use super::play::{Act, Ask, Told};
+use super::on::{Play, SINGLE_UNITS, UNITS, plays_all};
+use super::play::{Act, Ask};
 use super::settings::{NO_OVERFLOW, limits, port};
+use super::told::Told;
 use iox_model::kind::Role;
 use iox_types::{MessageTypeDetails, RequestHeader, ResponseHeader, TypeVariant};
 use iox_wire::{Wire, WireRefusal};
@@ -106,9 +107,11 @@ pub(super) fn open(alloc: Global, many: bool) -> Result<Wire, Fail> {
     Ok(Wire::new(alloc, plan, terms, &[0, 1])?)
 }
 
-#[test]
-fn several_elements_without_words_are_written_by_no_words(rt: HostRuntime) -> Result<(), Fail> {
-    const TABLE: &[Act] = &[
+const SEVERAL_ELEMENTS_WITHOUT_WORDS_ARE_WRITTEN_BY_NO_WORDS: Play<'static> = Play {
+    name: "several_elements_without_words_are_written_by_no_words",
+    on: UNITS,
+    before: &[],
+    table: &[
         Act::Whole(0, Ask::LoanOf(0, 4), 1, Told::ExceedsMaxLoanSize),
         // three elements are lent: a write has no word, and takes one step
         Act::Whole(0, Ask::LoanOf(0, 3), 9, Told::Handle(2)),
@@ -129,13 +132,14 @@ fn several_elements_without_words_are_written_by_no_words(rt: HostRuntime) -> Re
         Act::Whole(0, Ask::Read(3), 1, Told::NoWord),
         // the last word of the first header tells how many elements its message has
         Act::Holds(6, 3),
-    ];
-    plays_on(&rt, UNITS, TABLE)
-}
+    ],
+};
 
-#[test]
-fn messages_of_no_elements_are_written_by_no_words(rt: HostRuntime) -> Result<(), Fail> {
-    const TABLE: &[Act] = &[
+const MESSAGES_OF_NO_ELEMENTS_ARE_WRITTEN_BY_NO_WORDS: Play<'static> = Play {
+    name: "messages_of_no_elements_are_written_by_no_words",
+    on: UNITS,
+    before: &[],
+    table: &[
         Act::Whole(0, Ask::LoanOf(0, 0), 9, Told::Handle(2)),
         Act::Whole(0, Ask::WriteRequest(2, 7), 1, Told::WrongLength),
         Act::Whole(0, Ask::WriteNoRequest(2), 1, Told::Done),
@@ -145,13 +149,14 @@ fn messages_of_no_elements_are_written_by_no_words(rt: HostRuntime) -> Result<()
         Act::Whole(0, Ask::CopyNoRequest(0), 18, Told::Handle(3)),
         Act::Whole(1, Ask::Receive(1), 11, Told::Handle(2)),
         Act::Whole(1, Ask::Read(2), 1, Told::NoWord),
-    ];
-    plays_on(&rt, UNITS, TABLE)
-}
+    ],
+};
 
-#[test]
-fn one_element_without_words_is_written_by_no_words(rt: HostRuntime) -> Result<(), Fail> {
-    const TABLE: &[Act] = &[
+const ONE_ELEMENT_WITHOUT_WORDS_IS_WRITTEN_BY_NO_WORDS: Play<'static> = Play {
+    name: "one_element_without_words_is_written_by_no_words",
+    on: SINGLE_UNITS,
+    before: &[],
+    table: &[
         Act::Whole(0, Ask::LoanOf(0, 0), 1, Told::WrongLength),
         Act::Whole(0, Ask::LoanOf(0, 3), 1, Told::WrongLength),
         Act::Whole(0, Ask::Loan(0), 9, Told::Handle(2)),
@@ -168,18 +173,29 @@ fn one_element_without_words_is_written_by_no_words(rt: HostRuntime) -> Result<(
         Act::Whole(0, Ask::Read(3), 1, Told::NoWord),
         // the last word of the first header tells how many elements its message has
         Act::Holds(6, 1),
-    ];
-    plays_on(&rt, SINGLE_UNITS, TABLE)
-}
+    ],
+};
 
-#[test]
-fn copy_of_no_words_is_of_one_element(rt: HostRuntime) -> Result<(), Fail> {
-    const TABLE: &[Act] = &[
+const COPY_OF_NO_WORDS_IS_OF_ONE_ELEMENT: Play<'static> = Play {
+    name: "copy_of_no_words_is_of_one_element",
+    on: SINGLE_UNITS,
+    before: &[],
+    table: &[
         Act::Whole(0, Ask::CopyNoRequest(0), 18, Told::Handle(2)),
         Act::Whole(1, Ask::Receive(1), 11, Told::Handle(2)),
         Act::Whole(1, Ask::Read(2), 1, Told::NoWord),
         // the last word of the first header tells how many elements its message has
         Act::Holds(6, 1),
+    ],
+};
+
+#[test]
+fn elements_without_words_are_written_by_no_words(rt: HostRuntime) -> Result<(), Fail> {
+    const PLAYS: &[Play<'static>] = &[
+        SEVERAL_ELEMENTS_WITHOUT_WORDS_ARE_WRITTEN_BY_NO_WORDS,
+        MESSAGES_OF_NO_ELEMENTS_ARE_WRITTEN_BY_NO_WORDS,
+        ONE_ELEMENT_WITHOUT_WORDS_IS_WRITTEN_BY_NO_WORDS,
+        COPY_OF_NO_WORDS_IS_OF_ONE_ELEMENT,
     ];
-    plays_on(&rt, SINGLE_UNITS, TABLE)
+    plays_all(&rt, PLAYS)
 }

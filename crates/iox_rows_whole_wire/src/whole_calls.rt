@@ -3,7 +3,7 @@
 use super::chances::{Chance, ask};
 use super::four;
 use super::lists::Lists;
-use super::play::{Came, calls};
+use super::play::{Came, calls, came_shown};
 use super::settings::{NO_FIRE_AND_FORGET, NO_OVERFLOW, OVERFLOW, Service};
 use crate::expected::{equal, holds};
 use iox_wire::{Wire, WireRefusal};
@@ -28,7 +28,11 @@ fn turn(
     let asked = ask(held.of.kind, held.of.number, chance.below(1 << 20) as u64);
     let came = calls(wire, node as u64, asked);
     if dead.get(node).copied().unwrap_or(false) {
-        equal(rt, came, Came::Refused(WireRefusal::NodeIsDead));
+        equal(
+            rt,
+            came_shown(came),
+            came_shown(Came::Refused(WireRefusal::NodeIsDead)),
+        );
         return Ok(true);
     }
     let told = lists.answer(held, asked)?;
@@ -36,7 +40,7 @@ fn turn(
         Came::Ended(steps, _) => steps,
         _ => 0,
     };
-    equal(rt, came, Came::Ended(steps, told));
+    equal(rt, came_shown(came), came_shown(Came::Ended(steps, told)));
     Ok(true)
 }
 

@@ -5,8 +5,9 @@ ghost use Rattle.std.specs.Prelude.{◌≡◌, ◌∷◌, [], IfOk};
 ghost use Rattle.iox_rows_whole_wire.specs.Wide.{AreWideTerms, HasUserHeader, IsWide, IsWidePlan};
 ghost use Rattle.iox_rows_whole_wire.specs.Wide.{IsWidePort, wide_limits};
 
-use super::on::{WIDE, plays_on};
-use super::play::{Act, Ask, Told};
+use super::on::{Play, WIDE, plays_all};
+use super::play::{Act, Ask};
+use super::told::Told;
 use crate::expected::equal;
 use iox_model::kind::Role;
 use iox_types::{MessageTypeDetails, RequestHeader, ResponseHeader, TypeDetail, TypeVariant};
@@ -195,9 +196,11 @@ fn refusal_is_shown_by_its_name(rt: HostRuntime) -> Result<(), Fail> {
     Ok(())
 }
 
-#[test]
-fn words_come_as_they_were_sent(rt: HostRuntime) -> Result<(), Fail> {
-    const TABLE: &[Act] = &[
+const WORDS_COME_AS_THEY_WERE_SENT: Play<'static> = Play {
+    name: "words_come_as_they_were_sent",
+    on: WIDE,
+    before: &[],
+    table: &[
         Act::Whole(0, Ask::Loan(0), 10, Told::Handle(2)),
         Act::Whole(0, Ask::Read(2), 3, Told::Three(5, 0, 0)),
         Act::Whole(0, Ask::WriteTwo(2, Role::Client, [8, 9]), 2, Told::Done),
@@ -209,13 +212,14 @@ fn words_come_as_they_were_sent(rt: HostRuntime) -> Result<(), Fail> {
         Act::Whole(1, Ask::CopyTwo(2, Role::Server, [10, 11]), 23, Told::Done),
         Act::Whole(0, Ask::Receive(2), 10, Told::Handle(3)),
         Act::Whole(0, Ask::Read(3), 4, Told::Four(6, 7, 10, 11)),
-    ];
-    plays_on(&rt, WIDE, TABLE)
-}
+    ],
+};
 
-#[test]
-fn requests_are_dropped_that_find_no_room(rt: HostRuntime) -> Result<(), Fail> {
-    const TABLE: &[Act] = &[
+const REQUESTS_ARE_DROPPED_THAT_FIND_NO_ROOM: Play<'static> = Play {
+    name: "requests_are_dropped_that_find_no_room",
+    on: WIDE,
+    before: &[],
+    table: &[
         Act::Whole(
             0,
             Ask::CopyTwo(0, Role::Client, [1, 2]),
@@ -247,13 +251,14 @@ fn requests_are_dropped_that_find_no_room(rt: HostRuntime) -> Result<(), Fail> {
         Act::Whole(0, Ask::Loan(0), 2, Told::OutOfMemory),
         Act::Whole(1, Ask::Release(2), 5, Told::Done),
         Act::Whole(0, Ask::Loan(0), 14, Told::Handle(5)),
-    ];
-    plays_on(&rt, WIDE, TABLE)
-}
+    ],
+};
 
-#[test]
-fn responses_are_dropped_that_find_no_room(rt: HostRuntime) -> Result<(), Fail> {
-    const TABLE: &[Act] = &[
+const RESPONSES_ARE_DROPPED_THAT_FIND_NO_ROOM: Play<'static> = Play {
+    name: "responses_are_dropped_that_find_no_room",
+    on: WIDE,
+    before: &[],
+    table: &[
         Act::Whole(
             0,
             Ask::CopyTwo(0, Role::Client, [1, 2]),
@@ -277,6 +282,15 @@ fn responses_are_dropped_that_find_no_room(rt: HostRuntime) -> Result<(), Fail> 
         ),
         Act::Whole(0, Ask::Release(3), 4, Told::Done),
         Act::Whole(1, Ask::Loan(2), 16, Told::Handle(3)),
+    ],
+};
+
+#[test]
+fn wide_messages_come_and_are_dropped(rt: HostRuntime) -> Result<(), Fail> {
+    const PLAYS: &[Play<'static>] = &[
+        WORDS_COME_AS_THEY_WERE_SENT,
+        REQUESTS_ARE_DROPPED_THAT_FIND_NO_ROOM,
+        RESPONSES_ARE_DROPPED_THAT_FIND_NO_ROOM,
     ];
-    plays_on(&rt, WIDE, TABLE)
+    plays_all(&rt, PLAYS)
 }

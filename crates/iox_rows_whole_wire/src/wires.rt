@@ -1,43 +1,47 @@
 //! A wire where each setting is 1, with a client on one node and a server on the other.
-use super::on::{ONES, plays_on};
-use super::play::{Act, Told};
+use super::on::{ONES, Play, plays_all};
+use super::play::Act;
 use super::settings::{NO_OVERFLOW, OVERFLOW, Service, plan, terms};
+use super::told::Told;
 use crate::expected::equal;
 use iox_wire::{WirePlan, WireRefusal, have_layouts, is_plan, is_whole};
 use iox_wire_lenders::WireTerms;
 use std::process::Abort;
 use std::test::Fail;
 
-#[test]
-fn wire_of_ones_has_165_words(rt: HostRuntime) -> Result<(), Fail> {
-    const TABLE: &[Act] = &[Act::HasWords(165), Act::HasZeros(165), Act::Finishes(0)];
-    plays_on(&rt, ONES, TABLE)
-}
+const WIRE_OF_ONES_HAS_165_WORDS: Play<'static> = Play {
+    name: "wire_of_ones_has_165_words",
+    on: ONES,
+    before: &[],
+    table: &[Act::HasWords(165), Act::HasZeros(165), Act::Finishes(0)],
+};
 
 /// The server looks for a request and finds none. It begins no other call meanwhile.
-#[test]
-fn server_finds_no_request_in_two_steps(rt: HostRuntime) -> Result<(), Fail> {
-    const TABLE: &[Act] = &[
+const SERVER_FINDS_NO_REQUEST_IN_TWO_STEPS: Play<'static> = Play {
+    name: "server_finds_no_request_in_two_steps",
+    on: ONES,
+    before: &[],
+    table: &[
         Act::Looks(1, 1),
         Act::RefusedLook(1, 1, WireRefusal::Busy),
         Act::Ends(1, 2, Told::Answer(false)),
         Act::Finishes(1),
         Act::RefusedStep(1, WireRefusal::AtRest),
-    ];
-    plays_on(&rt, ONES, TABLE)
-}
+    ],
+};
 
-#[test]
-fn begin_is_refused_by_what_it_names(rt: HostRuntime) -> Result<(), Fail> {
-    const TABLE: &[Act] = &[
+const BEGIN_IS_REFUSED_BY_WHAT_IT_NAMES: Play<'static> = Play {
+    name: "begin_is_refused_by_what_it_names",
+    on: ONES,
+    before: &[],
+    table: &[
         Act::RefusedLook(2, 1, WireRefusal::UnknownNode),
         Act::RefusedLook(1, 7, WireRefusal::UnknownNumber),
         Act::RefusedLook(0, 1, WireRefusal::ForeignNumber),
         Act::RefusedLook(0, 0, WireRefusal::WrongKind),
         Act::RefusedStep(1, WireRefusal::AtRest),
-    ];
-    plays_on(&rt, ONES, TABLE)
-}
+    ],
+};
 
 /// What is changed of a plan and its terms.
 #[derive(Clone, Copy)]
@@ -117,61 +121,78 @@ fn tells(plan: &WirePlan, terms: &WireTerms, row: Row) -> bool {
     }
 }
 
-/// Ends the test where a row does not.
-fn tell(rt: &impl Abort, plan: &mut WirePlan, terms: &mut WireTerms, rows: &[Row]) {
-    for (place, row) in rows.iter().enumerate() {
+/// What is so of the plan of a service.
+struct PlanRows<'a> {
+    /// What a failed test tells.
+    name: &'a str,
+    service: Service,
+    rows: &'a [Row],
+}
+
+/// Ends the test where a row does not tell what is so.
+fn tell(rt: &impl Abort, plan: &mut WirePlan, terms: &mut WireTerms, of: &PlanRows<'_>) {
+    for (place, row) in of.rows.iter().enumerate() {
         if let Row::Changes(change) = *row {
             changes(plan, terms, change);
         }
-        equal(rt, (place, tells(plan, terms, *row)), (place, true));
+        equal(
+            rt,
+            (of.name, place, tells(plan, terms, *row)),
+            (of.name, place, true),
+        );
     }
 }
 
-/// The same of the plan of that service.
-fn of_its_plan(
-    rt: &(impl Abort + AllocGlobal),
-    service: &Service,
-    rows: &[Row],
-) -> Result<(), Fail> {
-    let mut terms = terms(rt.alloc(), *service)?;
-    let mut plan = plan(rt.alloc(), *service)?;
-    tell(rt, &mut plan, &mut terms, rows);
+/// The same of a new plan.
+fn of_its_plan(rt: &(impl Abort + AllocGlobal), of: &PlanRows<'_>) -> Result<(), Fail> {
+    let mut terms = terms(rt.alloc(), of.service)?;
+    let mut plan = plan(rt.alloc(), of.service)?;
+    tell(rt, &mut plan, &mut terms, of);
     Ok(())
 }
 
-#[test]
-fn plan_and_terms_of_ones_are_whole(rt: HostRuntime) -> Result<(), Fail> {
-    const ROWS: &[Row] = &[Row::IsPlan(true), Row::IsWhole(true)];
-    of_its_plan(&rt, &NO_OVERFLOW, ROWS)
+/// The same of each of these.
+fn of_their_plans(rt: &(impl Abort + AllocGlobal), list: &[PlanRows<'_>]) -> Result<(), Fail> {
+    for of in list {
+        of_its_plan(rt, of)?;
+    }
+    Ok(())
 }
 
-#[test]
-fn port_without_a_slot_is_not_whole(rt: HostRuntime) -> Result<(), Fail> {
-    const ROWS: &[Row] = &[
+const PLAN_AND_TERMS_OF_ONES_ARE_WHOLE: PlanRows<'static> = PlanRows {
+    name: "plan_and_terms_of_ones_are_whole",
+    service: NO_OVERFLOW,
+    rows: &[Row::IsPlan(true), Row::IsWhole(true)],
+};
+
+const PORT_WITHOUT_A_SLOT_IS_NOT_WHOLE: PlanRows<'static> = PlanRows {
+    name: "port_without_a_slot_is_not_whole",
+    service: NO_OVERFLOW,
+    rows: &[
         Row::Changes(Change::Pools),
         Row::IsPlan(true),
         Row::IsWhole(false),
-    ];
-    of_its_plan(&rt, &NO_OVERFLOW, ROWS)
-}
+    ],
+};
 
-#[test]
-fn ports_of_one_number_are_no_plan(rt: HostRuntime) -> Result<(), Fail> {
-    const ROWS: &[Row] = &[Row::Changes(Change::Numbers), Row::IsPlan(false)];
-    of_its_plan(&rt, &NO_OVERFLOW, ROWS)
-}
+const PORTS_OF_ONE_NUMBER_ARE_NO_PLAN: PlanRows<'static> = PlanRows {
+    name: "ports_of_one_number_are_no_plan",
+    service: NO_OVERFLOW,
+    rows: &[Row::Changes(Change::Numbers), Row::IsPlan(false)],
+};
 
-#[test]
-fn terms_of_one_port_are_too_few(rt: HostRuntime) -> Result<(), Fail> {
-    const ROWS: &[Row] = &[Row::Changes(Change::Terms), Row::IsWhole(false)];
-    of_its_plan(&rt, &NO_OVERFLOW, ROWS)
-}
+const TERMS_OF_ONE_PORT_ARE_TOO_FEW: PlanRows<'static> = PlanRows {
+    name: "terms_of_one_port_are_too_few",
+    service: NO_OVERFLOW,
+    rows: &[Row::Changes(Change::Terms), Row::IsWhole(false)],
+};
 
 /// The queues of responses and then those of requests get no room. That is whole once they do not
 /// overflow.
-#[test]
-fn queues_that_overflow_without_room_are_not_whole(rt: HostRuntime) -> Result<(), Fail> {
-    const ROWS: &[Row] = &[
+const QUEUES_THAT_OVERFLOW_WITHOUT_ROOM_ARE_NOT_WHOLE: PlanRows<'static> = PlanRows {
+    name: "queues_that_overflow_without_room_are_not_whole",
+    service: OVERFLOW,
+    rows: &[
         Row::IsWhole(true),
         Row::Changes(Change::ResponseBuffer),
         Row::IsWhole(false),
@@ -181,13 +202,13 @@ fn queues_that_overflow_without_room_are_not_whole(rt: HostRuntime) -> Result<()
         Row::IsWhole(false),
         Row::Changes(Change::RequestOverflow),
         Row::IsWhole(true),
-    ];
-    of_its_plan(&rt, &OVERFLOW, ROWS)
-}
+    ],
+};
 
-#[test]
-fn request_of_2_to_the_63_bytes_has_no_layout(rt: HostRuntime) -> Result<(), Fail> {
-    const ROWS: &[Row] = &[
+const REQUEST_OF_2_TO_THE_63_BYTES_HAS_NO_LAYOUT: PlanRows<'static> = PlanRows {
+    name: "request_of_2_to_the_63_bytes_has_no_layout",
+    service: NO_OVERFLOW,
+    rows: &[
         Row::HaveLayouts(true),
         // an element is a word, and 9 words are in front of it
         Row::Changes(Change::Longest((1 << 60) - 10, (1 << 60) - 1)),
@@ -196,6 +217,28 @@ fn request_of_2_to_the_63_bytes_has_no_layout(rt: HostRuntime) -> Result<(), Fai
         Row::Changes(Change::Longest((1 << 60) - 9, 1 << 60)),
         Row::IsPlan(true),
         Row::HaveLayouts(false),
+    ],
+};
+
+#[test]
+fn plans_and_terms_are_whole_or_not(rt: HostRuntime) -> Result<(), Fail> {
+    const PLANS: &[PlanRows<'static>] = &[
+        PLAN_AND_TERMS_OF_ONES_ARE_WHOLE,
+        PORT_WITHOUT_A_SLOT_IS_NOT_WHOLE,
+        PORTS_OF_ONE_NUMBER_ARE_NO_PLAN,
+        TERMS_OF_ONE_PORT_ARE_TOO_FEW,
+        QUEUES_THAT_OVERFLOW_WITHOUT_ROOM_ARE_NOT_WHOLE,
+        REQUEST_OF_2_TO_THE_63_BYTES_HAS_NO_LAYOUT,
     ];
-    of_its_plan(&rt, &NO_OVERFLOW, ROWS)
+    of_their_plans(&rt, PLANS)
+}
+
+#[test]
+fn wire_of_ones_is_looked_at(rt: HostRuntime) -> Result<(), Fail> {
+    const PLAYS: &[Play<'static>] = &[
+        WIRE_OF_ONES_HAS_165_WORDS,
+        SERVER_FINDS_NO_REQUEST_IN_TWO_STEPS,
+        BEGIN_IS_REFUSED_BY_WHAT_IT_NAMES,
+    ];
+    plays_all(&rt, PLAYS)
 }
