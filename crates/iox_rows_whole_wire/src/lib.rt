@@ -2,6 +2,8 @@
 #![tactic(auto)]
 
 #[cfg(test)]
+mod allowed;
+#[cfg(test)]
 mod answers;
 #[cfg(test)]
 mod between;

@@ -152,14 +152,13 @@ fn refusal(alloc: Global, waiting: usize, first: u64) -> Result<Option<WireNewEr
     Ok(new_refusal(&plan, &terms, &[0, 1]))
 }
 
+/// How many responses may wait, the number of the first handle, and the reason.
+type Row = (usize, u64, Option<WireNewError>);
+
 /// Ends the test where there is another reason for one of these.
-fn are_refused(
-    rt: &impl Abort,
-    alloc: Global,
-    plans: &[(usize, u64, Option<WireNewError>)],
-) -> Result<(), Fail> {
-    for (waiting, first, wanted) in plans {
-        equal(rt, refusal(alloc, *waiting, *first)?, *wanted);
+fn are_refused(rt: &(impl Abort + AllocGlobal), rows: &[Row]) -> Result<(), Fail> {
+    for (waiting, first, wanted) in rows {
+        equal(rt, refusal(rt.alloc(), *waiting, *first)?, *wanted);
     }
     Ok(())
 }
@@ -174,26 +173,16 @@ fn too_many_words_are_told_before_spent_numbers(rt: HostRuntime) -> Result<(), F
     const LAST: u64 = (1 << 63) - 1;
     const WORDS: Option<WireNewError> = Some(WireNewError::TooManyWords);
     const NUMBERS: Option<WireNewError> = Some(WireNewError::NumbersSpent);
-    are_refused(
-        &rt,
-        rt.alloc(),
-        &[
-            (1, 2, None),
-            (FEWER, LAST, None),
-            (MOST, LAST, WORDS),
-            (MORE, LAST, WORDS),
-            (MOST, SPENT, WORDS),
-            (FEWER, SPENT, NUMBERS),
-            (1, u64::MAX, NUMBERS),
-        ],
-    )
-}
-
-#[test]
-fn refusal_is_shown_by_its_name(rt: HostRuntime) -> Result<(), Fail> {
-    let text = WireNewError::NumbersSpent.to_string(rt.alloc())?;
-    equal(&rt, text.as_str(), "WireNewError::NumbersSpent");
-    Ok(())
+    const ROWS: &[Row] = &[
+        (1, 2, None),
+        (FEWER, LAST, None),
+        (MOST, LAST, WORDS),
+        (MORE, LAST, WORDS),
+        (MOST, SPENT, WORDS),
+        (FEWER, SPENT, NUMBERS),
+        (1, u64::MAX, NUMBERS),
+    ];
+    are_refused(&rt, ROWS)
 }
 
 const WORDS_COME_AS_THEY_WERE_SENT: Play<'static> = Play {
