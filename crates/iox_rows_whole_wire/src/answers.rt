@@ -1,7 +1,8 @@
 //! What lists say that a call answers.
-use super::chances::{Kind, Owned, written};
+use super::chances::{Kind, Owned, received_by, written};
 use super::lists::{CLIENTS, Held, Lists, Message, SERVERS, of_one_request, response_to};
-use super::play::{Ask, Told};
+use super::play::Ask;
+use super::told::Told;
 use std::alloc::AllocError;
 
 /// What a receive answers that got nothing.
@@ -10,6 +11,14 @@ fn nothing(seen: bool) -> Told {
         return Told::ExceedsMaxBorrows;
     }
     Told::Nothing
+}
+
+/// From whom a server or a pending response receives.
+fn others(kind: Kind) -> [u64; 2] {
+    match kind {
+        Kind::Server => CLIENTS,
+        _ => SERVERS,
+    }
 }
 
 impl Lists {
@@ -86,45 +95,49 @@ impl Lists {
         self.service.fire_and_forget || self.is_open(request, false).0
     }
 
-    /// A server receives a request, from the first client that has one for it.
-    fn receive_request(&mut self, of: Owned) -> Result<Told, AllocError> {
-        let mut seen = false;
-        for from in CLIENTS {
-            let way = Message {
-                from,
-                ..self.of_port(of.number)
-            };
-            let waiting = self.count_waiting(way);
-            if self.is_borrowed(way, Kind::Active) {
-                seen = seen || waiting > 0;
-                continue;
-            }
-            for _ in 0..waiting {
-                let request = self.take(way).unwrap_or(way);
-                if self.is_of_use(request) {
-                    return self.add(of.node, Kind::Active, request);
-                }
-            }
+    /// The way on which a server or a pending response receives from the other port.
+    fn way_from(&self, held: Held, other: u64) -> Message {
+        if held.of.kind == Kind::Server {
+            let way = self.of_port(held.of.number);
+            return Message { from: other, ..way };
         }
-        Ok(nothing(seen))
+        let request = Message {
+            to: other,
+            ..held.message
+        };
+        response_to(request, 0)
     }
 
-    /// A pending response receives a response, from the first server that has one for it.
-    fn receive_response(&mut self, held: Held) -> Result<Told, AllocError> {
-        let mut seen = false;
-        for to in SERVERS {
-            let request = Message { to, ..held.message };
-            let way = response_to(request, 0);
-            let waiting = self.count_waiting(way);
-            if self.is_borrowed(way, Kind::Received) {
-                seen = seen || waiting > 0;
-                continue;
+    /// Whether a message that is taken is handed out.
+    fn is_handed_out(&self, held: Held, message: Message) -> bool {
+        if held.of.kind == Kind::Server {
+            return self.is_of_use(message);
+        }
+        message.id == held.message.id
+    }
+
+    /// Takes messages on that way, up to one that is handed out.
+    fn take_on(&mut self, held: Held, way: Message) -> Option<Message> {
+        for _ in 0..self.count_waiting(way) {
+            let message = self.take(way)?;
+            if self.is_handed_out(held, message) {
+                return Some(message);
             }
-            for _ in 0..waiting {
-                let response = self.take(way).unwrap_or(way);
-                if response.id == request.id {
-                    return self.add(held.of.node, Kind::Received, response);
-                }
+        }
+        None
+    }
+
+    /// A server or a pending response receives a message, from the first client or server that has
+    /// one for it.
+    fn receive(&mut self, held: Held) -> Result<Told, AllocError> {
+        let kind = received_by(held.of.kind);
+        let mut seen = false;
+        for other in others(held.of.kind) {
+            let way = self.way_from(held, other);
+            if self.is_borrowed(way, kind) {
+                seen = seen || self.count_waiting(way) > 0;
+            } else if let Some(message) = self.take_on(held, way) {
+                return self.add(held.of.node, kind, message);
             }
         }
         Ok(nothing(seen))
@@ -159,9 +172,12 @@ impl Lists {
 
     /// Whether a message waits for the port on that lane.
     fn has_waiting(&self, port: u64, way: u64) -> bool {
-        self.waiting
-            .iter()
-            .any(|message| message.to == port && message.way == way)
+        for message in &self.waiting {
+            if message.to == port && message.way == way {
+                return true;
+            }
+        }
+        false
     }
 
     /// What a call answers that changes nothing.
@@ -187,8 +203,7 @@ impl Lists {
             Ask::CopyResponse(_, word) => self.copy_response(held, word),
             Ask::WriteRequest(_, word) | Ask::WriteResponse(_, word) => self.write(held, word),
             Ask::Send(_) => self.send(held),
-            Ask::Receive(_) if held.of.kind == Kind::Server => self.receive_request(held.of),
-            Ask::Receive(_) => self.receive_response(held),
+            Ask::Receive(_) => self.receive(held),
             Ask::Release(_) => self.release(held),
             Ask::SetHint(_) => {
                 self.hint(held.message);

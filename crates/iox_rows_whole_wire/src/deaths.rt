@@ -5,7 +5,7 @@ use super::play::{Ask, begin};
 use super::settings::{NO_FIRE_AND_FORGET, NO_OVERFLOW, OVERFLOW, Service};
 use crate::expected::{equal, holds};
 use iox_wire::WireRefusal;
-use std::alloc::Global;
+use std::alloc::AllocError;
 use std::process::Abort;
 use std::test::Fail;
 
@@ -34,7 +34,12 @@ fn pool(port: Owned) -> usize {
 impl Game {
     /// The death of that node, if it died.
     pub(super) fn death_of(&self, node: u64) -> Option<Death> {
-        self.deaths.iter().find(|death| death.node == node).copied()
+        for death in &self.deaths {
+            if death.node == node {
+                return Some(*death);
+            }
+        }
+        None
     }
 
     /// Whether the node whose turn it is dies now.
@@ -46,12 +51,12 @@ impl Game {
     }
 
     /// The node dies in its call.
-    pub(super) fn dies(&mut self, rt: &impl Abort, node: u64) -> Result<(), Fail> {
+    pub(super) fn dies(&mut self, rt: &impl Abort, node: u64) -> Result<(), AllocError> {
         self.counts(rt);
         let wire = &self.wire;
         let kept = [wire.kept(0), wire.kept(1), wire.kept(2), wire.kept(3)];
         let events = wire.events().len();
-        self.wire.declare_dead(node)?;
+        equal(rt, self.wire.declare_dead(node).err(), None);
         self.deaths.push(Death { node, kept, events })?;
         self.counts(rt);
         Ok(())
@@ -81,7 +86,7 @@ impl Game {
             equal(rt, Some(kept), had);
             return;
         }
-        if self.calls.iter().any(|call| call.of.node == port.node) {
+        if self.is_busy(port.node) {
             holds(rt, kept <= pool(port));
             return;
         }
@@ -99,7 +104,7 @@ impl Game {
 }
 
 /// So many turns of the game.
-fn turns(rt: &impl Abort, game: &mut Game, count: u32) -> Result<(), Fail> {
+fn turns(rt: &impl Abort, game: &mut Game, count: u32) -> Result<(), AllocError> {
     for _ in 0..count {
         game.turn(rt)?;
     }
@@ -107,7 +112,8 @@ fn turns(rt: &impl Abort, game: &mut Game, count: u32) -> Result<(), Fail> {
 }
 
 /// Two nodes die, or fewer, and what is left continues. Says how many died.
-fn goes_on(rt: &impl Abort, game: &mut Game) -> Result<usize, Fail> {
+fn goes_on(rt: &impl Abort, game: &mut Game) -> Result<usize, AllocError> {
+    game.has_ports()?;
     game.deadly = Some(200);
     turns(rt, game, 700)?;
     game.counts(rt);
@@ -121,16 +127,17 @@ fn goes_on(rt: &impl Abort, game: &mut Game) -> Result<usize, Fail> {
 }
 
 /// The same on a new wire of that service.
-fn plays(rt: &impl Abort, alloc: Global, service: Service, seed: u64) -> Result<usize, Fail> {
-    let mut game = Game::new(alloc, service, seed)?;
-    goes_on(rt, &mut game)
+fn plays(rt: &(impl Abort + AllocGlobal), service: &Service, seed: u64) -> Result<usize, Fail> {
+    let mut game = Game::new(rt.alloc(), *service, seed)?;
+    let deaths = goes_on(rt, &mut game)?;
+    Ok(deaths)
 }
 
 /// Ends the test where nodes are answered what they may not be, as others die in their calls.
-fn play_all(rt: &impl Abort, alloc: Global, service: Service) -> Result<(), Fail> {
+fn play_all(rt: &(impl Abort + AllocGlobal), service: &Service) -> Result<(), Fail> {
     let mut deaths: usize = 0;
     for seed in 1..101 {
-        deaths = deaths.saturating_add(plays(rt, alloc, service, seed)?);
+        deaths = deaths.saturating_add(plays(rt, service, seed)?);
     }
     holds(rt, deaths > 100);
     Ok(())
@@ -138,15 +145,15 @@ fn play_all(rt: &impl Abort, alloc: Global, service: Service) -> Result<(), Fail
 
 #[test]
 fn nothing_overflows(rt: HostRuntime) -> Result<(), Fail> {
-    play_all(&rt, rt.alloc(), NO_OVERFLOW)
+    play_all(&rt, &NO_OVERFLOW)
 }
 
 #[test]
 fn queues_overflow(rt: HostRuntime) -> Result<(), Fail> {
-    play_all(&rt, rt.alloc(), OVERFLOW)
+    play_all(&rt, &OVERFLOW)
 }
 
 #[test]
 fn requests_of_no_use_are_dropped(rt: HostRuntime) -> Result<(), Fail> {
-    play_all(&rt, rt.alloc(), NO_FIRE_AND_FORGET)
+    play_all(&rt, &NO_FIRE_AND_FORGET)
 }

@@ -2,9 +2,8 @@
 //! to, and which were not got back.
 use crate::expected::{equal, holds};
 use iox_wire::{Event, Way, Wire};
-use std::alloc::Global;
+use std::alloc::{AllocError, Global};
 use std::process::Abort;
-use std::test::Fail;
 
 /// A message that was delivered and not got back.
 #[derive(Clone, Copy)]
@@ -33,33 +32,82 @@ impl Delivered {
 
     /// The message of that serial on the way.
     fn place(&self, way: Way, serial: u64) -> Option<usize> {
-        self.entries
-            .iter()
-            .position(|entry| entry.way == way && entry.serial == serial)
+        for (place, entry) in self.entries.iter().enumerate() {
+            if entry.way == way && entry.serial == serial {
+                return Some(place);
+            }
+        }
+        None
+    }
+
+    /// The oldest that waits on the way.
+    fn waiting(&self, way: Way) -> Option<usize> {
+        for (place, entry) in self.entries.iter().enumerate() {
+            if entry.way == way && entry.waits {
+                return Some(place);
+            }
+        }
+        None
     }
 
     /// The oldest that waits on the way, which no longer does.
     fn leaves(&mut self, way: Way) -> Option<Entry> {
-        let place = self
-            .entries
-            .iter()
-            .position(|entry| entry.way == way && entry.waits)?;
+        let place = self.waiting(way)?;
         let entry = self.entries.get_mut(place)?;
         entry.waits = false;
         Some(*entry)
     }
 
+    /// Whether that word came to that port.
+    fn has_come(&self, receiver: u64, word: u64) -> bool {
+        for came in &self.came {
+            if came.0 == receiver && came.1 == word {
+                return true;
+            }
+        }
+        false
+    }
+
     /// The oldest message on the way is taken; its word came to that port for the first time.
-    fn takes(&mut self, rt: &impl Abort, way: Way, serial: u64) -> Result<Option<u64>, Fail> {
-        let taken = self.leaves(way);
-        equal(rt, taken.map(|entry| entry.serial), Some(serial));
-        let Some(entry) = taken else {
+    fn takes(&mut self, rt: &impl Abort, way: Way, serial: u64) -> Result<Option<u64>, AllocError> {
+        let Some(entry) = self.leaves(way) else {
+            holds(rt, false);
             return Ok(None);
         };
-        let came = (way.receiver, entry.word);
-        holds(rt, !self.came.iter().any(|other| *other == came));
-        self.came.push(came)?;
+        equal(rt, entry.serial, serial);
+        holds(rt, !self.has_come(way.receiver, entry.word));
+        self.came.push((way.receiver, entry.word))?;
         Ok(Some(entry.word))
+    }
+
+    /// A message is delivered for the first time.
+    fn delivers(
+        &mut self,
+        rt: &impl Abort,
+        way: Way,
+        serial: u64,
+        word: u64,
+    ) -> Result<(), AllocError> {
+        holds(rt, self.place(way, serial).is_none());
+        let waits = true;
+        self.entries.push(Entry {
+            way,
+            serial,
+            word,
+            waits,
+        })?;
+        Ok(())
+    }
+
+    /// A message that was taken or pushed out is got back.
+    fn comes_back(&mut self, rt: &impl Abort, way: Way, serial: u64) {
+        match self.place(way, serial) {
+            Some(place) if place < self.entries.len() => {
+                let entry = self.entries.remove(place);
+                holds(rt, !entry.waits);
+            }
+            _ => holds(rt, false),
+        }
     }
 
     /// Ends the test where that event may not come next. A message that is delivered has that word.
@@ -69,29 +117,12 @@ impl Delivered {
         rt: &impl Abort,
         event: Event,
         word: u64,
-    ) -> Result<Option<u64>, Fail> {
+    ) -> Result<Option<u64>, AllocError> {
         match event {
-            Event::Deliver { way, serial } => {
-                holds(rt, self.place(way, serial).is_none());
-                let waits = true;
-                self.entries.push(Entry {
-                    way,
-                    serial,
-                    word,
-                    waits,
-                })?;
-            }
+            Event::Deliver { way, serial } => self.delivers(rt, way, serial, word)?,
             Event::Take { way, serial } => return self.takes(rt, way, serial),
             Event::Evict { way } => holds(rt, self.leaves(way).is_some()),
-            Event::GetBack { way, serial } => {
-                let place = self.place(way, serial);
-                let waits = place
-                    .and_then(|place| self.entries.get(place))
-                    .map(|entry| entry.waits);
-                equal(rt, waits, Some(false));
-                self.entries
-                    .retain(|entry| entry.way != way || entry.serial != serial);
-            }
+            Event::GetBack { way, serial } => self.comes_back(rt, way, serial),
             _ => {}
         }
         Ok(None)
@@ -99,32 +130,45 @@ impl Delivered {
 
     /// How many are outstanding on the way.
     fn count(&self, way: Way) -> usize {
-        self.entries.iter().filter(|entry| entry.way == way).count()
+        let mut count: usize = 0;
+        for entry in &self.entries {
+            if entry.way == way {
+                count = count.saturating_add(1);
+            }
+        }
+        count
+    }
+
+    /// Ends the test where another number is outstanding between these ports.
+    fn are_between(&self, rt: &impl Abort, wire: &Wire, sender: u64, receiver: u64, lanes: u64) {
+        for lane in 0..lanes {
+            let way = Way {
+                sender,
+                receiver,
+                lane,
+            };
+            let count = wire.outstanding(sender, receiver, lane);
+            equal(rt, (way, count), (way, self.count(way)));
+        }
     }
 
     /// Ends the test where another number is outstanding at some port.
     pub(super) fn are_outstanding(&self, rt: &impl Abort, wire: &Wire, lanes: u64) {
         for sender in 0..4 {
             for receiver in 0..4 {
-                for lane in 0..lanes {
-                    let way = Way {
-                        sender,
-                        receiver,
-                        lane,
-                    };
-                    let count = wire.outstanding(sender, receiver, lane);
-                    equal(rt, (way, count), (way, self.count(way)));
-                }
+                self.are_between(rt, wire, sender, receiver, lanes);
             }
         }
     }
 
     /// Whether the word of that one stands in front of it, too: the message has several ways.
     fn is_again(&self, place: usize, word: u64) -> bool {
-        self.entries
-            .iter()
-            .take(place)
-            .any(|entry| entry.word == word)
+        for (other, entry) in self.entries.iter().enumerate() {
+            if other < place && entry.word == word {
+                return true;
+            }
+        }
+        false
     }
 
     /// How many of the port's messages are outstanding, each counted once, but that with this word.

@@ -3,22 +3,20 @@ use super::chances::{Call, Chance, Kind, Owned, PORTS, ask, bound, lent_by, rece
 use super::deaths::Death;
 use super::delivered::Delivered;
 use super::four;
-use super::play::{Ask, Came, Told, begin, steps};
+use super::play::{Ask, Came, begin, came_shown, steps};
 use super::settings::{NO_FIRE_AND_FORGET, NO_OVERFLOW, OVERFLOW, Service};
+use super::told::{Told, shown};
 use crate::expected::{equal, holds};
 use iox_wire::Wire;
-use std::alloc::Global;
+use std::alloc::{AllocError, Global};
 use std::process::Abort;
 use std::test::Fail;
-
-/// The part of a response's word that is the word of its request, but for the lowest bit.
-const OF_REQUEST: u64 = (1 << 32) - 1;
 
 /// A wire, what its nodes have, and what they do.
 #[derive(Drop)]
 pub(super) struct Game {
     pub(super) wire: Wire,
-    service: Service,
+    pub(super) service: Service,
     pub(super) chance: Chance,
     owned: Vec<Owned>,
     pub(super) calls: Vec<Call>,
@@ -31,14 +29,19 @@ pub(super) struct Game {
     pub(super) deaths: Vec<Death>,
 }
 
+/// Whether that is a response on loan.
+fn is_response(kind: Kind) -> bool {
+    matches!(kind, Kind::Response(_) | Kind::WrittenResponse(_))
+}
+
 impl Game {
-    /// A wire of that service on which nothing happened yet, and where no node dies.
+    /// A wire of that service, on which no node has its ports yet, and where no node dies.
     pub(super) fn new(alloc: Global, service: Service, seed: u64) -> Result<Game, Fail> {
         Ok(Game {
             wire: four::open(alloc, service)?,
             service,
             chance: Chance::new(seed),
-            owned: vec![in alloc; PORTS[0], PORTS[1], PORTS[2], PORTS[3]]?,
+            owned: Vec::new(alloc),
             calls: Vec::new(alloc),
             ended: 0,
             words: 0,
@@ -48,23 +51,44 @@ impl Game {
         })
     }
 
+    /// The nodes have their ports, and nothing happened yet.
+    pub(super) fn has_ports(&mut self) -> Result<(), AllocError> {
+        for port in PORTS {
+            self.owned.push(port)?;
+        }
+        Ok(())
+    }
+
     /// How many of that kind a node has.
-    fn count(&self, node: u64, kind: Kind) -> usize {
-        self.owned
-            .iter()
-            .filter(|owned| owned.node == node && owned.kind == kind)
-            .count()
+    pub(super) fn count(&self, node: u64, kind: Kind) -> usize {
+        let mut count: usize = 0;
+        for owned in &self.owned {
+            if owned.node == node && owned.kind == kind {
+                count = count.saturating_add(1);
+            }
+        }
+        count
     }
 
     /// How many responses a node has on loan.
-    fn lent(&self, node: u64) -> usize {
-        self.owned
-            .iter()
-            .filter(|owned| {
-                owned.node == node
-                    && matches!(owned.kind, Kind::Response(_) | Kind::WrittenResponse(_))
-            })
-            .count()
+    pub(super) fn lent(&self, node: u64) -> usize {
+        let mut count: usize = 0;
+        for owned in &self.owned {
+            if owned.node == node && is_response(owned.kind) {
+                count = count.saturating_add(1);
+            }
+        }
+        count
+    }
+
+    /// The word of the request that a node has pending, if it has one.
+    fn pending_word(&self, node: u64) -> u64 {
+        for owned in &self.owned {
+            if owned.node == node && owned.kind == Kind::Pending {
+                return owned.word;
+            }
+        }
+        0
     }
 
     /// How many messages the port keeps where its node is at rest: on loan, in a pending response,
@@ -72,98 +96,38 @@ impl Game {
     pub(super) fn keeps(&self, port: Owned) -> usize {
         let node = port.node;
         if port.kind != Kind::Client {
-            return self
-                .lent(node)
-                .saturating_add(self.delivered.others(port.number, 0));
+            let others = self.delivered.others(port.number, 0);
+            return self.lent(node).saturating_add(others);
         }
-        let pending = self
-            .owned
-            .iter()
-            .find(|owned| owned.node == node && owned.kind == Kind::Pending)
-            .map(|owned| owned.word)
-            .unwrap_or(0);
+        let others = self.delivered.others(port.number, self.pending_word(node));
         self.count(node, Kind::Request)
             .saturating_add(self.count(node, Kind::WrittenRequest))
             .saturating_add(self.count(node, Kind::Pending))
-            .saturating_add(self.delivered.others(port.number, pending))
+            .saturating_add(others)
     }
 
-    /// Whether the node may lend nothing more, each limit being 1, and two for all requests of a
-    /// server.
-    fn lends_no_more(&self, of: Owned) -> bool {
-        if of.kind == Kind::Client {
-            return self.count(of.node, Kind::Request) > 0
-                || self.count(of.node, Kind::WrittenRequest) > 0;
+    /// Where that port or handle of the node stands.
+    fn place(&self, node: u64, number: u64) -> Option<usize> {
+        for (place, owned) in self.owned.iter().enumerate() {
+            if owned.node == node && owned.number == number {
+                return Some(place);
+            }
         }
-        self.count(of.node, Kind::Response(of.number)) > 0
-            || self.count(of.node, Kind::WrittenResponse(of.number)) > 0
-            || self.lent(of.node) > 1
+        None
+    }
+
+    /// The node has it no longer.
+    fn forget(&mut self, of: Owned) {
+        if let Some(place) = self.place(of.node, of.number) {
+            if place < self.owned.len() {
+                self.owned.remove(place);
+            }
+        }
     }
 
     /// Whether the node has no handle of that number yet.
-    fn is_new(&self, node: u64, number: u64) -> bool {
-        !self
-            .owned
-            .iter()
-            .any(|owned| owned.node == node && owned.number == number)
-    }
-
-    /// Whether a full queue may refuse a request, or a response.
-    fn may_be_full(&self, kind: Kind) -> bool {
-        match kind {
-            Kind::Client | Kind::WrittenRequest => !self.service.request_overflow,
-            _ => !self.service.response_overflow,
-        }
-    }
-
-    /// Whether a send may be answered so.
-    fn may_send(&self, of: Owned, told: Told) -> bool {
-        let requests = matches!(of.kind, Kind::Client | Kind::WrittenRequest);
-        if requests && self.count(of.node, Kind::Pending) > 0 {
-            return told == Told::ExceedsMaxActiveRequests;
-        }
-        match told {
-            Told::UnableToDeliver => self.may_be_full(of.kind),
-            Told::Sent(count) => of.kind == Kind::WrittenRequest && count == 2,
-            Told::Handle(number) => of.kind == Kind::Client && self.is_new(of.node, number),
-            Told::Done => !requests,
-            _ => false,
-        }
-    }
-
-    /// Whether the receive may be answered so. A response came to its own request.
-    fn may_receive(&self, call: Call, told: Told) -> bool {
-        let of = call.of;
-        match (of.kind, told) {
-            (Kind::Server, Told::Handle(number)) => self.is_new(of.node, number),
-            (_, Told::Handle(number)) => {
-                self.is_new(of.node, number) && call.came & OF_REQUEST == of.word | 1
-            }
-            (_, Told::Nothing) => true,
-            (Kind::Server, Told::ExceedsMaxBorrows) => self.count(of.node, Kind::Active) > 0,
-            (_, Told::ExceedsMaxBorrows) => self.count(of.node, Kind::Received) > 0,
-            _ => false,
-        }
-    }
-
-    /// Whether the call may be answered so.
-    fn may(&self, call: Call, told: Told) -> bool {
-        let of = call.of;
-        match call.ask {
-            Ask::Loan(_) if self.lends_no_more(of) => told == Told::ExceedsMaxLoans,
-            Ask::Loan(_) => matches!(told, Told::Handle(number) if self.is_new(of.node, number)),
-            Ask::CopyRequest(_, _) | Ask::CopyResponse(_, _) if self.lends_no_more(of) => {
-                told == Told::ExceedsMaxLoans
-            }
-            Ask::CopyRequest(_, _) | Ask::CopyResponse(_, _) | Ask::Send(_) => {
-                self.may_send(of, told)
-            }
-            Ask::Receive(_) => self.may_receive(call, told),
-            Ask::Read(_) => told == Told::Word(of.word),
-            Ask::Release(_) | Ask::SetHint(_) => told == Told::Done,
-            Ask::WriteRequest(_, _) | Ask::WriteResponse(_, _) => told == Told::Done,
-            _ => matches!(told, Told::Answer(_)),
-        }
+    pub(super) fn is_new(&self, node: u64, number: u64) -> bool {
+        self.place(node, number).is_none()
     }
 
     /// What the number stands for after the call, if for anything.
@@ -212,17 +176,21 @@ impl Game {
         }
     }
 
+    /// The word of what the number stands for after the call.
+    fn kept_word(call: Call) -> u64 {
+        match call.ask {
+            Ask::WriteRequest(_, word) | Ask::WriteResponse(_, word) => word,
+            _ => call.of.word,
+        }
+    }
+
     /// The call ends with that answer.
-    fn ends(&mut self, call: Call, told: Told) -> Result<(), Fail> {
+    fn ends(&mut self, call: Call, told: Told) -> Result<(), AllocError> {
         let of = call.of;
         self.ended = self.ended.saturating_add(1);
-        self.owned
-            .retain(|owned| owned.node != of.node || owned.number != of.number);
+        self.forget(of);
         if let Some(kind) = Game::kept(call, told) {
-            let word = match call.ask {
-                Ask::WriteRequest(_, word) | Ask::WriteResponse(_, word) => word,
-                _ => of.word,
-            };
+            let word = Game::kept_word(call);
             self.owned.push(Owned { kind, word, ..of })?;
         }
         if let Told::Handle(number) = told {
@@ -237,26 +205,47 @@ impl Game {
         Ok(())
     }
 
+    /// How many ports and handles the node has.
+    fn count_all(&self, node: u64) -> usize {
+        let mut count: usize = 0;
+        for owned in &self.owned {
+            if owned.node == node {
+                count = count.saturating_add(1);
+            }
+        }
+        count
+    }
+
+    /// One of them.
+    fn nth(&self, node: u64, place: usize) -> Option<Owned> {
+        let mut left = place;
+        for owned in &self.owned {
+            if owned.node == node {
+                if left == 0 {
+                    return Some(*owned);
+                }
+                left = left.saturating_sub(1);
+            }
+        }
+        None
+    }
+
     /// Something that the node has.
     fn picks(&mut self, node: u64) -> Option<Owned> {
-        let count = self.owned.iter().filter(|owned| owned.node == node).count();
+        let count = self.count_all(node);
         let place = self.chance.below(count);
-        self.owned
-            .iter()
-            .filter(|owned| owned.node == node)
-            .nth(place)
-            .copied()
+        self.nth(node, place)
     }
 
     /// The node begins a call, which is not refused.
-    fn begins(&mut self, node: u64) -> Result<(), Fail> {
+    fn begins(&mut self, rt: &impl Abort, node: u64) -> Result<(), AllocError> {
         let Some(of) = self.picks(node) else {
             return Ok(());
         };
         let chance = self.chance.below(1 << 20) as u64;
         let asked = ask(of.kind, of.number, chance);
         let ask = self.with_word(of, asked);
-        begin(&mut self.wire, node, ask)?;
+        equal(rt, begin(&mut self.wire, node, ask).err(), None);
         self.calls.push(Call {
             of,
             ask,
@@ -268,7 +257,7 @@ impl Game {
 
     /// What the step of the call recorded behind so many events may come next. Says which word the
     /// call took last.
-    fn records(&mut self, rt: &impl Abort, call: Call, before: usize) -> Result<u64, Fail> {
+    fn records(&mut self, rt: &impl Abort, call: Call, before: usize) -> Result<u64, AllocError> {
         let Some(made) = self.wire.events().get(before).copied() else {
             return Ok(call.came);
         };
@@ -278,47 +267,74 @@ impl Game {
         Ok(taken.unwrap_or(call.came))
     }
 
+    /// That came of a step of the call. An answer is one that it may have.
+    fn comes(&mut self, rt: &impl Abort, call: Call, step: Came) -> Result<(), AllocError> {
+        match step {
+            Came::UnderWay => self.calls.push(call)?,
+            Came::Ended(_, told) => {
+                let may = self.may(call, told);
+                equal(rt, (shown(told), may), (shown(told), true));
+                self.ends(call, told)?;
+            }
+            came => equal(rt, came_shown(came), came_shown(Came::UnderWay)),
+        }
+        Ok(())
+    }
+
     /// The node steps in its call, which is over within its bound, and answered as it may be.
-    fn steps(&mut self, rt: &impl Abort, call: Call) -> Result<(), Fail> {
+    fn steps(&mut self, rt: &impl Abort, call: Call) -> Result<(), AllocError> {
         let made = call.made.saturating_add(1);
         holds(rt, made <= bound(call.of.kind, call.ask));
         let before = self.wire.events().len();
         let step = steps(&mut self.wire, call.of.node, 1);
         let came = self.records(rt, call, before)?;
-        let call = Call { made, came, ..call };
-        match step {
-            Came::UnderWay => self.calls.push(call)?,
-            Came::Ended(_, told) => {
-                let may = self.may(call, told);
-                equal(rt, (told, may), (told, true));
-                self.ends(call, told)?;
+        self.comes(rt, Call { made, came, ..call }, step)
+    }
+
+    /// Where the call of the node stands that is under way.
+    fn call_place(&self, node: u64) -> Option<usize> {
+        for (place, call) in self.calls.iter().enumerate() {
+            if call.of.node == node {
+                return Some(place);
             }
-            came => equal(rt, came, Came::UnderWay),
         }
-        Ok(())
+        None
+    }
+
+    /// Whether the node has a call under way.
+    pub(super) fn is_busy(&self, node: u64) -> bool {
+        self.call_place(node).is_some()
+    }
+
+    /// That call is taken.
+    fn take_call(&mut self, node: u64) -> Option<Call> {
+        match self.call_place(node) {
+            Some(place) if place < self.calls.len() => Some(self.calls.swap_remove(place)),
+            _ => None,
+        }
     }
 
     /// A node begins a call, or steps in the one that is under way, or dies in it.
-    pub(super) fn turn(&mut self, rt: &impl Abort) -> Result<(), Fail> {
+    pub(super) fn turn(&mut self, rt: &impl Abort) -> Result<(), AllocError> {
         let node = self.chance.below(3) as u64;
         if let Some(death) = self.death_of(node) {
             self.stays_dead(rt, death);
             return Ok(());
         }
         let is_last = self.comes_death();
-        match self.calls.iter().position(|call| call.of.node == node) {
-            Some(_) if is_last => self.dies(rt, node),
-            Some(place) => {
-                let call = self.calls.swap_remove(place);
-                self.steps(rt, call)
-            }
-            None => self.begins(node),
+        if is_last && self.is_busy(node) {
+            return self.dies(rt, node);
+        }
+        match self.take_call(node) {
+            Some(call) => self.steps(rt, call),
+            None => self.begins(rt, node),
         }
     }
 }
 
 /// Ends the test where nodes are answered what they may not be.
-fn play(rt: &impl Abort, game: &mut Game) -> Result<(), Fail> {
+fn play(rt: &impl Abort, game: &mut Game) -> Result<(), AllocError> {
+    game.has_ports()?;
     for turn in 0..20_000 {
         game.turn(rt)?;
         if turn % 64 == 0 {
@@ -331,30 +347,31 @@ fn play(rt: &impl Abort, game: &mut Game) -> Result<(), Fail> {
 }
 
 /// The same on a new wire of that service.
-fn play_by(rt: &impl Abort, alloc: Global, service: Service, chance: u64) -> Result<(), Fail> {
-    let mut game = Game::new(alloc, service, chance)?;
-    play(rt, &mut game)
+fn play_by(rt: &(impl Abort + AllocGlobal), service: &Service, chance: u64) -> Result<(), Fail> {
+    let mut game = Game::new(rt.alloc(), *service, chance)?;
+    play(rt, &mut game)?;
+    Ok(())
 }
 
 /// The same by four chances.
-fn plays(rt: &impl Abort, alloc: Global, service: Service) -> Result<(), Fail> {
+fn plays(rt: &(impl Abort + AllocGlobal), service: &Service) -> Result<(), Fail> {
     for chance in 1..5 {
-        play_by(rt, alloc, service, chance)?;
+        play_by(rt, service, chance)?;
     }
     Ok(())
 }
 
 #[test]
 fn nothing_overflows(rt: HostRuntime) -> Result<(), Fail> {
-    plays(&rt, rt.alloc(), NO_OVERFLOW)
+    plays(&rt, &NO_OVERFLOW)
 }
 
 #[test]
 fn queues_overflow(rt: HostRuntime) -> Result<(), Fail> {
-    plays(&rt, rt.alloc(), OVERFLOW)
+    plays(&rt, &OVERFLOW)
 }
 
 #[test]
 fn requests_of_no_use_are_dropped(rt: HostRuntime) -> Result<(), Fail> {
-    plays(&rt, rt.alloc(), NO_FIRE_AND_FORGET)
+    plays(&rt, &NO_FIRE_AND_FORGET)
 }

@@ -2,6 +2,8 @@
 #![tactic(auto)]
 
 #[cfg(test)]
+mod allowed;
+#[cfg(test)]
 mod answers;
 #[cfg(test)]
 mod between;
@@ -27,6 +29,8 @@ mod games;
 mod kinds_of_replies;
 #[cfg(test)]
 mod lists;
+#[cfg(test)]
+mod on;
 #[cfg(test)]
 mod play;
 #[cfg(test)]
@@ -55,6 +59,8 @@ mod stops_of_releases;
 mod stops_on_other_wires;
 #[cfg(test)]
 mod stops_on_returns;
+#[cfg(test)]
+mod told;
 #[cfg(test)]
 mod two_servers;
 #[cfg(test)]

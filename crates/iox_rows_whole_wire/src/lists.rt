@@ -1,8 +1,8 @@
 //! What calls on a wire of four ports, that come one after another, have to answer: told by a few
 //! lists.
 use super::chances::{Kind, Owned, PORTS};
-use super::play::Told;
 use super::settings::Service;
+use super::told::Told;
 use std::alloc::{AllocError, Global};
 
 pub(super) const CLIENTS: [u64; 2] = [0, 3];
@@ -75,9 +75,9 @@ pub(super) fn response_to(request: Message, word: u64) -> Message {
 }
 
 impl Lists {
-    /// Those of a wire on which nothing happened yet.
-    pub(super) fn new(alloc: Global, service: Service) -> Result<Lists, AllocError> {
-        let mut lists = Lists {
+    /// Those of a wire without lanes and ports.
+    pub(super) fn new(alloc: Global, service: Service) -> Lists {
+        Lists {
             service,
             requests: 0,
             numbers: [4; 3],
@@ -85,16 +85,26 @@ impl Lists {
             held: Vec::new(alloc),
             waiting: Vec::new(alloc),
             open: Vec::new(alloc),
-        };
+        }
+    }
+
+    /// The wire has its lanes.
+    fn add_lanes(&mut self) -> Result<(), AllocError> {
         for lane in 0..6 {
-            lists.lanes.push((0, lane))?;
-            lists.lanes.push((3, lane))?;
+            self.lanes.push((0, lane))?;
+            self.lanes.push((3, lane))?;
         }
+        Ok(())
+    }
+
+    /// It has its lanes and its ports, and nothing happened yet.
+    pub(super) fn begin(&mut self) -> Result<(), AllocError> {
+        self.add_lanes()?;
         for of in PORTS {
-            let message = lists.of_port(of.number);
-            lists.held.push(Held { of, message })?;
+            let message = self.of_port(of.number);
+            self.held.push(Held { of, message })?;
         }
-        Ok(lists)
+        Ok(())
     }
 
     /// What stands for a message at a port.
@@ -111,16 +121,27 @@ impl Lists {
 
     /// The ports and handles of a node.
     pub(super) fn of_node(&self, node: u64) -> usize {
-        self.held.iter().filter(|held| held.of.node == node).count()
+        let mut count: usize = 0;
+        for held in &self.held {
+            if held.of.node == node {
+                count = count.saturating_add(1);
+            }
+        }
+        count
     }
 
     /// One of them.
     pub(super) fn pick(&self, node: u64, place: usize) -> Option<Held> {
-        self.held
-            .iter()
-            .filter(|held| held.of.node == node)
-            .nth(place)
-            .copied()
+        let mut left = place;
+        for held in &self.held {
+            if held.of.node == node {
+                if left == 0 {
+                    return Some(*held);
+                }
+                left = left.saturating_sub(1);
+            }
+        }
+        None
     }
 
     /// The node has a handle more, and is answered its number.
@@ -145,9 +166,23 @@ impl Lists {
         Ok(Told::Handle(number))
     }
 
+    /// Where the handle stands.
+    fn place(&self, of: Owned) -> Option<usize> {
+        for (place, held) in self.held.iter().enumerate() {
+            if held.of.node == of.node && held.of.number == of.number {
+                return Some(place);
+            }
+        }
+        None
+    }
+
     /// The node has that handle no longer.
     pub(super) fn drop_handle(&mut self, of: Owned) {
-        self.held.retain(|held| held.of.node != of.node || held.of.number != of.number);
+        if let Some(place) = self.place(of) {
+            if place < self.held.len() {
+                self.held.remove(place);
+            }
+        }
     }
 
     /// It stands for something else.
@@ -203,24 +238,41 @@ impl Lists {
 
     /// How many messages wait on the way of that one.
     pub(super) fn count_waiting(&self, message: Message) -> usize {
-        self.waiting
-            .iter()
-            .filter(|waiting| on_one_way(**waiting, message))
-            .count()
+        let mut count: usize = 0;
+        for waiting in &self.waiting {
+            if on_one_way(*waiting, message) {
+                count = count.saturating_add(1);
+            }
+        }
+        count
     }
 
     /// Whether the receiver has as many messages of that way as it may.
     pub(super) fn is_borrowed(&self, message: Message, kind: Kind) -> bool {
-        self.held.iter().any(|held| held.of.kind == kind && on_one_way(held.message, message))
+        for held in &self.held {
+            if held.of.kind == kind && on_one_way(held.message, message) {
+                return true;
+            }
+        }
+        false
+    }
+
+    /// Where the oldest message on the way of that one stands.
+    fn oldest(&self, message: Message) -> Option<usize> {
+        for (place, waiting) in self.waiting.iter().enumerate() {
+            if on_one_way(*waiting, message) {
+                return Some(place);
+            }
+        }
+        None
     }
 
     /// Takes the oldest message on the way of that one.
     pub(super) fn take(&mut self, message: Message) -> Option<Message> {
-        let place = self
-            .waiting
-            .iter()
-            .position(|waiting| on_one_way(*waiting, message))?;
-        Some(self.waiting.remove(place))
+        match self.oldest(message) {
+            Some(place) if place < self.waiting.len() => Some(self.waiting.remove(place)),
+            _ => None,
+        }
     }
 
     /// Whether the way has no room for a message, and gives none up.
@@ -255,11 +307,21 @@ impl Lists {
             || !(at_all || request.to == open.to));
     }
 
+    /// Where the first free lane of a client stands.
+    fn free_lane(&self, client: u64) -> Option<usize> {
+        for (place, lane) in self.lanes.iter().enumerate() {
+            if lane.0 == client {
+                return Some(place);
+            }
+        }
+        None
+    }
+
     /// The first free lane of a client is taken.
     fn take_lane(&mut self, client: u64) -> u64 {
-        match self.lanes.iter().position(|lane| lane.0 == client) {
-            Some(place) => self.lanes.remove(place).1,
-            None => 0,
+        match self.free_lane(client) {
+            Some(place) if place < self.lanes.len() => self.lanes.remove(place).1,
+            _ => 0,
         }
     }
 
@@ -274,26 +336,33 @@ impl Lists {
         }
     }
 
-    /// A request is sent to all servers, or is given up.
-    pub(super) fn send_request(&mut self, request: Message) -> Result<Told, AllocError> {
-        let overflows = self.service.request_overflow;
+    /// Why a request is not sent, if it is not.
+    fn send_refusal(&self, request: Message) -> Option<Told> {
         if self.client_has(request.from).1 {
-            self.lanes.push((request.from, request.lane))?;
-            return Ok(Told::ExceedsMaxActiveRequests);
+            return Some(Told::ExceedsMaxActiveRequests);
         }
         for to in SERVERS {
-            if self.is_full(Message { to, ..request }, overflows) {
-                self.lanes.push((request.from, request.lane))?;
-                return Ok(Told::UnableToDeliver);
+            if self.is_full(Message { to, ..request }, self.service.request_overflow) {
+                return Some(Told::UnableToDeliver);
             }
         }
+        None
+    }
+
+    /// The request is open at a server, where it waits.
+    fn deliver_request(&mut self, request: Message) -> Result<(), AllocError> {
+        self.open.push(Message { word: 0, ..request })?;
+        self.deliver(request)
+    }
+
+    /// A request is sent to all servers, or is given up.
+    pub(super) fn send_request(&mut self, request: Message) -> Result<Told, AllocError> {
+        if let Some(refused) = self.send_refusal(request) {
+            self.lanes.push((request.from, request.lane))?;
+            return Ok(refused);
+        }
         for to in SERVERS {
-            self.open.push(Message {
-                to,
-                word: 0,
-                ..request
-            })?;
-            self.deliver(Message { to, ..request })?;
+            self.deliver_request(Message { to, ..request })?;
         }
         Ok(Told::Sent(2))
     }

@@ -3,14 +3,12 @@ ghost use Rattle.std.specs.Prelude.{◌≡◌, IfOk};
 ghost use Rattle.iox_rows_whole_wire.specs.Ones.{AreTermsOfOnes, IsPlanOfOnes, IsPortOfOnes};
 ghost use Rattle.iox_rows_whole_wire.specs.Ones.{HasOneWord, IsMessageOfOnes, limits_of_ones};
 
-use super::play::{Act, plays};
 use iox_model::kind::Role;
 use iox_types::{MessageTypeDetails, RequestHeader, ResponseHeader, TypeVariant};
 use iox_wire::Wire;
 use iox_wire_lenders::{MessageTerms, PortTerms, WireTerms};
 use iox_word_places::{PlanLimits, PlanPort, WirePlan};
 use std::alloc::Global;
-use std::process::Abort;
 use std::test::Fail;
 
 /// What such a service allows.
@@ -146,16 +144,4 @@ pub(super) fn open(alloc: Global, service: Service) -> Result<Wire, Fail> {
     let plan = plan(alloc, service)?;
     let terms = terms(alloc, service)?;
     Ok(Wire::new(alloc, plan, terms, &[0, 1])?)
-}
-
-/// Plays a table on a wire of that service.
-pub(super) fn plays_on(
-    rt: &impl Abort,
-    alloc: Global,
-    service: Service,
-    table: &[Act],
-) -> Result<(), Fail> {
-    let mut wire = open(alloc, service)?;
-    plays(rt, &mut wire, table);
-    Ok(())
 }

@@ -1,27 +1,16 @@
 //! A node stops at a place of its call, and the other one continues.
+use super::on::{On, opened};
 use super::play::{Act, Ask, Came, begin, plays, steps};
-use super::settings::{Service, open};
-use super::{four, wide};
-use crate::expected::equal;
+use crate::expected::{equal, holds};
 use iox_wire::{Wire, WireRefusal};
-use std::alloc::Global;
 use std::process::Abort;
 use std::test::Fail;
-
-/// The wire on which a node stops.
-#[derive(Clone, Copy)]
-pub(super) enum On {
-    /// Each limit is 1.
-    Ones(Service),
-    /// It has four ports.
-    Four(Service),
-    /// It has wide messages.
-    Wide,
-}
 
 /// What comes of a stop.
 #[derive(Clone, Copy)]
 pub(super) struct Stop<'a> {
+    /// What a failed test tells.
+    pub(super) name: &'a str,
     pub(super) on: On,
     /// What came before the call.
     pub(super) before: &'a [Act],
@@ -31,6 +20,9 @@ pub(super) struct Stop<'a> {
     pub(super) steps: u64,
     /// What comes after a stop behind so many steps or more. The last one that holds counts.
     pub(super) after: &'a [(u64, &'a [Act])],
+    pub(super) between: Between<'a>,
+    /// What comes in its place the second time, if there is one.
+    pub(super) counts: &'a [(u64, &'a [Act])],
 }
 
 /// What others do behind so many steps of a call.
@@ -40,10 +32,12 @@ pub(super) struct Between<'a> {
     pub(super) acts: &'a [Act],
 }
 
+pub(super) const NOTHING_BETWEEN: Between<'static> = Between { made: 0, acts: &[] };
+
 /// What comes after a stop behind so many steps.
-fn after<'a>(stop: Stop<'a>, made: u64) -> &'a [Act] {
+fn behind<'a>(after: &'a [(u64, &'a [Act])], made: u64) -> &'a [Act] {
     let mut table: &'a [Act] = &[];
-    for (from, then) in stop.after {
+    for (from, then) in after {
         if *from <= made {
             table = *then;
         }
@@ -51,78 +45,99 @@ fn after<'a>(stop: Stop<'a>, made: u64) -> &'a [Act] {
     table
 }
 
-/// The wire on which that comes.
-fn opened(alloc: Global, on: On) -> Result<Wire, Fail> {
-    match on {
-        On::Ones(service) => open(alloc, service),
-        On::Four(service) => four::open(alloc, service),
-        On::Wide => Ok(wide::open(alloc, false)??),
+/// Makes so many steps of a call.
+fn goes(rt: &impl Abort, wire: &mut Wire, stop: &Stop<'_>, count: u64) {
+    let came = steps(wire, stop.node, count);
+    equal(
+        rt,
+        (stop.name, matches!(came, Came::UnderWay)),
+        (stop.name, true),
+    );
+}
+
+/// Makes so many steps, with what comes between, and says how many are left to make.
+fn goes_up_to(rt: &impl Abort, wire: &mut Wire, stop: &Stop<'_>, made: u64) -> u64 {
+    if made < stop.between.made {
+        return made;
     }
+    goes(rt, wire, stop, stop.between.made);
+    plays(rt, wire, stop.name, stop.between.acts);
+    made.saturating_sub(stop.between.made)
 }
 
 /// Makes so many steps, with what comes between. Then the call is under way, or over behind its
 /// last one.
-fn goes(rt: &impl Abort, wire: &mut Wire, stop: Stop<'_>, made: u64, between: Between<'_>) {
-    let mut left = made;
-    if between.made <= made {
-        equal(rt, steps(wire, stop.node, between.made), Came::UnderWay);
-        plays(rt, wire, between.acts);
-        left = made.saturating_sub(between.made);
-    }
+fn makes(rt: &impl Abort, wire: &mut Wire, stop: &Stop<'_>, made: u64) {
+    let left = goes_up_to(rt, wire, stop, made);
     let came = steps(wire, stop.node, left);
     equal(
         rt,
-        (made, came == Came::UnderWay),
-        (made, made < stop.steps),
+        (stop.name, made, matches!(came, Came::UnderWay)),
+        (stop.name, made, made < stop.steps),
     );
+}
+
+/// The node begins its call.
+fn begins(rt: &impl Abort, wire: &mut Wire, stop: &Stop<'_>) {
+    equal(
+        rt,
+        (stop.name, begin(wire, stop.node, stop.ask).err()),
+        (stop.name, None),
+    );
+}
+
+/// The node dies, and makes no step then.
+fn dies(rt: &impl Abort, wire: &mut Wire, node: u64) {
+    holds(rt, wire.declare_dead(node).is_ok());
+    equal(rt, wire.step(node).err(), Some(WireRefusal::NodeIsDead));
 }
 
 /// The node stops behind so many steps of its call, while others do something behind one of them.
 fn stops_behind(
     rt: &impl Abort,
     wire: &mut Wire,
-    stop: Stop<'_>,
+    stop: &Stop<'_>,
     made: u64,
-    between: Between<'_>,
-) -> Result<(), Fail> {
-    plays(rt, wire, stop.before);
-    begin(wire, stop.node, stop.ask)?;
-    goes(rt, wire, stop, made, between);
-    wire.declare_dead(stop.node)?;
-    let dead = Some(WireRefusal::NodeIsDead);
-    equal(rt, wire.step(stop.node).err(), dead);
-    plays(rt, wire, after(stop, made));
-    Ok(())
+    after: &[(u64, &[Act])],
+) {
+    plays(rt, wire, stop.name, stop.before);
+    begins(rt, wire, stop);
+    makes(rt, wire, stop, made);
+    dies(rt, wire, stop.node);
+    plays(rt, wire, stop.name, behind(after, made));
 }
 
 /// The same on a new wire.
 fn stops_on_a_wire(
-    rt: &impl Abort,
-    alloc: Global,
-    stop: Stop<'_>,
+    rt: &(impl Abort + AllocGlobal),
+    stop: &Stop<'_>,
     made: u64,
-    between: Between<'_>,
+    after: &[(u64, &[Act])],
 ) -> Result<(), Fail> {
-    let mut wire = opened(alloc, stop.on)?;
-    stops_behind(rt, &mut wire, stop, made, between)
+    let mut wire = opened(rt.alloc(), stop.on)?;
+    stops_behind(rt, &mut wire, stop, made, after);
+    Ok(())
 }
 
-/// Ends the test where something else comes of a stop behind some number of steps, while others do
-/// something behind one of them.
-pub(super) fn stops_around(
-    rt: &impl Abort,
-    alloc: Global,
-    stop: Stop<'_>,
-    between: Between<'_>,
+/// The same behind each number of steps.
+fn stops(
+    rt: &(impl Abort + AllocGlobal),
+    stop: &Stop<'_>,
+    after: &[(u64, &[Act])],
 ) -> Result<(), Fail> {
     for made in 0..stop.steps.saturating_add(1) {
-        stops_on_a_wire(rt, alloc, stop, made, between)?;
+        stops_on_a_wire(rt, stop, made, after)?;
     }
     Ok(())
 }
 
-/// The same where nothing comes between.
-pub(super) fn stops(rt: &impl Abort, alloc: Global, stop: Stop<'_>) -> Result<(), Fail> {
-    let acts: &[Act] = &[];
-    stops_around(rt, alloc, stop, Between { made: 0, acts })
+/// Ends the test where something else comes of one of these stops behind some number of steps.
+pub(super) fn stop_all(rt: &(impl Abort + AllocGlobal), list: &[Stop<'_>]) -> Result<(), Fail> {
+    for stop in list {
+        stops(rt, stop, stop.after)?;
+        if !stop.counts.is_empty() {
+            stops(rt, stop, stop.counts)?;
+        }
+    }
+    Ok(())
 }

@@ -1,7 +1,9 @@
 //! A node stops among the words of a message that it writes, copies or reads, and the other one
 //! continues.
-use super::play::{Act, Ask, Told};
-use super::stops::{On, Stop, stops};
+use super::on::On;
+use super::play::{Act, Ask};
+use super::stops::{NOTHING_BETWEEN, Stop, stop_all};
+use super::told::Told;
 use iox_model::kind::Role;
 use std::test::Fail;
 
@@ -67,144 +69,151 @@ const NO_RESPONSE: [Act; 5] = [
     ),
 ];
 
-#[test]
-fn client_writes_over_its_words(rt: HostRuntime) -> Result<(), Fail> {
-    let stop = Stop {
-        on: On::Wide,
-        before: &LENT,
-        node: 0,
-        ask: Ask::WriteTwo(2, Role::Client, [6, 7]),
-        steps: 2,
-        after: &[(0, &NO_REQUEST)],
-    };
-    stops(&rt, rt.alloc(), stop)
-}
+const CLIENT_WRITES_OVER_ITS_WORDS: Stop<'static> = Stop {
+    name: "client_writes_over_its_words",
+    on: On::Wide,
+    before: &LENT,
+    node: 0,
+    ask: Ask::WriteTwo(2, Role::Client, [6, 7]),
+    steps: 2,
+    after: &[(0, &NO_REQUEST)],
+    between: NOTHING_BETWEEN,
+    counts: &[],
+};
 
-#[test]
-fn client_reads_its_loan(rt: HostRuntime) -> Result<(), Fail> {
-    let stop = Stop {
-        on: On::Wide,
-        before: &LENT,
-        node: 0,
-        ask: Ask::Read(2),
-        steps: 3,
-        after: &[(0, &NO_REQUEST)],
-    };
-    stops(&rt, rt.alloc(), stop)
-}
+const CLIENT_READS_ITS_LOAN: Stop<'static> = Stop {
+    name: "client_reads_its_loan",
+    on: On::Wide,
+    before: &LENT,
+    node: 0,
+    ask: Ask::Read(2),
+    steps: 3,
+    after: &[(0, &NO_REQUEST)],
+    between: NOTHING_BETWEEN,
+    counts: &[],
+};
 
-#[test]
-fn client_copies_words(rt: HostRuntime) -> Result<(), Fail> {
-    let stop = Stop {
-        on: On::Wide,
-        before: &[],
-        node: 0,
-        ask: Ask::CopyTwo(0, Role::Client, [6, 7]),
-        steps: 21,
-        after: &[
-            (
-                0,
-                &[
-                    Act::Keeps(0, 0),
-                    Act::Whole(1, Ask::Receive(1), 2, Told::Nothing),
-                ],
-            ),
-            (2, &NO_REQUEST),
-            (
-                21,
-                &[
-                    Act::Keeps(0, 1),
-                    Act::Whole(1, Ask::Receive(1), 11, Told::Handle(2)),
-                    Act::Whole(1, Ask::Read(2), 3, Told::Three(5, 6, 7)),
-                    Act::Whole(1, Ask::Release(2), 6, Told::Done),
-                ],
-            ),
-        ],
-    };
-    stops(&rt, rt.alloc(), stop)
-}
-
-#[test]
-fn server_reads_its_request(rt: HostRuntime) -> Result<(), Fail> {
-    let stop = Stop {
-        on: On::Wide,
-        before: &RECEIVED,
-        node: 1,
-        ask: Ask::Read(2),
-        steps: 3,
-        after: &[(
+const CLIENT_COPIES_WORDS: Stop<'static> = Stop {
+    name: "client_copies_words",
+    on: On::Wide,
+    before: &[],
+    node: 0,
+    ask: Ask::CopyTwo(0, Role::Client, [6, 7]),
+    steps: 21,
+    after: &[
+        (
             0,
             &[
-                Act::Lacks(0, 1, 0, 1),
+                Act::Keeps(0, 0),
+                Act::Whole(1, Ask::Receive(1), 2, Told::Nothing),
+            ],
+        ),
+        (2, &NO_REQUEST),
+        (
+            21,
+            &[
+                Act::Keeps(0, 1),
+                Act::Whole(1, Ask::Receive(1), 11, Told::Handle(2)),
+                Act::Whole(1, Ask::Read(2), 3, Told::Three(5, 6, 7)),
+                Act::Whole(1, Ask::Release(2), 6, Told::Done),
+            ],
+        ),
+    ],
+    between: NOTHING_BETWEEN,
+    counts: &[],
+};
+
+const SERVER_READS_ITS_REQUEST: Stop<'static> = Stop {
+    name: "server_reads_its_request",
+    on: On::Wide,
+    before: &RECEIVED,
+    node: 1,
+    ask: Ask::Read(2),
+    steps: 3,
+    after: &[(
+        0,
+        &[
+            Act::Lacks(0, 1, 0, 1),
+            Act::Keeps(1, 0),
+            Act::Whole(0, Ask::Receive(2), 2, Told::Nothing),
+            Act::Whole(0, Ask::Release(2), 1, Told::Done),
+            // what the dead one reads stays as it is
+            Act::Whole(
+                0,
+                Ask::CopyTwo(0, Role::Client, [1, 2]),
+                21,
+                Told::Handle(3),
+            ),
+            Act::Whole(0, Ask::Loan(0), 2, Told::OutOfMemory),
+        ],
+    )],
+    between: NOTHING_BETWEEN,
+    counts: &[],
+};
+
+const SERVER_WRITES_OVER_ITS_WORDS: Stop<'static> = Stop {
+    name: "server_writes_over_its_words",
+    on: On::Wide,
+    before: &RESPONSE_IS_LENT,
+    node: 1,
+    ask: Ask::WriteTwo(3, Role::Server, [6, 7]),
+    steps: 2,
+    after: &[(0, &NO_RESPONSE)],
+    between: NOTHING_BETWEEN,
+    counts: &[],
+};
+
+const SERVER_COPIES_WORDS: Stop<'static> = Stop {
+    name: "server_copies_words",
+    on: On::Wide,
+    before: &RECEIVED,
+    node: 1,
+    ask: Ask::CopyTwo(2, Role::Server, [6, 7]),
+    steps: 23,
+    after: &[
+        (
+            0,
+            &[
                 Act::Keeps(1, 0),
                 Act::Whole(0, Ask::Receive(2), 2, Told::Nothing),
-                Act::Whole(0, Ask::Release(2), 1, Told::Done),
-                // what the dead one reads stays as it is
-                Act::Whole(
-                    0,
-                    Ask::CopyTwo(0, Role::Client, [1, 2]),
-                    21,
-                    Told::Handle(3),
-                ),
-                Act::Whole(0, Ask::Loan(0), 2, Told::OutOfMemory),
             ],
-        )],
-    };
-    stops(&rt, rt.alloc(), stop)
-}
+        ),
+        (4, &NO_RESPONSE),
+        (
+            23,
+            &[
+                Act::Keeps(1, 1),
+                Act::Whole(0, Ask::Receive(2), 10, Told::Handle(3)),
+                Act::Whole(0, Ask::Read(3), 4, Told::Four(6, 7, 6, 7)),
+            ],
+        ),
+    ],
+    between: NOTHING_BETWEEN,
+    counts: &[],
+};
+
+const CLIENT_READS_ITS_RESPONSE: Stop<'static> = Stop {
+    name: "client_reads_its_response",
+    on: On::Wide,
+    before: &ANSWERED,
+    node: 0,
+    ask: Ask::Read(3),
+    steps: 4,
+    after: &[(0, &SERVER_GOES_ON)],
+    between: NOTHING_BETWEEN,
+    counts: &[],
+};
 
 #[test]
-fn server_writes_over_its_words(rt: HostRuntime) -> Result<(), Fail> {
-    let stop = Stop {
-        on: On::Wide,
-        before: &RESPONSE_IS_LENT,
-        node: 1,
-        ask: Ask::WriteTwo(3, Role::Server, [6, 7]),
-        steps: 2,
-        after: &[(0, &NO_RESPONSE)],
-    };
-    stops(&rt, rt.alloc(), stop)
-}
-
-#[test]
-fn server_copies_words(rt: HostRuntime) -> Result<(), Fail> {
-    let stop = Stop {
-        on: On::Wide,
-        before: &RECEIVED,
-        node: 1,
-        ask: Ask::CopyTwo(2, Role::Server, [6, 7]),
-        steps: 23,
-        after: &[
-            (
-                0,
-                &[
-                    Act::Keeps(1, 0),
-                    Act::Whole(0, Ask::Receive(2), 2, Told::Nothing),
-                ],
-            ),
-            (4, &NO_RESPONSE),
-            (
-                23,
-                &[
-                    Act::Keeps(1, 1),
-                    Act::Whole(0, Ask::Receive(2), 10, Told::Handle(3)),
-                    Act::Whole(0, Ask::Read(3), 4, Told::Four(6, 7, 6, 7)),
-                ],
-            ),
-        ],
-    };
-    stops(&rt, rt.alloc(), stop)
-}
-
-#[test]
-fn client_reads_its_response(rt: HostRuntime) -> Result<(), Fail> {
-    let stop = Stop {
-        on: On::Wide,
-        before: &ANSWERED,
-        node: 0,
-        ask: Ask::Read(3),
-        steps: 4,
-        after: &[(0, &SERVER_GOES_ON)],
-    };
-    stops(&rt, rt.alloc(), stop)
+fn node_stops_among_words(rt: HostRuntime) -> Result<(), Fail> {
+    const STOPS: &[Stop<'static>] = &[
+        CLIENT_WRITES_OVER_ITS_WORDS,
+        CLIENT_READS_ITS_LOAN,
+        CLIENT_COPIES_WORDS,
+        SERVER_READS_ITS_REQUEST,
+        SERVER_WRITES_OVER_ITS_WORDS,
+        SERVER_COPIES_WORDS,
+        CLIENT_READS_ITS_RESPONSE,
+    ];
+    stop_all(&rt, STOPS)
 }

@@ -1,9 +1,9 @@
 //! A node stops in a call that is refused, and the other one continues.
-use super::play::{Act, Ask, Told, plays};
-use super::settings::{NO_OVERFLOW, open};
-use super::stops::{On, Stop, stops};
-use std::alloc::Global;
-use std::process::Abort;
+use super::on::{ONES, On, Play, plays_all};
+use super::play::{Act, Ask};
+use super::settings::NO_OVERFLOW;
+use super::stops::{NOTHING_BETWEEN, Stop, stop_all};
+use super::told::Told;
 use std::test::Fail;
 
 /// The server receives what was sent before, and nothing else.
@@ -40,90 +40,164 @@ const NONE_CAME: [Act; 5] = [
     Act::Whole(0, Ask::CopyRequest(0, 6), 19, Told::Handle(3)),
 ];
 
-/// Plays the one table on a wire, and then the other.
-fn plays_behind(rt: &impl Abort, alloc: Global, before: &[Act], table: &[Act]) -> Result<(), Fail> {
-    let mut wire = open(alloc, NO_OVERFLOW)?;
-    plays(rt, &mut wire, before);
-    plays(rt, &mut wire, table);
-    Ok(())
-}
+/// A call of the client's is refused with its only step.
+const CLIENT_IS_REFUSED: Play<'static> = Play {
+    name: "client_is_refused",
+    on: ONES,
+    before: &LIMITED,
+    table: &[],
+};
 
-/// Ends the test where a call of the client's is not refused so with its only step, behind which it
-/// keeps so many messages, or where something else comes of a stop.
-fn refuses(rt: &impl Abort, alloc: Global, ask: Ask, told: Told, kept: usize) -> Result<(), Fail> {
-    let refused = [Act::Whole(0, ask, 1, told), Act::Keeps(0, kept)];
-    plays_behind(rt, alloc, &LIMITED, &refused)?;
-    let stop = Stop {
-        on: On::Ones(NO_OVERFLOW),
-        before: &LIMITED,
-        node: 0,
-        ask,
-        steps: 1,
-        after: &[(0, &ONE_CAME)],
-    };
-    stops(rt, alloc, stop)?;
-    let (before, behind) = ([Act::Keeps(0, 2)], [Act::Keeps(0, kept)]);
-    let counts = Stop {
-        after: &[(0, &before), (1, &behind)],
-        ..stop
-    };
-    stops(rt, alloc, counts)
-}
-
-/// The same of a call of the server's, which keeps its loan.
-fn server_is_refused(rt: &impl Abort, alloc: Global, ask: Ask, told: Told) -> Result<(), Fail> {
-    let refused = [Act::Whole(1, ask, 1, told), Act::Keeps(1, 1)];
-    plays_behind(rt, alloc, &SERVER_IS_LIMITED, &refused)?;
-    let stop = Stop {
-        on: On::Ones(NO_OVERFLOW),
-        before: &SERVER_IS_LIMITED,
-        node: 1,
-        ask,
-        steps: 1,
-        after: &[(0, &NONE_CAME)],
-    };
-    stops(rt, alloc, stop)
-}
-
-/// The same of each of these.
-fn all_refuse(rt: &impl Abort, alloc: Global, calls: &[(Ask, Told, usize)]) -> Result<(), Fail> {
-    for (ask, told, kept) in calls {
-        refuses(rt, alloc, *ask, *told, *kept)?;
-    }
-    Ok(())
-}
+/// A stop in it.
+const CLIENT_STOPS: Stop<'static> = Stop {
+    name: "client_stops",
+    on: On::Ones(NO_OVERFLOW),
+    before: &LIMITED,
+    node: 0,
+    ask: Ask::Loan(0),
+    steps: 1,
+    after: &[(0, &ONE_CAME)],
+    between: NOTHING_BETWEEN,
+    counts: &[(0, &[Act::Keeps(0, 2)])],
+};
 
 #[test]
 fn client_is_refused_in_one_step(rt: HostRuntime) -> Result<(), Fail> {
-    const CALLS: &[(Ask, Told, usize)] = &[
-        (Ask::Loan(0), Told::ExceedsMaxLoans, 2),
-        (Ask::LoanOf(0, 2), Told::ExceedsMaxLoanSize, 2),
-        (Ask::CopyRequest(0, 8), Told::ExceedsMaxLoans, 2),
-        (Ask::WriteNoRequest(3), Told::WrongLength, 2),
-        (Ask::Send(3), Told::ExceedsMaxActiveRequests, 1),
+    const PLAYS: &[Play<'static>] = &[
+        Play {
+            table: &[
+                Act::Whole(0, Ask::Loan(0), 1, Told::ExceedsMaxLoans),
+                Act::Keeps(0, 2),
+            ],
+            ..CLIENT_IS_REFUSED
+        },
+        Play {
+            table: &[
+                Act::Whole(0, Ask::LoanOf(0, 2), 1, Told::ExceedsMaxLoanSize),
+                Act::Keeps(0, 2),
+            ],
+            ..CLIENT_IS_REFUSED
+        },
+        Play {
+            table: &[
+                Act::Whole(0, Ask::CopyRequest(0, 8), 1, Told::ExceedsMaxLoans),
+                Act::Keeps(0, 2),
+            ],
+            ..CLIENT_IS_REFUSED
+        },
+        Play {
+            table: &[
+                Act::Whole(0, Ask::WriteNoRequest(3), 1, Told::WrongLength),
+                Act::Keeps(0, 2),
+            ],
+            ..CLIENT_IS_REFUSED
+        },
+        Play {
+            table: &[
+                Act::Whole(0, Ask::Send(3), 1, Told::ExceedsMaxActiveRequests),
+                Act::Keeps(0, 1),
+            ],
+            ..CLIENT_IS_REFUSED
+        },
     ];
-    all_refuse(&rt, rt.alloc(), CALLS)
+    const STOPS: &[Stop<'static>] = &[
+        Stop {
+            ask: Ask::Loan(0),
+            ..CLIENT_STOPS
+        },
+        Stop {
+            ask: Ask::LoanOf(0, 2),
+            ..CLIENT_STOPS
+        },
+        Stop {
+            ask: Ask::CopyRequest(0, 8),
+            ..CLIENT_STOPS
+        },
+        Stop {
+            ask: Ask::WriteNoRequest(3),
+            ..CLIENT_STOPS
+        },
+        Stop {
+            ask: Ask::Send(3),
+            counts: &[(0, &[Act::Keeps(0, 2)]), (1, &[Act::Keeps(0, 1)])],
+            ..CLIENT_STOPS
+        },
+    ];
+    plays_all(&rt, PLAYS)?;
+    stop_all(&rt, STOPS)
 }
 
-/// And of each of these.
-fn server_is_always_refused(
-    rt: &impl Abort,
-    alloc: Global,
-    calls: &[(Ask, Told)],
-) -> Result<(), Fail> {
-    for (ask, told) in calls {
-        server_is_refused(rt, alloc, *ask, *told)?;
-    }
-    Ok(())
-}
+/// A call of the server's is refused with its only step.
+const SERVER_IS_REFUSED: Play<'static> = Play {
+    name: "server_is_refused",
+    on: ONES,
+    before: &SERVER_IS_LIMITED,
+    table: &[],
+};
+
+/// A stop in it.
+const SERVER_STOPS: Stop<'static> = Stop {
+    name: "server_stops",
+    on: On::Ones(NO_OVERFLOW),
+    before: &SERVER_IS_LIMITED,
+    node: 1,
+    ask: Ask::Loan(2),
+    steps: 1,
+    after: &[(0, &NONE_CAME)],
+    between: NOTHING_BETWEEN,
+    counts: &[],
+};
 
 #[test]
 fn server_is_refused_in_one_step(rt: HostRuntime) -> Result<(), Fail> {
-    const CALLS: &[(Ask, Told)] = &[
-        (Ask::Loan(2), Told::ExceedsMaxLoans),
-        (Ask::LoanOf(2, 2), Told::ExceedsMaxLoanSize),
-        (Ask::CopyResponse(2, 8), Told::ExceedsMaxLoans),
-        (Ask::WriteNoResponse(3), Told::WrongLength),
+    const PLAYS: &[Play<'static>] = &[
+        Play {
+            table: &[
+                Act::Whole(1, Ask::Loan(2), 1, Told::ExceedsMaxLoans),
+                Act::Keeps(1, 1),
+            ],
+            ..SERVER_IS_REFUSED
+        },
+        Play {
+            table: &[
+                Act::Whole(1, Ask::LoanOf(2, 2), 1, Told::ExceedsMaxLoanSize),
+                Act::Keeps(1, 1),
+            ],
+            ..SERVER_IS_REFUSED
+        },
+        Play {
+            table: &[
+                Act::Whole(1, Ask::CopyResponse(2, 8), 1, Told::ExceedsMaxLoans),
+                Act::Keeps(1, 1),
+            ],
+            ..SERVER_IS_REFUSED
+        },
+        Play {
+            table: &[
+                Act::Whole(1, Ask::WriteNoResponse(3), 1, Told::WrongLength),
+                Act::Keeps(1, 1),
+            ],
+            ..SERVER_IS_REFUSED
+        },
     ];
-    server_is_always_refused(&rt, rt.alloc(), CALLS)
+    const STOPS: &[Stop<'static>] = &[
+        Stop {
+            ask: Ask::Loan(2),
+            ..SERVER_STOPS
+        },
+        Stop {
+            ask: Ask::LoanOf(2, 2),
+            ..SERVER_STOPS
+        },
+        Stop {
+            ask: Ask::CopyResponse(2, 8),
+            ..SERVER_STOPS
+        },
+        Stop {
+            ask: Ask::WriteNoResponse(3),
+            ..SERVER_STOPS
+        },
+    ];
+    plays_all(&rt, PLAYS)?;
+    stop_all(&rt, STOPS)
 }

@@ -1,8 +1,10 @@
 //! A node stops in a send or a copy that is refused: its peer is full, it has as many as it may, or
 //! nobody waits for its response. The other one continues.
-use super::play::{Act, Ask, Told};
+use super::on::On;
+use super::play::{Act, Ask};
 use super::settings::NO_OVERFLOW;
-use super::stops::{On, Stop, stops};
+use super::stops::{NOTHING_BETWEEN, Stop, stop_all};
+use super::told::Told;
 use std::test::Fail;
 
 /// A request fills the queue of the server, and is given up.
@@ -113,162 +115,129 @@ const BOTH_HAVE_THE_FIRST: [Act; 6] = [
     Act::Whole(2, Ask::Receive(2), 4, Told::Nothing),
 ];
 
-#[test]
-fn client_sends_to_a_full_server(rt: HostRuntime) -> Result<(), Fail> {
-    let stop = Stop {
-        on: On::Ones(NO_OVERFLOW),
-        before: &SERVER_IS_FULL_FOR_A_LOAN,
-        node: 0,
-        ask: Ask::Send(3),
-        steps: 4,
-        after: &[(0, &FIRST_CAME)],
-    };
-    stops(&rt, rt.alloc(), stop)?;
-    let counts = Stop {
-        after: &[(0, &[Act::Keeps(0, 2)]), (4, &[Act::Keeps(0, 1)])],
-        ..stop
-    };
-    stops(&rt, rt.alloc(), counts)
-}
+const CLIENT_SENDS_TO_A_FULL_SERVER: Stop<'static> = Stop {
+    name: "client_sends_to_a_full_server",
+    on: On::Ones(NO_OVERFLOW),
+    before: &SERVER_IS_FULL_FOR_A_LOAN,
+    node: 0,
+    ask: Ask::Send(3),
+    steps: 4,
+    after: &[(0, &FIRST_CAME)],
+    between: NOTHING_BETWEEN,
+    counts: &[(0, &[Act::Keeps(0, 2)]), (4, &[Act::Keeps(0, 1)])],
+};
+
+const CLIENT_COPIES_TO_A_FULL_SERVER: Stop<'static> = Stop {
+    name: "client_copies_to_a_full_server",
+    on: On::Ones(NO_OVERFLOW),
+    before: &SERVER_IS_FULL,
+    node: 0,
+    ask: Ask::CopyRequest(0, 5),
+    steps: 14,
+    after: &[(0, &FIRST_CAME)],
+    between: NOTHING_BETWEEN,
+    counts: &[
+        (0, &[Act::Keeps(0, 1)]),
+        (2, &[Act::Keeps(0, 2)]),
+        (14, &[Act::Keeps(0, 1)]),
+    ],
+};
+
+const CLIENT_COPIES_PAST_ITS_LIMIT: Stop<'static> = Stop {
+    name: "client_copies_past_its_limit",
+    on: On::Ones(NO_OVERFLOW),
+    before: &PENDING,
+    node: 0,
+    ask: Ask::CopyRequest(0, 5),
+    steps: 10,
+    after: &[(0, &PENDING_CAME)],
+    between: NOTHING_BETWEEN,
+    counts: &[
+        (0, &[Act::Keeps(0, 1)]),
+        (2, &[Act::Keeps(0, 2)]),
+        (10, &[Act::Keeps(0, 1)]),
+    ],
+};
+
+const SERVER_SENDS_TO_A_FULL_CLIENT: Stop<'static> = Stop {
+    name: "server_sends_to_a_full_client",
+    on: On::Ones(NO_OVERFLOW),
+    before: &CLIENT_IS_FULL_FOR_A_LOAN,
+    node: 1,
+    ask: Ask::Send(3),
+    steps: 5,
+    after: &[(0, &RESPONSE_CAME)],
+    between: NOTHING_BETWEEN,
+    counts: &[(0, &[Act::Keeps(1, 2)]), (5, &[Act::Keeps(1, 1)])],
+};
+
+const SERVER_COPIES_TO_A_FULL_CLIENT: Stop<'static> = Stop {
+    name: "server_copies_to_a_full_client",
+    on: On::Ones(NO_OVERFLOW),
+    before: &CLIENT_IS_FULL,
+    node: 1,
+    ask: Ask::CopyResponse(2, 10),
+    steps: 20,
+    after: &[(0, &RESPONSE_CAME)],
+    between: NOTHING_BETWEEN,
+    counts: &[
+        (0, &[Act::Keeps(1, 1)]),
+        (8, &[Act::Keeps(1, 2)]),
+        (20, &[Act::Keeps(1, 1)]),
+    ],
+};
+
+const SERVER_SENDS_WHERE_NOBODY_WAITS: Stop<'static> = Stop {
+    name: "server_sends_where_nobody_waits",
+    on: On::Ones(NO_OVERFLOW),
+    before: &NOBODY_WAITS_FOR_A_LOAN,
+    node: 1,
+    ask: Ask::Send(3),
+    steps: 1,
+    after: &[(0, &NONE_CAME)],
+    between: NOTHING_BETWEEN,
+    counts: &[(0, &[Act::Keeps(1, 1)]), (1, &[Act::Keeps(1, 0)])],
+};
+
+const SERVER_COPIES_WHERE_NOBODY_WAITS: Stop<'static> = Stop {
+    name: "server_copies_where_nobody_waits",
+    on: On::Ones(NO_OVERFLOW),
+    before: &NOBODY_WAITS,
+    node: 1,
+    ask: Ask::CopyResponse(2, 10),
+    steps: 16,
+    after: &[(0, &NONE_CAME)],
+    between: NOTHING_BETWEEN,
+    counts: &[
+        (0, &[Act::Keeps(1, 0)]),
+        (8, &[Act::Keeps(1, 1)]),
+        (16, &[Act::Keeps(1, 0)]),
+    ],
+};
+
+const CLIENT_SENDS_WHERE_THE_SECOND_SERVER_IS_FULL: Stop<'static> = Stop {
+    name: "client_sends_where_the_second_server_is_full",
+    on: On::Four(NO_OVERFLOW),
+    before: &SECOND_IS_FULL,
+    node: 0,
+    ask: Ask::Send(5),
+    steps: 8,
+    after: &[(0, &BOTH_HAVE_THE_FIRST)],
+    between: NOTHING_BETWEEN,
+    counts: &[(0, &[Act::Keeps(0, 2)]), (8, &[Act::Keeps(0, 1)])],
+};
 
 #[test]
-fn client_copies_to_a_full_server(rt: HostRuntime) -> Result<(), Fail> {
-    let stop = Stop {
-        on: On::Ones(NO_OVERFLOW),
-        before: &SERVER_IS_FULL,
-        node: 0,
-        ask: Ask::CopyRequest(0, 5),
-        steps: 14,
-        after: &[(0, &FIRST_CAME)],
-    };
-    stops(&rt, rt.alloc(), stop)?;
-    let counts = Stop {
-        after: &[
-            (0, &[Act::Keeps(0, 1)]),
-            (2, &[Act::Keeps(0, 2)]),
-            (14, &[Act::Keeps(0, 1)]),
-        ],
-        ..stop
-    };
-    stops(&rt, rt.alloc(), counts)
-}
-
-#[test]
-fn client_copies_past_its_limit(rt: HostRuntime) -> Result<(), Fail> {
-    let stop = Stop {
-        on: On::Ones(NO_OVERFLOW),
-        before: &PENDING,
-        node: 0,
-        ask: Ask::CopyRequest(0, 5),
-        steps: 10,
-        after: &[(0, &PENDING_CAME)],
-    };
-    stops(&rt, rt.alloc(), stop)?;
-    let counts = Stop {
-        after: &[
-            (0, &[Act::Keeps(0, 1)]),
-            (2, &[Act::Keeps(0, 2)]),
-            (10, &[Act::Keeps(0, 1)]),
-        ],
-        ..stop
-    };
-    stops(&rt, rt.alloc(), counts)
-}
-
-#[test]
-fn server_sends_to_a_full_client(rt: HostRuntime) -> Result<(), Fail> {
-    let stop = Stop {
-        on: On::Ones(NO_OVERFLOW),
-        before: &CLIENT_IS_FULL_FOR_A_LOAN,
-        node: 1,
-        ask: Ask::Send(3),
-        steps: 5,
-        after: &[(0, &RESPONSE_CAME)],
-    };
-    stops(&rt, rt.alloc(), stop)?;
-    let counts = Stop {
-        after: &[(0, &[Act::Keeps(1, 2)]), (5, &[Act::Keeps(1, 1)])],
-        ..stop
-    };
-    stops(&rt, rt.alloc(), counts)
-}
-
-#[test]
-fn server_copies_to_a_full_client(rt: HostRuntime) -> Result<(), Fail> {
-    let stop = Stop {
-        on: On::Ones(NO_OVERFLOW),
-        before: &CLIENT_IS_FULL,
-        node: 1,
-        ask: Ask::CopyResponse(2, 10),
-        steps: 20,
-        after: &[(0, &RESPONSE_CAME)],
-    };
-    stops(&rt, rt.alloc(), stop)?;
-    let counts = Stop {
-        after: &[
-            (0, &[Act::Keeps(1, 1)]),
-            (8, &[Act::Keeps(1, 2)]),
-            (20, &[Act::Keeps(1, 1)]),
-        ],
-        ..stop
-    };
-    stops(&rt, rt.alloc(), counts)
-}
-
-#[test]
-fn server_sends_where_nobody_waits(rt: HostRuntime) -> Result<(), Fail> {
-    let stop = Stop {
-        on: On::Ones(NO_OVERFLOW),
-        before: &NOBODY_WAITS_FOR_A_LOAN,
-        node: 1,
-        ask: Ask::Send(3),
-        steps: 1,
-        after: &[(0, &NONE_CAME)],
-    };
-    stops(&rt, rt.alloc(), stop)?;
-    let counts = Stop {
-        after: &[(0, &[Act::Keeps(1, 1)]), (1, &[Act::Keeps(1, 0)])],
-        ..stop
-    };
-    stops(&rt, rt.alloc(), counts)
-}
-
-#[test]
-fn server_copies_where_nobody_waits(rt: HostRuntime) -> Result<(), Fail> {
-    let stop = Stop {
-        on: On::Ones(NO_OVERFLOW),
-        before: &NOBODY_WAITS,
-        node: 1,
-        ask: Ask::CopyResponse(2, 10),
-        steps: 16,
-        after: &[(0, &NONE_CAME)],
-    };
-    stops(&rt, rt.alloc(), stop)?;
-    let counts = Stop {
-        after: &[
-            (0, &[Act::Keeps(1, 0)]),
-            (8, &[Act::Keeps(1, 1)]),
-            (16, &[Act::Keeps(1, 0)]),
-        ],
-        ..stop
-    };
-    stops(&rt, rt.alloc(), counts)
-}
-
-#[test]
-fn client_sends_where_the_second_server_is_full(rt: HostRuntime) -> Result<(), Fail> {
-    let stop = Stop {
-        on: On::Four(NO_OVERFLOW),
-        before: &SECOND_IS_FULL,
-        node: 0,
-        ask: Ask::Send(5),
-        steps: 8,
-        after: &[(0, &BOTH_HAVE_THE_FIRST)],
-    };
-    stops(&rt, rt.alloc(), stop)?;
-    let counts = Stop {
-        after: &[(0, &[Act::Keeps(0, 2)]), (8, &[Act::Keeps(0, 1)])],
-        ..stop
-    };
-    stops(&rt, rt.alloc(), counts)
+fn node_stops_in_a_send_that_is_refused(rt: HostRuntime) -> Result<(), Fail> {
+    const STOPS: &[Stop<'static>] = &[
+        CLIENT_SENDS_TO_A_FULL_SERVER,
+        CLIENT_COPIES_TO_A_FULL_SERVER,
+        CLIENT_COPIES_PAST_ITS_LIMIT,
+        SERVER_SENDS_TO_A_FULL_CLIENT,
+        SERVER_COPIES_TO_A_FULL_CLIENT,
+        SERVER_SENDS_WHERE_NOBODY_WAITS,
+        SERVER_COPIES_WHERE_NOBODY_WAITS,
+        CLIENT_SENDS_WHERE_THE_SECOND_SERVER_IS_FULL,
+    ];
+    stop_all(&rt, STOPS)
 }

@@ -1,8 +1,10 @@
 //! A server stops as it gives a request back that its client hints at or gives up, before or
 //! meanwhile.
-use super::play::{Act, Ask, Told};
+use super::on::On;
+use super::play::{Act, Ask};
 use super::settings::NO_OVERFLOW;
-use super::stops::{Between, On, Stop, stops, stops_around};
+use super::stops::{Between, NOTHING_BETWEEN, Stop, stop_all};
+use super::told::Told;
 use std::test::Fail;
 
 /// A request is sent and received.
@@ -68,67 +70,71 @@ const CLOSED_BACK: [Act; 6] = [
     Act::Whole(0, Ask::Send(3), 9, Told::Sent(1)),
 ];
 
-#[test]
-fn request_was_given_up(rt: HostRuntime) -> Result<(), Fail> {
-    let stop = Stop {
-        on: On::Ones(NO_OVERFLOW),
-        before: &GIVEN_UP,
-        node: 1,
-        ask: Ask::Release(2),
-        steps: 5,
-        after: &[(0, &NOT_BACK), (4, &BACK)],
-    };
-    stops(&rt, rt.alloc(), stop)
-}
+const REQUEST_WAS_GIVEN_UP: Stop<'static> = Stop {
+    name: "request_was_given_up",
+    on: On::Ones(NO_OVERFLOW),
+    before: &GIVEN_UP,
+    node: 1,
+    ask: Ask::Release(2),
+    steps: 5,
+    after: &[(0, &NOT_BACK), (4, &BACK)],
+    between: NOTHING_BETWEEN,
+    counts: &[],
+};
 
 /// The server saw the request open without a hint, so it looks once more before it closes it.
-#[test]
-fn hint_comes_between(rt: HostRuntime) -> Result<(), Fail> {
-    let stop = Stop {
-        on: On::Ones(NO_OVERFLOW),
-        before: &RECEIVED,
-        node: 1,
-        ask: Ask::Release(2),
-        steps: 7,
-        after: &[(0, &OPEN_NOT_BACK), (4, &OPEN_BACK), (7, &CLOSED_BACK)],
-    };
-    let between = Between {
+const HINT_COMES_BETWEEN: Stop<'static> = Stop {
+    name: "hint_comes_between",
+    on: On::Ones(NO_OVERFLOW),
+    before: &RECEIVED,
+    node: 1,
+    ask: Ask::Release(2),
+    steps: 7,
+    after: &[(0, &OPEN_NOT_BACK), (4, &OPEN_BACK), (7, &CLOSED_BACK)],
+    between: Between {
         made: 5,
         acts: &[Act::Whole(0, Ask::SetHint(2), 2, Told::Done)],
-    };
-    stops_around(&rt, rt.alloc(), stop, between)
-}
+    },
+    counts: &[],
+};
 
-#[test]
-fn hint_came_before(rt: HostRuntime) -> Result<(), Fail> {
-    let stop = Stop {
-        on: On::Ones(NO_OVERFLOW),
-        before: &RECEIVED,
-        node: 1,
-        ask: Ask::Release(2),
-        steps: 6,
-        after: &[(0, &OPEN_NOT_BACK), (4, &OPEN_BACK), (6, &CLOSED_BACK)],
-    };
-    let between = Between {
+const HINT_CAME_BEFORE: Stop<'static> = Stop {
+    name: "hint_came_before",
+    on: On::Ones(NO_OVERFLOW),
+    before: &RECEIVED,
+    node: 1,
+    ask: Ask::Release(2),
+    steps: 6,
+    after: &[(0, &OPEN_NOT_BACK), (4, &OPEN_BACK), (6, &CLOSED_BACK)],
+    between: Between {
         made: 0,
         acts: &[Act::Whole(0, Ask::SetHint(2), 2, Told::Done)],
-    };
-    stops_around(&rt, rt.alloc(), stop, between)
-}
+    },
+    counts: &[],
+};
 
-#[test]
-fn client_gives_up_between(rt: HostRuntime) -> Result<(), Fail> {
-    let stop = Stop {
-        on: On::Ones(NO_OVERFLOW),
-        before: &RECEIVED,
-        node: 1,
-        ask: Ask::Release(2),
-        steps: 6,
-        after: &[(0, &OPEN_NOT_BACK), (4, &OPEN_BACK), (5, &BACK)],
-    };
-    let between = Between {
+const CLIENT_GIVES_UP_BETWEEN: Stop<'static> = Stop {
+    name: "client_gives_up_between",
+    on: On::Ones(NO_OVERFLOW),
+    before: &RECEIVED,
+    node: 1,
+    ask: Ask::Release(2),
+    steps: 6,
+    after: &[(0, &OPEN_NOT_BACK), (4, &OPEN_BACK), (5, &BACK)],
+    between: Between {
         made: 5,
         acts: &[Act::Whole(0, Ask::Release(2), 1, Told::Done)],
-    };
-    stops_around(&rt, rt.alloc(), stop, between)
+    },
+    counts: &[],
+};
+
+#[test]
+fn server_stops_as_it_gives_a_request_back(rt: HostRuntime) -> Result<(), Fail> {
+    const STOPS: &[Stop<'static>] = &[
+        REQUEST_WAS_GIVEN_UP,
+        HINT_COMES_BETWEEN,
+        HINT_CAME_BEFORE,
+        CLIENT_GIVES_UP_BETWEEN,
+    ];
+    stop_all(&rt, STOPS)
 }

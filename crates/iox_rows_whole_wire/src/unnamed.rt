@@ -29,25 +29,22 @@ fn with_a_taken_number(alloc: Global) -> Result<Option<WireNewError>, Fail> {
     Ok(Wire::new(alloc, plan, terms, &[0, 1]).err())
 }
 
-#[test]
-fn node_that_is_listed_twice_is_refused(rt: HostRuntime) -> Result<(), Fail> {
-    let told = with_a_node_twice(rt.alloc())?;
-    equal(&rt, told, Some(WireNewError::DuplicateNode));
+/// Ends the test where a wire of ones is made that is not named well, or is refused otherwise.
+fn are_not_made(rt: &(impl Abort + AllocGlobal)) -> Result<(), Fail> {
+    let twice = with_a_node_twice(rt.alloc())?;
+    equal(rt, twice, Some(WireNewError::DuplicateNode));
+    let without = without_a_node(rt.alloc())?;
+    equal(rt, without, Some(WireNewError::UnknownNode));
+    let taken = with_a_taken_number(rt.alloc())?;
+    equal(rt, taken, Some(WireNewError::NumberTaken));
     Ok(())
 }
 
+/// Node 0 is listed twice, the server's node is not listed, and the server has the number of the
+/// first handle.
 #[test]
-fn port_of_no_listed_node_is_refused(rt: HostRuntime) -> Result<(), Fail> {
-    let told = without_a_node(rt.alloc())?;
-    equal(&rt, told, Some(WireNewError::UnknownNode));
-    Ok(())
-}
-
-#[test]
-fn port_with_the_number_of_a_handle_is_refused(rt: HostRuntime) -> Result<(), Fail> {
-    let told = with_a_taken_number(rt.alloc())?;
-    equal(&rt, told, Some(WireNewError::NumberTaken));
-    Ok(())
+fn wires_that_are_not_named_well_are_refused(rt: HostRuntime) -> Result<(), Fail> {
+    are_not_made(&rt)
 }
 
 /// Why no wire of ones is made with these nodes, whose first handle has that number.
@@ -58,14 +55,13 @@ fn refusal(alloc: Global, nodes: &[u64], first: u64) -> Result<Option<WireNewErr
     Ok(new_refusal(&plan, &terms, nodes))
 }
 
+/// The nodes, the number of the first handle, and the reason.
+type Row = (&'static [u64], u64, Option<WireNewError>);
+
 /// Ends the test where there is another reason for one of these.
-fn are_refused(
-    rt: &impl Abort,
-    alloc: Global,
-    lists: &[(&[u64], u64, Option<WireNewError>)],
-) -> Result<(), Fail> {
-    for (nodes, first, wanted) in lists {
-        equal(rt, refusal(alloc, *nodes, *first)?, *wanted);
+fn are_refused(rt: &(impl Abort + AllocGlobal), rows: &[Row]) -> Result<(), Fail> {
+    for (nodes, first, wanted) in rows {
+        equal(rt, refusal(rt.alloc(), *nodes, *first)?, *wanted);
     }
     Ok(())
 }
@@ -73,30 +69,42 @@ fn are_refused(
 #[test]
 fn first_reason_is_told(rt: HostRuntime) -> Result<(), Fail> {
     const SPENT: u64 = 1 << 63;
-    are_refused(
-        &rt,
-        rt.alloc(),
-        &[
-            (&[0, 1], 2, None),
-            (&[7, 1, 0], 3, None),
-            (&[], 2, Some(WireNewError::UnknownNode)),
-            (&[1, 7], 1, Some(WireNewError::UnknownNode)),
-            (&[0, 0], 1, Some(WireNewError::DuplicateNode)),
-            (&[1, 7, 0, 7], 0, Some(WireNewError::DuplicateNode)),
-            (&[0, 1], 1, Some(WireNewError::NumberTaken)),
-            (&[0, 1], 0, Some(WireNewError::NumberTaken)),
-            (&[0, 0], SPENT, Some(WireNewError::NumbersSpent)),
-        ],
-    )
+    const ROWS: &[Row] = &[
+        (&[0, 1], 2, None),
+        (&[7, 1, 0], 3, None),
+        (&[], 2, Some(WireNewError::UnknownNode)),
+        (&[1, 7], 1, Some(WireNewError::UnknownNode)),
+        (&[0, 0], 1, Some(WireNewError::DuplicateNode)),
+        (&[1, 7, 0, 7], 0, Some(WireNewError::DuplicateNode)),
+        (&[0, 1], 1, Some(WireNewError::NumberTaken)),
+        (&[0, 1], 0, Some(WireNewError::NumberTaken)),
+        (&[0, 0], SPENT, Some(WireNewError::NumbersSpent)),
+    ];
+    are_refused(&rt, ROWS)
+}
+
+/// Ends the test where the reason is shown otherwise.
+fn is_shown(rt: &(impl Abort + AllocGlobal), reason: WireNewError, name: &str) -> Result<(), Fail> {
+    let text = reason.to_string(rt.alloc())?;
+    equal(rt, text.as_str(), name);
+    Ok(())
+}
+
+/// Or where one of these is.
+fn are_shown(rt: &(impl Abort + AllocGlobal), rows: &[(WireNewError, &str)]) -> Result<(), Fail> {
+    for (reason, name) in rows {
+        is_shown(rt, *reason, *name)?;
+    }
+    Ok(())
 }
 
 #[test]
 fn each_is_shown_by_its_name(rt: HostRuntime) -> Result<(), Fail> {
-    let node = WireNewError::DuplicateNode.to_string(rt.alloc())?;
-    equal(&rt, node.as_str(), "WireNewError::DuplicateNode");
-    let unknown = WireNewError::UnknownNode.to_string(rt.alloc())?;
-    equal(&rt, unknown.as_str(), "WireNewError::UnknownNode");
-    let taken = WireNewError::NumberTaken.to_string(rt.alloc())?;
-    equal(&rt, taken.as_str(), "WireNewError::NumberTaken");
-    Ok(())
+    const ROWS: &[(WireNewError, &str)] = &[
+        (WireNewError::DuplicateNode, "WireNewError::DuplicateNode"),
+        (WireNewError::UnknownNode, "WireNewError::UnknownNode"),
+        (WireNewError::NumberTaken, "WireNewError::NumberTaken"),
+        (WireNewError::NumbersSpent, "WireNewError::NumbersSpent"),
+    ];
+    are_shown(&rt, ROWS)
 }

@@ -3,11 +3,11 @@
 use super::chances::{Chance, ask};
 use super::four;
 use super::lists::Lists;
-use super::play::{Came, calls};
+use super::play::{Came, calls, came_shown};
 use super::settings::{NO_FIRE_AND_FORGET, NO_OVERFLOW, OVERFLOW, Service};
 use crate::expected::{equal, holds};
 use iox_wire::{Wire, WireRefusal};
-use std::alloc::Global;
+use std::alloc::AllocError;
 use std::process::Abort;
 use std::test::Fail;
 
@@ -19,7 +19,7 @@ fn turn(
     lists: &mut Lists,
     chance: &mut Chance,
     dead: &[bool; 3],
-) -> Result<bool, Fail> {
+) -> Result<bool, AllocError> {
     let node = chance.below(3);
     let place = chance.below(lists.of_node(node as u64));
     let Some(held) = lists.pick(node as u64, place) else {
@@ -28,7 +28,11 @@ fn turn(
     let asked = ask(held.of.kind, held.of.number, chance.below(1 << 20) as u64);
     let came = calls(wire, node as u64, asked);
     if dead.get(node).copied().unwrap_or(false) {
-        equal(rt, came, Came::Refused(WireRefusal::NodeIsDead));
+        equal(
+            rt,
+            came_shown(came),
+            came_shown(Came::Refused(WireRefusal::NodeIsDead)),
+        );
         return Ok(true);
     }
     let told = lists.answer(held, asked)?;
@@ -36,7 +40,7 @@ fn turn(
         Came::Ended(steps, _) => steps,
         _ => 0,
     };
-    equal(rt, came, Came::Ended(steps, told));
+    equal(rt, came_shown(came), came_shown(Came::Ended(steps, told)));
     Ok(true)
 }
 
@@ -54,7 +58,8 @@ fn may_die(wire: &mut Wire, chance: &mut Chance, dead: &mut [bool; 3]) {
 }
 
 /// A game of 400 turns. After each it may be that a node dies.
-fn goes(rt: &impl Abort, wire: &mut Wire, lists: &mut Lists, seed: u64) -> Result<(), Fail> {
+fn goes(rt: &impl Abort, wire: &mut Wire, lists: &mut Lists, seed: u64) -> Result<(), AllocError> {
+    lists.begin()?;
     let mut chance = Chance::new(seed);
     let mut dead = [false; 3];
     let mut made: usize = 0;
@@ -69,31 +74,32 @@ fn goes(rt: &impl Abort, wire: &mut Wire, lists: &mut Lists, seed: u64) -> Resul
 }
 
 /// The same on a new wire of that service.
-fn plays(rt: &impl Abort, alloc: Global, service: Service, seed: u64) -> Result<(), Fail> {
-    let mut wire = four::open(alloc, service)?;
-    let mut lists = Lists::new(alloc, service)?;
-    goes(rt, &mut wire, &mut lists, seed)
+fn plays(rt: &(impl Abort + AllocGlobal), service: &Service, seed: u64) -> Result<(), Fail> {
+    let mut wire = four::open(rt.alloc(), *service)?;
+    let mut lists = Lists::new(rt.alloc(), *service);
+    goes(rt, &mut wire, &mut lists, seed)?;
+    Ok(())
 }
 
 /// Ends the test where a wire of that service answers another thing than the lists say.
-fn play_all(rt: &impl Abort, alloc: Global, service: Service) -> Result<(), Fail> {
+fn play_all(rt: &(impl Abort + AllocGlobal), service: &Service) -> Result<(), Fail> {
     for seed in 1..101 {
-        plays(rt, alloc, service, seed)?;
+        plays(rt, service, seed)?;
     }
     Ok(())
 }
 
 #[test]
 fn nothing_overflows(rt: HostRuntime) -> Result<(), Fail> {
-    play_all(&rt, rt.alloc(), NO_OVERFLOW)
+    play_all(&rt, &NO_OVERFLOW)
 }
 
 #[test]
 fn queues_overflow(rt: HostRuntime) -> Result<(), Fail> {
-    play_all(&rt, rt.alloc(), OVERFLOW)
+    play_all(&rt, &OVERFLOW)
 }
 
 #[test]
 fn requests_of_no_use_are_dropped(rt: HostRuntime) -> Result<(), Fail> {
-    play_all(&rt, rt.alloc(), NO_FIRE_AND_FORGET)
+    play_all(&rt, &NO_FIRE_AND_FORGET)
 }

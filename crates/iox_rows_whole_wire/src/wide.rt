@@ -5,7 +5,9 @@ ghost use Rattle.std.specs.Prelude.{◌≡◌, ◌∷◌, [], IfOk};
 ghost use Rattle.iox_rows_whole_wire.specs.Wide.{AreWideTerms, HasUserHeader, IsWide, IsWidePlan};
 ghost use Rattle.iox_rows_whole_wire.specs.Wide.{IsWidePort, wide_limits};
 
-use super::play::{Act, Ask, Told, plays};
+use super::on::{Play, WIDE, plays_all};
+use super::play::{Act, Ask};
+use super::told::Told;
 use crate::expected::equal;
 use iox_model::kind::Role;
 use iox_types::{MessageTypeDetails, RequestHeader, ResponseHeader, TypeDetail, TypeVariant};
@@ -133,13 +135,6 @@ pub(super) fn open(alloc: Global, huge: bool) -> Result<Result<Wire, WireNewErro
     Ok(Wire::new(alloc, plan, terms, &[0, 1]))
 }
 
-/// Plays a table on such a wire.
-fn plays_on(rt: &impl Abort, alloc: Global, huge: bool, table: &[Act]) -> Result<(), Fail> {
-    let mut wire = open(alloc, huge)??;
-    plays(rt, &mut wire, table);
-    Ok(())
-}
-
 #[test]
 fn wire_of_too_many_words_does_not_open(rt: HostRuntime) -> Result<(), Fail> {
     let opened = open(rt.alloc(), true)?;
@@ -157,14 +152,13 @@ fn refusal(alloc: Global, waiting: usize, first: u64) -> Result<Option<WireNewEr
     Ok(new_refusal(&plan, &terms, &[0, 1]))
 }
 
+/// How many responses may wait, the number of the first handle, and the reason.
+type Row = (usize, u64, Option<WireNewError>);
+
 /// Ends the test where there is another reason for one of these.
-fn are_refused(
-    rt: &impl Abort,
-    alloc: Global,
-    plans: &[(usize, u64, Option<WireNewError>)],
-) -> Result<(), Fail> {
-    for (waiting, first, wanted) in plans {
-        equal(rt, refusal(alloc, *waiting, *first)?, *wanted);
+fn are_refused(rt: &(impl Abort + AllocGlobal), rows: &[Row]) -> Result<(), Fail> {
+    for (waiting, first, wanted) in rows {
+        equal(rt, refusal(rt.alloc(), *waiting, *first)?, *wanted);
     }
     Ok(())
 }
@@ -179,122 +173,113 @@ fn too_many_words_are_told_before_spent_numbers(rt: HostRuntime) -> Result<(), F
     const LAST: u64 = (1 << 63) - 1;
     const WORDS: Option<WireNewError> = Some(WireNewError::TooManyWords);
     const NUMBERS: Option<WireNewError> = Some(WireNewError::NumbersSpent);
-    are_refused(
-        &rt,
-        rt.alloc(),
-        &[
-            (1, 2, None),
-            (FEWER, LAST, None),
-            (MOST, LAST, WORDS),
-            (MORE, LAST, WORDS),
-            (MOST, SPENT, WORDS),
-            (FEWER, SPENT, NUMBERS),
-            (1, u64::MAX, NUMBERS),
-        ],
-    )
+    const ROWS: &[Row] = &[
+        (1, 2, None),
+        (FEWER, LAST, None),
+        (MOST, LAST, WORDS),
+        (MORE, LAST, WORDS),
+        (MOST, SPENT, WORDS),
+        (FEWER, SPENT, NUMBERS),
+        (1, u64::MAX, NUMBERS),
+    ];
+    are_refused(&rt, ROWS)
 }
 
-#[test]
-fn refusal_is_shown_by_its_name(rt: HostRuntime) -> Result<(), Fail> {
-    let text = WireNewError::NumbersSpent.to_string(rt.alloc())?;
-    equal(&rt, text.as_str(), "WireNewError::NumbersSpent");
-    Ok(())
-}
+const WORDS_COME_AS_THEY_WERE_SENT: Play<'static> = Play {
+    name: "words_come_as_they_were_sent",
+    on: WIDE,
+    before: &[],
+    table: &[
+        Act::Whole(0, Ask::Loan(0), 10, Told::Handle(2)),
+        Act::Whole(0, Ask::Read(2), 3, Told::Three(5, 0, 0)),
+        Act::Whole(0, Ask::WriteTwo(2, Role::Client, [8, 9]), 2, Told::Done),
+        Act::Whole(0, Ask::WriteRequest(2, 8), 1, Told::WrongLength),
+        Act::Whole(0, Ask::Read(2), 3, Told::Three(5, 8, 9)),
+        Act::Whole(0, Ask::Send(2), 9, Told::Sent(1)),
+        Act::Whole(1, Ask::Receive(1), 11, Told::Handle(2)),
+        Act::Whole(1, Ask::Read(2), 3, Told::Three(5, 8, 9)),
+        Act::Whole(1, Ask::CopyTwo(2, Role::Server, [10, 11]), 23, Told::Done),
+        Act::Whole(0, Ask::Receive(2), 10, Told::Handle(3)),
+        Act::Whole(0, Ask::Read(3), 4, Told::Four(6, 7, 10, 11)),
+    ],
+};
+
+const REQUESTS_ARE_DROPPED_THAT_FIND_NO_ROOM: Play<'static> = Play {
+    name: "requests_are_dropped_that_find_no_room",
+    on: WIDE,
+    before: &[],
+    table: &[
+        Act::Whole(
+            0,
+            Ask::CopyTwo(0, Role::Client, [1, 2]),
+            21,
+            Told::Handle(2),
+        ),
+        Act::Whole(0, Ask::Release(2), 1, Told::Done),
+        Act::Whole(0, Ask::Loan(0), 10, Told::Handle(3)),
+        Act::Whole(0, Ask::Send(3), 5, Told::Sent(0)),
+        // one slot is the server's, one that of the pending response
+        Act::Whole(0, Ask::Loan(0), 2, Told::OutOfMemory),
+        Act::Whole(
+            0,
+            Ask::CopyTwo(0, Role::Client, [3, 4]),
+            2,
+            Told::OutOfMemory,
+        ),
+        Act::Whole(0, Ask::IsConnected(3), 1, Told::Answer(true)),
+        Act::Whole(0, Ask::Release(3), 1, Told::Done),
+        Act::Whole(1, Ask::Receive(1), 11, Told::Handle(2)),
+        Act::Whole(1, Ask::Read(2), 3, Told::Three(5, 1, 2)),
+        Act::Whole(1, Ask::Receive(1), 2, Told::Nothing),
+        Act::Whole(
+            0,
+            Ask::CopyTwo(0, Role::Client, [5, 6]),
+            21,
+            Told::Handle(4),
+        ),
+        Act::Whole(0, Ask::Loan(0), 2, Told::OutOfMemory),
+        Act::Whole(1, Ask::Release(2), 5, Told::Done),
+        Act::Whole(0, Ask::Loan(0), 14, Told::Handle(5)),
+    ],
+};
+
+const RESPONSES_ARE_DROPPED_THAT_FIND_NO_ROOM: Play<'static> = Play {
+    name: "responses_are_dropped_that_find_no_room",
+    on: WIDE,
+    before: &[],
+    table: &[
+        Act::Whole(
+            0,
+            Ask::CopyTwo(0, Role::Client, [1, 2]),
+            21,
+            Told::Handle(2),
+        ),
+        Act::Whole(1, Ask::Receive(1), 11, Told::Handle(2)),
+        Act::Whole(1, Ask::CopyTwo(2, Role::Server, [3, 4]), 23, Told::Done),
+        Act::Whole(1, Ask::CopyTwo(2, Role::Server, [5, 6]), 19, Told::Done),
+        Act::Whole(0, Ask::Receive(2), 10, Told::Handle(3)),
+        Act::Whole(0, Ask::Read(3), 4, Told::Four(6, 7, 3, 4)),
+        Act::Whole(0, Ask::Receive(2), 2, Told::Nothing),
+        Act::Whole(1, Ask::CopyTwo(2, Role::Server, [7, 8]), 23, Told::Done),
+        // one slot is the client's, one waits
+        Act::Whole(1, Ask::Loan(2), 4, Told::OutOfMemory),
+        Act::Whole(
+            1,
+            Ask::CopyTwo(2, Role::Server, [9, 9]),
+            4,
+            Told::OutOfMemory,
+        ),
+        Act::Whole(0, Ask::Release(3), 4, Told::Done),
+        Act::Whole(1, Ask::Loan(2), 16, Told::Handle(3)),
+    ],
+};
 
 #[test]
-fn words_come_as_they_were_sent(rt: HostRuntime) -> Result<(), Fail> {
-    plays_on(
-        &rt,
-        rt.alloc(),
-        false,
-        &[
-            Act::Whole(0, Ask::Loan(0), 10, Told::Handle(2)),
-            Act::Whole(0, Ask::Read(2), 3, Told::Three(5, 0, 0)),
-            Act::Whole(0, Ask::WriteTwo(2, Role::Client, [8, 9]), 2, Told::Done),
-            Act::Whole(0, Ask::WriteRequest(2, 8), 1, Told::WrongLength),
-            Act::Whole(0, Ask::Read(2), 3, Told::Three(5, 8, 9)),
-            Act::Whole(0, Ask::Send(2), 9, Told::Sent(1)),
-            Act::Whole(1, Ask::Receive(1), 11, Told::Handle(2)),
-            Act::Whole(1, Ask::Read(2), 3, Told::Three(5, 8, 9)),
-            Act::Whole(1, Ask::CopyTwo(2, Role::Server, [10, 11]), 23, Told::Done),
-            Act::Whole(0, Ask::Receive(2), 10, Told::Handle(3)),
-            Act::Whole(0, Ask::Read(3), 4, Told::Four(6, 7, 10, 11)),
-        ],
-    )
-}
-
-#[test]
-fn requests_are_dropped_that_find_no_room(rt: HostRuntime) -> Result<(), Fail> {
-    plays_on(
-        &rt,
-        rt.alloc(),
-        false,
-        &[
-            Act::Whole(
-                0,
-                Ask::CopyTwo(0, Role::Client, [1, 2]),
-                21,
-                Told::Handle(2),
-            ),
-            Act::Whole(0, Ask::Release(2), 1, Told::Done),
-            Act::Whole(0, Ask::Loan(0), 10, Told::Handle(3)),
-            Act::Whole(0, Ask::Send(3), 5, Told::Sent(0)),
-            // one slot is the server's, one that of the pending response
-            Act::Whole(0, Ask::Loan(0), 2, Told::OutOfMemory),
-            Act::Whole(
-                0,
-                Ask::CopyTwo(0, Role::Client, [3, 4]),
-                2,
-                Told::OutOfMemory,
-            ),
-            Act::Whole(0, Ask::IsConnected(3), 1, Told::Answer(true)),
-            Act::Whole(0, Ask::Release(3), 1, Told::Done),
-            Act::Whole(1, Ask::Receive(1), 11, Told::Handle(2)),
-            Act::Whole(1, Ask::Read(2), 3, Told::Three(5, 1, 2)),
-            Act::Whole(1, Ask::Receive(1), 2, Told::Nothing),
-            Act::Whole(
-                0,
-                Ask::CopyTwo(0, Role::Client, [5, 6]),
-                21,
-                Told::Handle(4),
-            ),
-            Act::Whole(0, Ask::Loan(0), 2, Told::OutOfMemory),
-            Act::Whole(1, Ask::Release(2), 5, Told::Done),
-            Act::Whole(0, Ask::Loan(0), 14, Told::Handle(5)),
-        ],
-    )
-}
-
-#[test]
-fn responses_are_dropped_that_find_no_room(rt: HostRuntime) -> Result<(), Fail> {
-    plays_on(
-        &rt,
-        rt.alloc(),
-        false,
-        &[
-            Act::Whole(
-                0,
-                Ask::CopyTwo(0, Role::Client, [1, 2]),
-                21,
-                Told::Handle(2),
-            ),
-            Act::Whole(1, Ask::Receive(1), 11, Told::Handle(2)),
-            Act::Whole(1, Ask::CopyTwo(2, Role::Server, [3, 4]), 23, Told::Done),
-            Act::Whole(1, Ask::CopyTwo(2, Role::Server, [5, 6]), 19, Told::Done),
-            Act::Whole(0, Ask::Receive(2), 10, Told::Handle(3)),
-            Act::Whole(0, Ask::Read(3), 4, Told::Four(6, 7, 3, 4)),
-            Act::Whole(0, Ask::Receive(2), 2, Told::Nothing),
-            Act::Whole(1, Ask::CopyTwo(2, Role::Server, [7, 8]), 23, Told::Done),
-            // one slot is the client's, one waits
-            Act::Whole(1, Ask::Loan(2), 4, Told::OutOfMemory),
-            Act::Whole(
-                1,
-                Ask::CopyTwo(2, Role::Server, [9, 9]),
-                4,
-                Told::OutOfMemory,
-            ),
-            Act::Whole(0, Ask::Release(3), 4, Told::Done),
-            Act::Whole(1, Ask::Loan(2), 16, Told::Handle(3)),
-        ],
-    )
+fn wide_messages_come_and_are_dropped(rt: HostRuntime) -> Result<(), Fail> {
+    const PLAYS: &[Play<'static>] = &[
+        WORDS_COME_AS_THEY_WERE_SENT,
+        REQUESTS_ARE_DROPPED_THAT_FIND_NO_ROOM,
+        RESPONSES_ARE_DROPPED_THAT_FIND_NO_ROOM,
+    ];
+    plays_all(&rt, PLAYS)
 }
