@@ -13,14 +13,14 @@ mod running;
 mod service;
 mod trying;
 
+use crate::expected::is_wanted;
 use iox_control::Settings;
 use iox_model::reply::{Refusal, Reply};
 use iox_nodes::{Always, BackpressureAction, Service};
 use iox_store::{Many, One};
 use iox_types::BackpressureStrategy;
-use std::alloc::{AllocError, Global};
+use std::alloc::Global;
 use std::process::Abort;
-use std::test::Fail;
 
 /// Requests and responses of numbers. A handler has one answer, and a cause of attributes would be
 /// a number.
@@ -68,7 +68,7 @@ enum Ask {
 }
 
 /// What is told.
-#[derive(Clone, Copy, Debug, PartialEq, Eq)]
+#[derive(Clone, Copy)]
 enum Told<'a> {
     Node(u64),
     Client(u64),
@@ -83,20 +83,21 @@ enum Told<'a> {
     Refused(Refusal<u64>),
 }
 
-/// The reply, with its list lent.
-fn lent(reply: &TheReply) -> Told<'_> {
-    match reply {
-        Reply::Node(n) => Told::Node(*n),
-        Reply::Client(n) => Told::Client(*n),
-        Reply::Server(n) => Told::Server(*n),
-        Reply::Handle(n) => Told::Handle(*n),
-        Reply::Sent(n) => Told::Sent(*n),
-        Reply::Done => Told::Done,
-        Reply::Nothing => Told::Nothing,
-        Reply::Words(words) => Told::Words(words.as_slice()),
-        Reply::Answer(answer) => Told::Answer(*answer),
-        Reply::Listed(numbers) => Told::Listed(numbers.as_slice()),
-        Reply::Refused(refusal) => Told::Refused(*refusal),
+/// Whether that is told.
+fn is_told(reply: &TheReply, told: &Told<'_>) -> bool {
+    match (reply, told) {
+        (Reply::Node(n), Told::Node(wanted)) => n == wanted,
+        (Reply::Client(n), Told::Client(wanted)) => n == wanted,
+        (Reply::Server(n), Told::Server(wanted)) => n == wanted,
+        (Reply::Handle(n), Told::Handle(wanted)) => n == wanted,
+        (Reply::Sent(n), Told::Sent(wanted)) => n == wanted,
+        (Reply::Done, Told::Done) => true,
+        (Reply::Nothing, Told::Nothing) => true,
+        (Reply::Words(words), Told::Words(wanted)) => words.as_slice() == *wanted,
+        (Reply::Answer(answer), Told::Answer(wanted)) => answer == wanted,
+        (Reply::Listed(numbers), Told::Listed(wanted)) => numbers.as_slice() == *wanted,
+        (Reply::Refused(refusal), Told::Refused(wanted)) => refusal == wanted,
+        _ => false,
     }
 }
 
@@ -112,53 +113,33 @@ enum Way {
 }
 
 /// Ends the test where the reply of that place in its list is not the wanted one.
-fn tells(rt: &impl Abort, place: usize, reply: &TheReply, wanted: Told<'_>) {
-    let told = lent(reply);
-    assert_eq!(rt; (place, told), (place, wanted));
+fn tells(rt: &impl Abort, place: usize, reply: &TheReply, wanted: &Told<'_>) {
+    is_wanted(rt, place, reply, is_told(reply, wanted));
 }
 
 /// Asks a service one after another, and ends the test where an answer is not the wanted one.
-fn goes(
-    rt: &impl Abort,
-    alloc: Global,
-    service: &mut TheService,
-    way: Way,
-    script: &[Row<'_>],
-) -> Result<(), AllocError> {
+fn goes(rt: &impl Abort, alloc: Global, service: &mut TheService, way: Way, script: &[Row<'_>]) {
     for (place, (ask, wanted)) in script.iter().enumerate() {
-        let reply = asking::asked(service, alloc, way, *ask)?;
-        tells(rt, place, &reply, *wanted);
-        registered::as_many_as_listed(rt, alloc, service)?;
+        let reply = asking::asked(rt, alloc, service, way, *ask);
+        tells(rt, place, &reply, wanted);
+        registered::as_many_as_listed(rt, alloc, service);
     }
-    Ok(())
 }
 
 /// The same of a new service, whose node 0 has id 1 0 0 0.
-fn plays_in(
-    rt: &impl Abort,
-    alloc: Global,
-    settings: Settings,
-    way: Way,
-    script: &[Row<'_>],
-) -> Result<(), Fail> {
-    let mut service = service::with(alloc, settings)?;
-    goes(rt, alloc, &mut service, way, script)?;
-    Ok(())
+fn plays_in(rt: &impl Abort, alloc: Global, settings: Settings, way: Way, script: &[Row<'_>]) {
+    let mut service = service::with(rt, alloc, settings);
+    goes(rt, alloc, &mut service, way, script);
 }
 
 /// The same in each way.
-fn plays_with(
-    rt: &impl Abort,
-    alloc: Global,
-    settings: Settings,
-    script: &[Row<'_>],
-) -> Result<(), Fail> {
-    plays_in(rt, alloc, settings, Way::Called, script)?;
-    plays_in(rt, alloc, settings, Way::Served, script)?;
-    plays_in(rt, alloc, settings, Way::Tried, script)
+fn plays_with(rt: &impl Abort, alloc: Global, settings: Settings, script: &[Row<'_>]) {
+    plays_in(rt, alloc, settings, Way::Called, script);
+    plays_in(rt, alloc, settings, Way::Served, script);
+    plays_in(rt, alloc, settings, Way::Tried, script);
 }
 
 /// The same with so many nodes at most, and all else as at the defaults.
-fn plays(rt: &impl Abort, alloc: Global, nodes: u64, script: &[Row<'_>]) -> Result<(), Fail> {
-    plays_with(rt, alloc, service::settings(nodes), script)
+fn plays(rt: &impl Abort, alloc: Global, nodes: u64, script: &[Row<'_>]) {
+    plays_with(rt, alloc, service::settings(nodes), script);
 }

@@ -5,8 +5,9 @@ use iox_model::command::{self, PortCommand, PortOptions};
 use iox_model::reply::{Refusal, Reply};
 use iox_nodes::{Always, BackpressureAction, Elements};
 use iox_types::BackpressureStrategy;
-use iox_types::identifiers::{UniqueNodeId, UniqueSystemId};
-use std::alloc::{AllocError, Global};
+use iox_types::identifiers::UniqueNodeId;
+use std::alloc::Global;
+use std::process::Abort;
 
 /// A command; a handler has one answer.
 pub(super) type Command = command::Command<Elements<u64, u64>, Always, Option<Refusal<u64>>>;
@@ -40,26 +41,31 @@ fn made(node: u64, client: bool, options: PortOptions<Always>) -> Option<AtPort>
     Some(PortCommand::Server { node, id, options })
 }
 
+/// That number alone.
+fn one(rt: &impl Abort, alloc: Global, value: u64) -> Vec<u64> {
+    Vec::from_array(alloc, [value]).expect(rt, "a number")
+}
+
 /// A number is written to a loan, or sent as a copy.
-fn carried(alloc: Global, ask: Ask) -> Result<Option<AtPort>, AllocError> {
-    Ok(match ask {
+fn carried(rt: &impl Abort, alloc: Global, ask: Ask) -> Option<AtPort> {
+    match ask {
         Ask::Write(node, number, value) => Some(PortCommand::Write {
             node,
             number,
-            payload: Elements::Requests(vec![in alloc; value]?),
+            payload: Elements::Requests(one(rt, alloc, value)),
         }),
         Ask::Request(node, number, value) => Some(PortCommand::SendCopy {
             node,
             number,
-            payload: Elements::Requests(vec![in alloc; value]?),
+            payload: Elements::Requests(one(rt, alloc, value)),
         }),
         Ask::Response(node, number, value) => Some(PortCommand::SendCopy {
             node,
             number,
-            payload: Elements::Responses(vec![in alloc; value]?),
+            payload: Elements::Responses(one(rt, alloc, value)),
         }),
         _ => None,
-    })
+    }
 }
 
 /// A port is made, or what carries no number is asked of a port or a handle.
@@ -118,14 +124,14 @@ fn of_nodes(ask: Ask) -> Option<Command> {
 }
 
 /// The command that asks this, if one does.
-pub(super) fn command(alloc: Global, ask: Ask) -> Result<Option<Command>, AllocError> {
+pub(super) fn command(rt: &impl Abort, alloc: Global, ask: Ask) -> Option<Command> {
     if let Some(command) = of_nodes(ask) {
-        return Ok(Some(command));
+        return Some(command);
     }
     if let Some(command) = at_port(ask) {
-        return Ok(Some(Command::Port(command)));
+        return Some(Command::Port(command));
     }
-    Ok(carried(alloc, ask)?.map(Command::Port))
+    Some(Command::Port(carried(rt, alloc, ask)?))
 }
 
 /// The reply to a join.
@@ -144,87 +150,58 @@ fn done(answer: Result<(), Refusal<u64>>) -> TheReply {
     }
 }
 
-fn joins(service: &mut TheService, id: UniqueSystemId, asked: Option<Refusal<u64>>) -> TheReply {
-    joined(service.join(id, asked))
-}
-
-fn leaves(service: &mut TheService, node: u64) -> TheReply {
-    done(service.leave(node))
-}
-
-fn dies(service: &mut TheService, node: u64) -> TheReply {
-    done(service.declare_dead(node))
-}
-
-fn is_cleaned_up(service: &mut TheService, node: u64) -> TheReply {
-    done(service.cleanup(node))
-}
-
-fn calls_port(service: &mut TheService, alloc: Global, command: AtPort) -> TheReply {
-    service.port(alloc, command)
-}
-
-pub(super) fn nodes(service: &TheService, alloc: Global) -> Result<Vec<u64>, AllocError> {
-    service.list_nodes(alloc)
-}
-
-fn clients(service: &TheService, alloc: Global) -> Result<Vec<u64>, AllocError> {
-    service.list_clients(alloc)
-}
-
-fn servers(service: &TheService, alloc: Global) -> Result<Vec<u64>, AllocError> {
-    service.list_servers(alloc)
+pub(super) fn nodes(rt: &impl Abort, alloc: Global, service: &TheService) -> Vec<u64> {
+    service.list_nodes(alloc).expect(rt, "nodes")
 }
 
 /// Asks by the calls.
-fn called(
-    service: &mut TheService,
-    alloc: Global,
-    command: Command,
-) -> Result<TheReply, AllocError> {
-    Ok(match command {
-        Command::Join { id, asked } => joins(service, id, asked),
-        Command::Port(command) => calls_port(service, alloc, command),
-        Command::Leave { node } => leaves(service, node),
-        Command::DeclareDead { node } => dies(service, node),
-        Command::Cleanup { node } => is_cleaned_up(service, node),
-        Command::ListNodes => Reply::Listed(nodes(service, alloc)?),
-        Command::ListClients => Reply::Listed(clients(service, alloc)?),
-        Command::ListServers => Reply::Listed(servers(service, alloc)?),
-    })
+fn called(rt: &impl Abort, alloc: Global, service: &mut TheService, command: Command) -> TheReply {
+    match command {
+        Command::Join { id, asked } => joined(service.join(id, asked)),
+        Command::Port(command) => service.port(alloc, command),
+        Command::Leave { node } => done(service.leave(node)),
+        Command::DeclareDead { node } => done(service.declare_dead(node)),
+        Command::Cleanup { node } => done(service.cleanup(node)),
+        Command::ListNodes => Reply::Listed(nodes(rt, alloc, service)),
+        Command::ListClients => { Reply::Listed(service.list_clients(alloc).expect(rt, "clients")) }
+        Command::ListServers => { Reply::Listed(service.list_servers(alloc).expect(rt, "servers")) }
+    }
 }
 
 /// Asks by `serve`.
 pub(super) fn served(
-    service: &mut TheService,
+    rt: &impl Abort,
     alloc: Global,
+    service: &mut TheService,
     command: Command,
-) -> Result<TheReply, AllocError> {
-    service.serve(alloc, command)
+) -> TheReply {
+    service.serve(alloc, command).expect(rt, "a reply")
 }
 
 /// Asks by `try_serve`.
 pub(super) fn tried(
-    service: &mut TheService,
+    rt: &impl Abort,
     alloc: Global,
+    service: &mut TheService,
     command: Command,
-) -> Result<TheReply, AllocError> {
-    service.try_serve(alloc, command)
+) -> TheReply {
+    service.try_serve(alloc, command).expect(rt, "a reply")
 }
 
 /// Asks in this way.
 pub(super) fn asked(
-    service: &mut TheService,
+    rt: &impl Abort,
     alloc: Global,
+    service: &mut TheService,
     way: Way,
     ask: Ask,
-) -> Result<TheReply, AllocError> {
-    let Some(command) = command(alloc, ask)? else {
-        return Ok(Reply::Answer(service.is_closed()));
+) -> TheReply {
+    let Some(command) = command(rt, alloc, ask) else {
+        return Reply::Answer(service.is_closed());
     };
     match way {
-        Way::Called => called(service, alloc, command),
-        Way::Served => served(service, alloc, command),
-        Way::Tried => tried(service, alloc, command),
+        Way::Called => called(rt, alloc, service, command),
+        Way::Served => served(rt, alloc, service, command),
+        Way::Tried => tried(rt, alloc, service, command),
     }
 }

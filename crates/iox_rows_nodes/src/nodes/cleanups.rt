@@ -1,10 +1,9 @@
 //! Nodes that are cleaned up.
 use super::{Ask, Row, Told, plays};
 use iox_model::reply::Refusal;
-use std::test::Fail;
 
 #[test]
-fn only_the_dead_are_cleaned_up(rt: HostRuntime) -> Result<(), Fail> {
+fn only_the_dead_are_cleaned_up(rt: HostRuntime) {
     const SCRIPT: &[Row<'static>] = &[
         (Ask::Join(2), Told::Node(1)),
         (Ask::Cleanup(1), Told::Refused(Refusal::NodeIsAlive)),
@@ -17,11 +16,11 @@ fn only_the_dead_are_cleaned_up(rt: HostRuntime) -> Result<(), Fail> {
         (Ask::Cleanup(0), Told::Refused(Refusal::NodeIsAlive)),
         (Ask::Nodes, Told::Listed(&[0])),
     ];
-    plays(&rt, rt.alloc(), 20, SCRIPT)
+    plays(&rt, rt.alloc(), 20, SCRIPT);
 }
 
 #[test]
-fn a_dead_server_is_there_until_its_cleanup(rt: HostRuntime) -> Result<(), Fail> {
+fn a_dead_server_is_there_until_its_cleanup(rt: HostRuntime) {
     const SCRIPT: &[Row<'static>] = &[
         (Ask::Join(2), Told::Node(1)),
         (Ask::Server(0), Told::Server(0)),
@@ -46,11 +45,11 @@ fn a_dead_server_is_there_until_its_cleanup(rt: HostRuntime) -> Result<(), Fail>
         (Ask::Server(0), Told::Server(6)),
         (Ask::Servers, Told::Listed(&[0, 6])),
     ];
-    plays(&rt, rt.alloc(), 20, SCRIPT)
+    plays(&rt, rt.alloc(), 20, SCRIPT);
 }
 
 #[test]
-fn the_cleanup_of_the_only_node_closes_the_service(rt: HostRuntime) -> Result<(), Fail> {
+fn the_cleanup_of_the_only_node_closes_the_service(rt: HostRuntime) {
     const SCRIPT: &[Row<'static>] = &[
         (Ask::Client(0), Told::Client(0)),
         (Ask::Server(0), Told::Server(1)),
@@ -77,11 +76,11 @@ fn the_cleanup_of_the_only_node_closes_the_service(rt: HostRuntime) -> Result<()
         (Ask::Cleanup(0), Told::Refused(Refusal::UnknownNode)),
         (Ask::Closed, Told::Answer(true)),
     ];
-    plays(&rt, rt.alloc(), 20, SCRIPT)
+    plays(&rt, rt.alloc(), 20, SCRIPT);
 }
 
 #[test]
-fn a_node_with_a_value_does_not_leave(rt: HostRuntime) -> Result<(), Fail> {
+fn a_node_with_a_value_does_not_leave(rt: HostRuntime) {
     const SCRIPT: &[Row<'static>] = &[
         (Ask::Client(0), Told::Client(0)),
         (Ask::Loan(0, 0), Told::Handle(1)),
@@ -98,5 +97,5 @@ fn a_node_with_a_value_does_not_leave(rt: HostRuntime) -> Result<(), Fail> {
         (Ask::Closed, Told::Answer(true)),
         (Ask::Leave(0), Told::Refused(Refusal::UnknownNode)),
     ];
-    plays(&rt, rt.alloc(), 20, SCRIPT)
+    plays(&rt, rt.alloc(), 20, SCRIPT);
 }

@@ -1,57 +1,32 @@
 //! What others see of a node that is cleaned up, and of one that releases all and leaves.
-use super::{Ask, Row, Told, plays};
-use std::alloc::{AllocError, Global};
+use super::service::{SETTINGS, with};
+use super::{Ask, Row, Told, Way, goes};
+use std::alloc::Global;
 use std::process::Abort;
-use std::test::Fail;
 
 type Script<'a> = &'a [Row<'a>];
 
-/// These lists, one behind another.
-fn joined<'a>(
-    alloc: Global,
-    before: Script<'a>,
-    between: Script<'a>,
-    after: Script<'a>,
-) -> Result<Vec<Row<'a>>, AllocError> {
-    let mut script = Vec::new(alloc);
-    script.extend_from_slice(before)?;
-    script.extend_from_slice(between)?;
-    script.extend_from_slice(after)?;
-    Ok(script)
+/// Asks a new service in this way what these lists say, one behind another.
+fn plays_in(rt: &impl Abort, alloc: Global, way: Way, scripts: [Script<'_>; 3]) {
+    let mut service = with(rt, alloc, SETTINGS);
+    let [before, between, after] = scripts;
+    goes(rt, alloc, &mut service, way, before);
+    goes(rt, alloc, &mut service, way, between);
+    goes(rt, alloc, &mut service, way, after);
 }
 
-/// Node 1 dies and is cleaned up, after the one and before the other.
-fn dies(rt: &impl Abort, alloc: Global, before: Script<'_>, after: Script<'_>) -> Result<(), Fail> {
-    const ENDS: Script<'static> = &[(Ask::Die(1), Told::Done), (Ask::Cleanup(1), Told::Done)];
-    let script = joined(alloc, before, ENDS, after)?;
-    plays(rt, alloc, 20, &script)
+/// The same in each way.
+fn plays(rt: &impl Abort, alloc: Global, scripts: [Script<'_>; 3]) {
+    plays_in(rt, alloc, Way::Called, scripts);
+    plays_in(rt, alloc, Way::Served, scripts);
+    plays_in(rt, alloc, Way::Tried, scripts);
 }
 
-/// Node 1 releases these values and leaves.
-fn released<'a>(alloc: Global, values: &[u64]) -> Result<Vec<Row<'a>>, AllocError> {
-    let mut script = Vec::new(alloc);
-    for number in values {
-        script.push((Ask::Release(1, *number), Told::Done))?;
-    }
-    script.push((Ask::Leave(1), Told::Done))?;
-    Ok(script)
-}
-
-/// It does so after the one and before the other.
-fn leaves(
-    rt: &impl Abort,
-    alloc: Global,
-    before: Script<'_>,
-    values: &[u64],
-    after: Script<'_>,
-) -> Result<(), Fail> {
-    let ends = released(alloc, values)?;
-    let script = joined(alloc, before, &ends, after)?;
-    plays(rt, alloc, 20, &script)
-}
+/// Node 1 dies and is cleaned up.
+const DIES: Script<'static> = &[(Ask::Die(1), Told::Done), (Ask::Cleanup(1), Told::Done)];
 
 #[test]
-fn a_server_that_is_cleaned_up_is_as_one_that_leaves(rt: HostRuntime) -> Result<(), Fail> {
+fn a_server_that_is_cleaned_up_is_as_one_that_leaves(rt: HostRuntime) {
     const BEFORE: Script<'static> = &[
         (Ask::Join(2), Told::Node(1)),
         (Ask::Client(0), Told::Client(0)),
@@ -85,12 +60,20 @@ fn a_server_that_is_cleaned_up_is_as_one_that_leaves(rt: HostRuntime) -> Result<
         (Ask::Read(0, 11), Told::Words(&[6])),
         (Ask::Receive(0, 9), Told::Nothing),
     ];
-    dies(&rt, rt.alloc(), BEFORE, AFTER)?;
-    leaves(&rt, rt.alloc(), BEFORE, &[1, 5, 6, 7], AFTER)
+    // Node 1 releases what it has, and leaves.
+    const LEAVES: Script<'static> = &[
+        (Ask::Release(1, 1), Told::Done),
+        (Ask::Release(1, 5), Told::Done),
+        (Ask::Release(1, 6), Told::Done),
+        (Ask::Release(1, 7), Told::Done),
+        (Ask::Leave(1), Told::Done),
+    ];
+    plays(&rt, rt.alloc(), [BEFORE, DIES, AFTER]);
+    plays(&rt, rt.alloc(), [BEFORE, LEAVES, AFTER]);
 }
 
 #[test]
-fn a_client_that_is_cleaned_up_is_as_one_that_leaves(rt: HostRuntime) -> Result<(), Fail> {
+fn a_client_that_is_cleaned_up_is_as_one_that_leaves(rt: HostRuntime) {
     const BEFORE: Script<'static> = &[
         (Ask::Join(2), Told::Node(1)),
         (Ask::Server(0), Told::Server(0)),
@@ -122,6 +105,15 @@ fn a_client_that_is_cleaned_up_is_as_one_that_leaves(rt: HostRuntime) -> Result<
         (Ask::Receive(0, 0), Told::Handle(10)),
         (Ask::Read(0, 10), Told::Words(&[6])),
     ];
-    dies(&rt, rt.alloc(), BEFORE, AFTER)?;
-    leaves(&rt, rt.alloc(), BEFORE, &[1, 2, 3, 5, 6], AFTER)
+    // Node 1 releases what it has, and leaves.
+    const LEAVES: Script<'static> = &[
+        (Ask::Release(1, 1), Told::Done),
+        (Ask::Release(1, 2), Told::Done),
+        (Ask::Release(1, 3), Told::Done),
+        (Ask::Release(1, 5), Told::Done),
+        (Ask::Release(1, 6), Told::Done),
+        (Ask::Leave(1), Told::Done),
+    ];
+    plays(&rt, rt.alloc(), [BEFORE, DIES, AFTER]);
+    plays(&rt, rt.alloc(), [BEFORE, LEAVES, AFTER]);
 }

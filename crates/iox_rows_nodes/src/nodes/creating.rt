@@ -1,5 +1,5 @@
 //! Services that are made, and those that may not be.
-use super::service::{id, new, settings};
+use super::service::{SETTINGS, id, new};
 use super::{Ask, Row, Told, plays};
 use crate::expected::equal;
 use iox_control::Settings;
@@ -7,7 +7,6 @@ use iox_model::reply::Refusal;
 use iox_types::identifiers::UniqueSystemId;
 use std::alloc::Global;
 use std::process::Abort;
-use std::test::Fail;
 
 /// Settings, a creator's process, what is asked of it, and why no such service is made, if none is.
 type Made = (Settings, u32, Option<Refusal<u64>>, Option<Refusal<u64>>);
@@ -29,45 +28,63 @@ fn are_refused(rt: &impl Abort, alloc: Global, list: &[Made]) {
     }
 }
 
+const MOST: u64 = (1 << 24) - 2;
+
+/// A service of one node.
+const SINGLE: Settings = Settings {
+    nodes: 1,
+    ..SETTINGS
+};
+
 #[test]
 fn a_limit_past_that_of_any_service_is_refused(rt: HostRuntime) {
-    let most = (1 << 24) - 2;
-    let large = Some(Refusal::LimitTooLarge);
-    let clients = Settings {
-        clients: most + 1,
-        ..settings(1)
+    const LARGE: Option<Refusal<u64>> = Some(Refusal::LimitTooLarge);
+    // A register of the most nodes takes more than a gigabyte.
+    const MANY: Settings = Settings {
+        nodes: 1 << 16,
+        ..SETTINGS
     };
-    let servers = Settings {
-        servers: most + 1,
-        ..settings(1)
+    const NODES: Settings = Settings {
+        nodes: MOST + 1,
+        ..SETTINGS
     };
-    let list = [
-        // A register of the most nodes takes more than a gigabyte.
-        (settings(1 << 16), 1, None, None),
-        (settings(most + 1), 1, None, large),
-        (clients, 1, None, large),
-        (servers, 1, None, large),
+    const CLIENTS: Settings = Settings {
+        clients: MOST + 1,
+        ..SINGLE
+    };
+    const SERVERS: Settings = Settings {
+        servers: MOST + 1,
+        ..SINGLE
+    };
+    const LIST: &[Made] = &[
+        (MANY, 1, None, None),
+        (NODES, 1, None, LARGE),
+        (CLIENTS, 1, None, LARGE),
+        (SERVERS, 1, None, LARGE),
     ];
-    are_refused(&rt, rt.alloc(), &list);
+    are_refused(&rt, rt.alloc(), LIST);
 }
 
 #[test]
 fn a_creator_is_told_the_first_test_that_fails(rt: HostRuntime) {
-    let large = settings(1 << 24);
-    let asked = Some(Refusal::IncompatibleResponseTypes);
-    let invalid = Some(Refusal::InvalidNodeId);
-    let list = [
-        (large, 0, asked, invalid),
-        (settings(1), 0, None, invalid),
-        (large, 1, asked, asked),
-        (settings(1), 1, asked, asked),
-        (settings(1), 1, None, None),
+    const LARGE: Settings = Settings {
+        nodes: 1 << 24,
+        ..SETTINGS
+    };
+    const ASKED: Option<Refusal<u64>> = Some(Refusal::IncompatibleResponseTypes);
+    const INVALID: Option<Refusal<u64>> = Some(Refusal::InvalidNodeId);
+    const LIST: &[Made] = &[
+        (LARGE, 0, ASKED, INVALID),
+        (SINGLE, 0, None, INVALID),
+        (LARGE, 1, ASKED, ASKED),
+        (SINGLE, 1, ASKED, ASKED),
+        (SINGLE, 1, None, None),
     ];
-    are_refused(&rt, rt.alloc(), &list);
+    are_refused(&rt, rt.alloc(), LIST);
 }
 
 #[test]
-fn a_new_service_has_its_creator_alone(rt: HostRuntime) -> Result<(), Fail> {
+fn a_new_service_has_its_creator_alone(rt: HostRuntime) {
     // A limit of no nodes is one of a single node.
     const SCRIPT: &[Row<'static>] = &[
         (Ask::Closed, Told::Answer(false)),
@@ -81,5 +98,5 @@ fn a_new_service_has_its_creator_alone(rt: HostRuntime) -> Result<(), Fail> {
         (Ask::Client(1), Told::Refused(Refusal::UnknownNode)),
         (Ask::Client(0), Told::Client(0)),
     ];
-    plays(&rt, rt.alloc(), 0, SCRIPT)
+    plays(&rt, rt.alloc(), 0, SCRIPT);
 }

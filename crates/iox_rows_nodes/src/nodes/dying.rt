@@ -1,10 +1,9 @@
 //! Nodes that are dead and not yet cleaned up.
 use super::{Ask, Row, Told, plays};
 use iox_model::reply::Refusal;
-use std::test::Fail;
 
 #[test]
-fn a_dead_node_asks_nothing_more(rt: HostRuntime) -> Result<(), Fail> {
+fn a_dead_node_asks_nothing_more(rt: HostRuntime) {
     const SCRIPT: &[Row<'static>] = &[
         (Ask::Join(2), Told::Node(1)),
         (Ask::Client(1), Told::Client(0)),
@@ -25,11 +24,11 @@ fn a_dead_node_asks_nothing_more(rt: HostRuntime) -> Result<(), Fail> {
         // What was refused used no number.
         (Ask::Client(0), Told::Client(1)),
     ];
-    plays(&rt, rt.alloc(), 20, SCRIPT)
+    plays(&rt, rt.alloc(), 20, SCRIPT);
 }
 
 #[test]
-fn a_dead_server_gets_requests_until_its_cleanup(rt: HostRuntime) -> Result<(), Fail> {
+fn a_dead_server_gets_requests_until_its_cleanup(rt: HostRuntime) {
     const SCRIPT: &[Row<'static>] = &[
         (Ask::Join(2), Told::Node(1)),
         (Ask::Client(0), Told::Client(0)),
@@ -55,11 +54,11 @@ fn a_dead_server_gets_requests_until_its_cleanup(rt: HostRuntime) -> Result<(), 
         (Ask::Send(0, 5), Told::Sent(0)),
         (Ask::Connected(0, 5), Told::Answer(false)),
     ];
-    plays(&rt, rt.alloc(), 20, SCRIPT)
+    plays(&rt, rt.alloc(), 20, SCRIPT);
 }
 
 #[test]
-fn a_dead_client_gets_responses_until_its_cleanup(rt: HostRuntime) -> Result<(), Fail> {
+fn a_dead_client_gets_responses_until_its_cleanup(rt: HostRuntime) {
     const SCRIPT: &[Row<'static>] = &[
         (Ask::Join(2), Told::Node(1)),
         (Ask::Server(0), Told::Server(0)),
@@ -86,11 +85,11 @@ fn a_dead_client_gets_responses_until_its_cleanup(rt: HostRuntime) -> Result<(),
         (Ask::Receive(0, 0), Told::Nothing),
         (Ask::Release(0, 5), Told::Done),
     ];
-    plays(&rt, rt.alloc(), 20, SCRIPT)
+    plays(&rt, rt.alloc(), 20, SCRIPT);
 }
 
 #[test]
-fn a_response_of_the_dead_is_received_and_then_no_more(rt: HostRuntime) -> Result<(), Fail> {
+fn a_response_of_the_dead_is_received_and_then_no_more(rt: HostRuntime) {
     const SCRIPT: &[Row<'static>] = &[
         (Ask::Join(2), Told::Node(1)),
         (Ask::Client(0), Told::Client(0)),
@@ -108,5 +107,5 @@ fn a_response_of_the_dead_is_received_and_then_no_more(rt: HostRuntime) -> Resul
         (Ask::Read(0, 4), Told::Words(&[456])),
         (Ask::Release(0, 4), Told::Done),
     ];
-    plays(&rt, rt.alloc(), 20, SCRIPT)
+    plays(&rt, rt.alloc(), 20, SCRIPT);
 }

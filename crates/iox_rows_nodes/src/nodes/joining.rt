@@ -1,10 +1,9 @@
 //! Nodes that join, and those that may not.
 use super::{Ask, Row, Told, plays};
 use iox_model::reply::Refusal;
-use std::test::Fail;
 
 #[test]
-fn a_refused_join_leaves_nothing_behind(rt: HostRuntime) -> Result<(), Fail> {
+fn a_refused_join_leaves_nothing_behind(rt: HostRuntime) {
     const SCRIPT: &[Row<'static>] = &[
         (Ask::Join(0), Told::Refused(Refusal::InvalidNodeId)),
         (Ask::Join(1), Told::Refused(Refusal::NodeIdInUse)),
@@ -26,11 +25,11 @@ fn a_refused_join_leaves_nothing_behind(rt: HostRuntime) -> Result<(), Fail> {
         (Ask::Join(2), Told::Node(3)),
         (Ask::Nodes, Told::Listed(&[0, 3])),
     ];
-    plays(&rt, rt.alloc(), 2, SCRIPT)
+    plays(&rt, rt.alloc(), 2, SCRIPT);
 }
 
 #[test]
-fn the_first_test_that_fails_is_told(rt: HostRuntime) -> Result<(), Fail> {
+fn the_first_test_that_fails_is_told(rt: HostRuntime) {
     const SCRIPT: &[Row<'static>] = &[
         // At the limit of one node, each of these fails a later test as well.
         (Ask::JoinUnfit(0), Told::Refused(Refusal::InvalidNodeId)),
@@ -53,11 +52,11 @@ fn the_first_test_that_fails_is_told(rt: HostRuntime) -> Result<(), Fail> {
             Told::Refused(Refusal::MarkedForDestruction),
         ),
     ];
-    plays(&rt, rt.alloc(), 1, SCRIPT)
+    plays(&rt, rt.alloc(), 1, SCRIPT);
 }
 
 #[test]
-fn a_dead_node_keeps_its_place_and_its_id(rt: HostRuntime) -> Result<(), Fail> {
+fn a_dead_node_keeps_its_place_and_its_id(rt: HostRuntime) {
     const SCRIPT: &[Row<'static>] = &[
         (Ask::Join(2), Told::Node(1)),
         (Ask::Die(1), Told::Done),
@@ -73,11 +72,11 @@ fn a_dead_node_keeps_its_place_and_its_id(rt: HostRuntime) -> Result<(), Fail> {
         (Ask::Client(1), Told::Refused(Refusal::UnknownNode)),
         (Ask::Client(2), Told::Client(0)),
     ];
-    plays(&rt, rt.alloc(), 2, SCRIPT)
+    plays(&rt, rt.alloc(), 2, SCRIPT);
 }
 
 #[test]
-fn the_last_node_that_leaves_closes_the_service(rt: HostRuntime) -> Result<(), Fail> {
+fn the_last_node_that_leaves_closes_the_service(rt: HostRuntime) {
     const SCRIPT: &[Row<'static>] = &[
         (Ask::Join(2), Told::Node(1)),
         (
@@ -91,5 +90,5 @@ fn the_last_node_that_leaves_closes_the_service(rt: HostRuntime) -> Result<(), F
         (Ask::Join(3), Told::Refused(Refusal::MarkedForDestruction)),
         (Ask::Nodes, Told::Listed(&[])),
     ];
-    plays(&rt, rt.alloc(), 2, SCRIPT)
+    plays(&rt, rt.alloc(), 2, SCRIPT);
 }

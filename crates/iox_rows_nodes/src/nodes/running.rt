@@ -1,64 +1,55 @@
 //! Commands that run one after another, and all their replies.
 use super::asking::command;
-use super::service::{settings, with};
+use super::service::{SETTINGS, settings, with};
 use super::{Ask, TheReply, TheService, Told, tells};
-use crate::expected::equal;
+use crate::expected::{equal, holds};
 use iox_control::Settings;
 use iox_model::reply::Refusal;
-use std::alloc::{AllocError, Global};
+use std::alloc::Global;
 use std::process::Abort;
-use std::test::Fail;
 
 /// Runs commands that ask this, and puts their replies behind the others.
 fn run(
-    service: &mut TheService,
+    rt: &impl Abort,
     alloc: Global,
+    service: &mut TheService,
     asks: &[Ask],
     replies: &mut Vec<TheReply>,
-) -> Result<(), AllocError> {
+) {
     let mut commands = Vec::new(alloc);
     for ask in asks {
-        let Some(command) = command(alloc, *ask)? else {
-            return Err(AllocError);
-        };
-        commands.push(command)?;
+        let command = command(rt, alloc, *ask).expect(rt, "a command");
+        holds(rt, commands.push(command).is_ok());
     }
-    service.run(alloc, commands, replies)
+    holds(rt, service.run(alloc, commands, replies).is_ok());
 }
 
 /// Ends the test where the replies are not all of the wanted ones.
 fn are(rt: &impl Abort, replies: &[TheReply], wanted: &[Told<'_>]) {
     equal(rt, replies.len(), wanted.len());
     for (place, (reply, told)) in replies.iter().zip(wanted.iter()).enumerate() {
-        tells(rt, place, reply, *told);
+        tells(rt, place, reply, told);
     }
 }
 
-/// The replies to runs of these lists by a new service, one after another.
-fn ran(alloc: Global, settings: Settings, runs: &[&[Ask]]) -> Result<Vec<TheReply>, AllocError> {
-    let mut service = with(alloc, settings)?;
+/// The replies to runs of these lists, one after another.
+fn ran(rt: &impl Abort, alloc: Global, service: &mut TheService, runs: &[&[Ask]]) -> Vec<TheReply> {
     let mut replies = Vec::new(alloc);
     for asks in runs {
-        run(&mut service, alloc, asks, &mut replies)?;
+        run(rt, alloc, service, asks, &mut replies);
     }
-    Ok(replies)
+    replies
 }
 
-/// Ends the test where these are not the wanted ones.
-fn plays(
-    rt: &impl Abort,
-    alloc: Global,
-    settings: Settings,
-    runs: &[&[Ask]],
-    wanted: &[Told<'_>],
-) -> Result<(), Fail> {
-    let replies = ran(alloc, settings, runs)?;
+/// Ends the test where those of a new service are not the wanted ones.
+fn plays(rt: &impl Abort, alloc: Global, settings: Settings, runs: &[&[Ask]], wanted: &[Told<'_>]) {
+    let mut service = with(rt, alloc, settings);
+    let replies = ran(rt, alloc, &mut service, runs);
     are(rt, &replies, wanted);
-    Ok(())
 }
 
 #[test]
-fn a_request_and_its_response_are_one_run(rt: HostRuntime) -> Result<(), Fail> {
+fn a_request_and_its_response_are_one_run(rt: HostRuntime) {
     const ASKS: &[Ask] = &[
         Ask::Join(2),
         Ask::Client(0),
@@ -81,16 +72,16 @@ fn a_request_and_its_response_are_one_run(rt: HostRuntime) -> Result<(), Fail> {
         Told::Handle(4),
         Told::Words(&[456]),
     ];
-    let queues = Settings {
+    const QUEUES: Settings = Settings {
         request_overflow: false,
         response_overflow: false,
-        ..settings(20)
+        ..SETTINGS
     };
-    plays(&rt, rt.alloc(), queues, &[ASKS], WANTED)
+    plays(&rt, rt.alloc(), QUEUES, &[ASKS], WANTED);
 }
 
 #[test]
-fn a_run_goes_on_behind_what_is_refused(rt: HostRuntime) -> Result<(), Fail> {
+fn a_run_goes_on_behind_what_is_refused(rt: HostRuntime) {
     const ASKS: &[Ask] = &[
         Ask::Client(1),
         Ask::Join(1),
@@ -131,11 +122,11 @@ fn a_run_goes_on_behind_what_is_refused(rt: HostRuntime) -> Result<(), Fail> {
         Told::Handle(4),
         Told::Words(&[5]),
     ];
-    plays(&rt, rt.alloc(), settings(2), &[ASKS], WANTED)
+    plays(&rt, rt.alloc(), settings(2), &[ASKS], WANTED);
 }
 
 #[test]
-fn nodes_come_and_go_until_the_last_is_gone(rt: HostRuntime) -> Result<(), Fail> {
+fn nodes_come_and_go_until_the_last_is_gone(rt: HostRuntime) {
     const ASKS: &[Ask] = &[
         Ask::Join(2),
         Ask::Join(3),
@@ -184,16 +175,16 @@ fn nodes_come_and_go_until_the_last_is_gone(rt: HostRuntime) -> Result<(), Fail>
         Told::Listed(&[]),
         Told::Refused(Refusal::MarkedForDestruction),
     ];
-    plays(&rt, rt.alloc(), settings(20), &[ASKS], WANTED)
+    plays(&rt, rt.alloc(), SETTINGS, &[ASKS], WANTED);
 }
 
 #[test]
-fn a_further_run_puts_its_replies_behind(rt: HostRuntime) -> Result<(), Fail> {
+fn a_further_run_puts_its_replies_behind(rt: HostRuntime) {
     const RUNS: &[&[Ask]] = &[
         &[Ask::Client(0)],
         &[],
         &[Ask::Request(0, 0, 8), Ask::Read(0, 1)],
     ];
     const WANTED: &[Told<'static>] = &[Told::Client(0), Told::Handle(1), Told::Words(&[8])];
-    plays(&rt, rt.alloc(), settings(20), RUNS, WANTED)
+    plays(&rt, rt.alloc(), SETTINGS, RUNS, WANTED);
 }

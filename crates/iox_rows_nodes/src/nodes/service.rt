@@ -5,29 +5,33 @@ use iox_model::reply::Refusal;
 use iox_nodes::{MessageShape, Part};
 use iox_types::identifiers::UniqueSystemId;
 use iox_types::{AllocationStrategy, BackpressureStrategy};
-use std::alloc::{AllocError, Global};
+use std::alloc::Global;
+use std::process::Abort;
+
+/// The defaults, with 20 nodes at most.
+pub(super) const SETTINGS: Settings = Settings {
+    clients: 8,
+    servers: 2,
+    nodes: 20,
+    active_requests: 4,
+    loaned_requests: 2,
+    response_buffer: 2,
+    borrowed_responses: 2,
+    loaned_responses: 2,
+    client_expired: 0,
+    server_expired: 0,
+    request_overflow: true,
+    response_overflow: true,
+    fire_and_forget: true,
+    client_strategy: BackpressureStrategy::RetryUntilDelivered,
+    server_strategy: BackpressureStrategy::RetryUntilDelivered,
+    client_allocation: AllocationStrategy::Static,
+    server_allocation: AllocationStrategy::Static,
+};
 
 /// The defaults, but for the nodes.
 pub(super) fn settings(nodes: u64) -> Settings {
-    Settings {
-        clients: 8,
-        servers: 2,
-        nodes,
-        active_requests: 4,
-        loaned_requests: 2,
-        response_buffer: 2,
-        borrowed_responses: 2,
-        loaned_responses: 2,
-        client_expired: 0,
-        server_expired: 0,
-        request_overflow: true,
-        response_overflow: true,
-        fire_and_forget: true,
-        client_strategy: BackpressureStrategy::RetryUntilDelivered,
-        server_strategy: BackpressureStrategy::RetryUntilDelivered,
-        client_allocation: AllocationStrategy::Static,
-        server_allocation: AllocationStrategy::Static,
-    }
+    Settings { nodes, ..SETTINGS }
 }
 
 const PART: Part = Part {
@@ -64,14 +68,6 @@ pub(super) fn new(
 }
 
 /// A service with these settings, whose first node has the id 1 0 0 0.
-pub(super) fn with(alloc: Global, settings: Settings) -> Result<TheService, AllocError> {
-    match new(alloc, settings, id(1), None) {
-        Ok(service) => Ok(service),
-        Err(_) => Err(AllocError),
-    }
-}
-
-/// The same with so many nodes at most, and all else as at the defaults.
-pub(super) fn first(alloc: Global, nodes: u64) -> Result<TheService, AllocError> {
-    with(alloc, settings(nodes))
+pub(super) fn with(rt: &impl Abort, alloc: Global, settings: Settings) -> TheService {
+    new(alloc, settings, id(1), None).expect(rt, "a service")
 }

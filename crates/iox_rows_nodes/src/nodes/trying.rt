@@ -1,20 +1,17 @@
 //! Commands for which there is no memory, tried and answered.
 use super::asking::{Command, served, tried};
-use super::service::{first, id};
+use super::service::{SETTINGS, id, with};
 use super::{TheService, Told, tells};
 use crate::expected::holds;
 use iox_model::command::{PortCommand, PortOptions};
 use iox_model::reply::Refusal;
 use iox_types::identifiers::UniqueNodeId;
-use std::alloc::{AllocError, Global};
+use std::alloc::Global;
 use std::process::Abort;
-use std::test::Fail;
 
 /// Node 0 makes a client, with this as its greatest length.
-fn client(max_slice_len: u64) -> Result<Command, AllocError> {
-    let Ok(id) = UniqueNodeId::new(id(1)) else {
-        return Err(AllocError);
-    };
+fn client(rt: &impl Abort, max_slice_len: u64) -> Command {
+    let id = UniqueNodeId::new(id(1)).expect(rt, "the id of a node");
     let options = PortOptions {
         max_slice_len,
         pool: None,
@@ -23,11 +20,11 @@ fn client(max_slice_len: u64) -> Result<Command, AllocError> {
         loaned_responses: None,
         handler: None,
     };
-    Ok(Command::Port(PortCommand::Client {
+    Command::Port(PortCommand::Client {
         node: 0,
         id,
         options,
-    }))
+    })
 }
 
 /// A node joins, and what is asked of it is refused for want of memory.
@@ -51,35 +48,33 @@ fn lacks(
     service: &mut TheService,
     commands: (Command, Command),
     refusal: Refusal<u64>,
-) -> Result<(), AllocError> {
+) {
     let (to_try, to_serve) = commands;
     holds(rt, is_wanting(service, alloc, to_try));
-    let reply = served(service, alloc, to_serve)?;
-    tells(rt, 0, &reply, Told::Refused(refusal));
-    Ok(())
+    let reply = served(rt, alloc, service, to_serve);
+    tells(rt, 0, &reply, &Told::Refused(refusal));
 }
 
 /// A client that is too large finds no memory, nor does a node whose join says so. Then there is
 /// only the first node, and its first client has number 0.
-fn changes_nothing(
-    rt: &impl Abort,
-    alloc: Global,
-    service: &mut TheService,
-) -> Result<(), AllocError> {
-    let clients = (client(u64::MAX)?, client(u64::MAX)?);
-    let no_segment = Refusal::UnableToCreateDataSegment;
-    lacks(rt, alloc, service, clients, no_segment)?;
-    lacks(rt, alloc, service, (join(), join()), Refusal::WantOfMemory)?;
-    let listed = served(service, alloc, Command::ListNodes)?;
-    tells(rt, 0, &listed, Told::Listed(&[0]));
-    let made = tried(service, alloc, client(1)?)?;
-    tells(rt, 0, &made, Told::Client(0));
-    Ok(())
+fn changes_nothing(rt: &impl Abort, alloc: Global, service: &mut TheService) {
+    let clients = (client(rt, u64::MAX), client(rt, u64::MAX));
+    lacks(
+        rt,
+        alloc,
+        service,
+        clients,
+        Refusal::UnableToCreateDataSegment,
+    );
+    lacks(rt, alloc, service, (join(), join()), Refusal::WantOfMemory);
+    let listed = served(rt, alloc, service, Command::ListNodes);
+    tells(rt, 0, &listed, &Told::Listed(&[0]));
+    let made = tried(rt, alloc, service, client(rt, 1));
+    tells(rt, 0, &made, &Told::Client(0));
 }
 
 #[test]
-fn what_finds_no_memory_changes_nothing(rt: HostRuntime) -> Result<(), Fail> {
-    let mut service = first(rt.alloc(), 20)?;
-    changes_nothing(&rt, rt.alloc(), &mut service)?;
-    Ok(())
+fn what_finds_no_memory_changes_nothing(rt: HostRuntime) {
+    let mut service = with(&rt, rt.alloc(), SETTINGS);
+    changes_nothing(&rt, rt.alloc(), &mut service);
 }
