@@ -3,7 +3,7 @@
 use iox_model::kind::Kind;
 
 /// What a hub keeps of a handle beside the message: the message lies in a slot of a pool.
-#[derive(Clone, Copy, Debug, PartialEq, Eq)]
+#[derive(Clone, Copy, Debug, PartialEq, Eq, Drop)]
 pub struct Entry {
     /// The node that has the handle.
     pub node: u64,
@@ -18,4 +18,30 @@ pub struct Entry {
     pub client: u64,
     /// Of a pending response: how many servers the request was delivered to.
     pub connections: u64,
+}
+
+/// The number of no handle: a place with it is vacant.
+pub const NOBODY: u64 = u64::MAX;
+
+impl Entry {
+    /// What stands in a vacant place.
+    #[inline(always)]
+    pub(crate) fn vacant() -> Entry {
+        Entry {
+            node: 0,
+            number: NOBODY,
+            kind: Kind::Client,
+            port: 0,
+            pool: 0,
+            slot: 0,
+            client: 0,
+            connections: 0,
+        }
+    }
+
+    /// Whether a handle is there.
+    #[inline(always)]
+    pub(crate) fn is_there(&self) -> bool {
+        self.number != NOBODY
+    }
 }

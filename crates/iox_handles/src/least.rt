@@ -19,17 +19,17 @@ pub fn lesser(first: Option<u64>, second: Option<u64>) -> Option<u64>
 
 /// The number of the handle that is there, if it is of that node.
 #[inline]
-pub fn number_for(place: Option<Entry>, node: u64) -> Option<u64>
+pub fn number_for(place: Entry, node: u64) -> Option<u64>
     ensures { result ≡ number_for node place }
 {
-    match place {
-        Some(entry) if entry.node == node => Some(entry.number),
-        _ => None,
+    if place.is_there() && place.node == node {
+        return Some(place.number);
     }
+    None
 }
 
 /// The least number of the node's handles.
-pub fn least_in(places: &[Option<Entry>], node: u64) -> Option<u64>
+pub fn least_in(places: &[Entry], node: u64) -> Option<u64>
     ensures { result ≡ least_in node places.now }
 {
     let mut least = None;

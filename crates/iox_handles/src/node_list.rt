@@ -78,7 +78,7 @@ impl NodeList {
     }
 
     /// Lists the node's handles.
-    pub fn fill(&mut self, places: &[Option<Entry>], node: u64, next: u64)
+    pub fn fill(&mut self, places: &[Entry], node: u64, next: u64)
         requires room { length places.now ≤ self.old.room }
         ensures listed { AllListed places.now self.new }
         ensures anew { self.new ≡ listed_anew self.old node next self.new.list }
@@ -92,7 +92,7 @@ impl NodeList {
     }
 
     /// The first of those listed that is there, which is the node's handle of the least number.
-    pub fn first(&mut self, places: &[Option<Entry>]) -> Option<Numbered>
+    pub fn first(&mut self, places: &[Entry]) -> Option<Numbered>
         requires listed { AllListed places.now self.old }
         ensures least { option_map (λ v. v.number) result ≡ least_in self.old.node places.now }
         ensures listed { AllListed places.now self.new }

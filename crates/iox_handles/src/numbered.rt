@@ -15,7 +15,7 @@ pub struct Numbered {
 }
 
 /// Lists the node's handles, place by place. There is memory for as many as there are places.
-pub fn list_in(places: &[Option<Entry>], node: u64, list: &mut Vec<Numbered>)
+pub fn list_in(places: &[Entry], node: u64, list: &mut Vec<Numbered>)
     requires empty { list.old.items ≡ [] }
     requires room { length places.now ≤ vec_capacity list.old }
     ensures listed { AreListed node places.now list.new.items }
@@ -30,21 +30,19 @@ pub fn list_in(places: &[Option<Entry>], node: u64, list: &mut Vec<Numbered>)
 
 /// Whether the node's handle that is listed so is there.
 #[inline]
-fn is_listed_there(places: &[Option<Entry>], node: u64, listed: Numbered) -> bool
+fn is_listed_there(places: &[Entry], node: u64, listed: Numbered) -> bool
     ensures { result ≡ has_listed node places.now listed }
 {
     if listed.place >= places.len() {
         return false;
     }
-    match places[listed.place] {
-        Some(entry) => entry.node == node && entry.number == listed.number,
-        None => false,
-    }
+    let entry = places[listed.place];
+    entry.is_there() && entry.node == node && entry.number == listed.number
 }
 
 /// From there on, where the first of those listed is whose handle is there.
 pub fn first_there(
-    places: &[Option<Entry>],
+    places: &[Entry],
     node: u64,
     list: &[Numbered],
     from: usize,

@@ -6,55 +6,45 @@ ghost use Rattle.iox_handles.specs.Places.{has_at, in_places, is_numbered, passe
 ghost use Rattle.iox_handles.specs.Tables.{has_port, is_of, of_kind};
 ghost use Rattle.iox_model.specs.Handles.{kind_code, same_kind};
 
-use crate::entry::Entry;
+use crate::entry::{Entry, NOBODY};
 use crate::entry_test::EntryTest;
 use iox_model::kind::Kind;
 
 /// Whether there is a handle of that number.
 #[inline]
-pub fn is_handle(place: Option<Entry>, number: u64) -> bool
+pub fn is_handle(place: Entry, number: u64) -> bool
     ensures { result ≡ is_numbered number place }
 {
-    match place {
-        Some(entry) => entry.number == number,
-        None => false,
-    }
+    place.number == number
 }
 
 /// Whether the handle of that number is in the place.
 #[inline]
-pub fn is_there(places: &[Option<Entry>], place: usize, number: u64) -> bool
+pub fn is_there(places: &[Entry], place: usize, number: u64) -> bool
     ensures { result ≡ has_at number places.now place }
 {
     place < places.len() && is_handle(places[place], number)
 }
 
-/// The place of the handle of that number. It is looked for in the likely place first, then at the
-/// hint, then in each.
-#[inline]
-pub fn place_of(places: &[Option<Entry>], number: u64, likely: usize, hint: usize) -> Option<usize>
+/// The place of the handle of that number. It is looked for at the hint first, then in the likely
+/// place, then in each. `NOBODY` is no handle's number.
+#[inline(never)]
+pub fn place_in(places: &[Entry], number: u64, likely: &[usize]) -> Option<usize>
     ensures found { IfSome result (λ place. has_at number places.now place ≡ true) }
     ensures missing { result ≡ None → in_places places.now number ≡ None }
 {
-    if is_there(places, likely, number) {
-        return Some(likely);
+    if number == NOBODY {
+        return None;
     }
-    place_in(places, number, hint)
-}
-
-/// The same, where it is not in the likely place.
-fn place_in(places: &[Option<Entry>], number: u64, hint: usize) -> Option<usize>
-    ensures found { IfSome result (λ place. has_at number places.now place ≡ true) }
-    ensures missing { result ≡ None → in_places places.now number ≡ None }
-{
-    if is_there(places, hint, number) {
-        return Some(hint);
+    let guess = likely[(number & 0xff) as usize];
+    if is_there(places, guess, number) {
+        return Some(guess);
     }
     first_of(places, number)
 }
 
 /// The first place with a handle of that number.
-fn first_of(places: &[Option<Entry>], number: u64) -> Option<usize>
+fn first_of(places: &[Entry], number: u64) -> Option<usize>
     ensures { result ≡ position (is_numbered number) places.now }
 {
     places.iter().position(|place| is_handle(*place, number))
@@ -62,17 +52,14 @@ fn first_of(places: &[Option<Entry>], number: u64) -> Option<usize>
 
 /// Whether there is a handle of that port.
 #[inline]
-fn is_of_port(place: Option<Entry>, port: u64) -> bool
+fn is_of_port(place: Entry, port: u64) -> bool
     ensures { result ≡ passes (has_port port) place }
 {
-    match place {
-        Some(entry) => entry.port == port,
-        None => false,
-    }
+    place.is_there() && place.port == port
 }
 
 /// The first place from that one on with a handle of that port.
-fn next_of_port(places: &[Option<Entry>], port: u64, from: usize) -> Option<usize>
+fn next_of_port(places: &[Entry], port: u64, from: usize) -> Option<usize>
     ensures { IfSome result (λ _. list_any (passes (has_port port)) places.now ≡ true) }
 {
     for place in from..places.len() {
@@ -84,31 +71,20 @@ fn next_of_port(places: &[Option<Entry>], port: u64, from: usize) -> Option<usiz
 }
 
 /// The first place with a handle of that port.
-fn first_of_port(places: &[Option<Entry>], port: u64) -> Option<usize>
+fn first_of_port(places: &[Entry], port: u64) -> Option<usize>
     ensures { result ≡ position (passes (has_port port)) places.now }
 {
     places.iter().position(|place| is_of_port(*place, port))
 }
 
 /// A place with a handle of that port: the first from the hint on, or else the first of all.
-pub fn place_of_port(places: &[Option<Entry>], port: u64, hint: usize) -> Option<usize>
+pub fn place_of_port(places: &[Entry], port: u64, hint: usize) -> Option<usize>
     ensures { is_some result ≡ list_any (passes (has_port port)) places.now }
 {
     if let Some(place) = next_of_port(places, port, hint) {
         return Some(place);
     }
     first_of_port(places, port)
-}
-
-/// The handle that is there is of that kind now.
-#[inline(always)]
-pub fn set_kind(place: &mut Option<Entry>, kind: Kind)
-    ensures { place.new ≡ option_map (of_kind kind) place.old }
-{
-    match place {
-        Some(entry) => entry.kind = kind,
-        None => {}
-    }
 }
 
 /// Whether two kinds are one.
@@ -137,27 +113,21 @@ fn code(kind: Kind) -> u64
 }
 
 /// Whether there is a handle of that port and kind.
-fn is_counted(place: Option<Entry>, port: u64, kind: Kind) -> bool
+fn is_counted(place: Entry, port: u64, kind: Kind) -> bool
     ensures { result ≡ passes (is_of port kind) place }
 {
-    let Some(entry) = place else {
-        return false;
-    };
-    entry.port == port && is_same_kind(entry.kind, kind)
+    place.is_there() && place.port == port && is_same_kind(place.kind, kind)
 }
 
 /// Whether there is a handle, and it passes the test.
-fn does_pass<T: EntryTest>(place: Option<Entry>, test: &T) -> bool
+fn does_pass<T: EntryTest>(place: Entry, test: &T) -> bool
     ensures { result ≡ passes (T.passes test.now) place }
 {
-    let Some(entry) = place else {
-        return false;
-    };
-    test.passes(entry)
+    place.is_there() && test.passes(place)
 }
 
 /// How many places have handles that pass the test.
-pub fn count_if_in<T: EntryTest>(places: &[Option<Entry>], test: &T) -> usize
+pub fn count_if_in<T: EntryTest>(places: &[Entry], test: &T) -> usize
     ensures { result ≡ count_by (passes (T.passes test.now)) places.now }
 {
     places
@@ -167,7 +137,7 @@ pub fn count_if_in<T: EntryTest>(places: &[Option<Entry>], test: &T) -> usize
 }
 
 /// How many places have handles of that port and kind.
-pub fn count_in(places: &[Option<Entry>], port: u64, kind: Kind) -> usize
+pub fn count_in(places: &[Entry], port: u64, kind: Kind) -> usize
     ensures { result ≡ count_by (passes (is_of port kind)) places.now }
 {
     places

@@ -7,13 +7,13 @@ ghost use Rattle.iox_handles.specs.Tables.{IsSound, added, changed, count_like, 
 
 mod removing;
 
-use crate::entry::Entry;
+use crate::entry::{Entry, NOBODY};
 use crate::entry_test::EntryTest;
 use crate::kind_change::KindChange;
 use crate::least::least_in;
 use crate::node_list::NodeList;
 use crate::numbered::Numbered;
-use crate::places::{count_if_in, count_in, place_of, place_of_port, set_kind};
+use crate::places::{count_if_in, count_in, is_there, place_in, place_of_port};
 use crate::tally::Tally;
 use iox_model::kind::Kind;
 use std::alloc::{AllocError, Global};
@@ -29,11 +29,11 @@ const NOWHERE: usize = usize::MAX;
 /// `reserve` take memory.
 #[derive(Drop)]
 pub struct Table {
-    places: Vec<Option<Entry>>,
+    places: Vec<Entry>,
     // The vacant places.
     free: Vec<usize>,
-    // How many handles may come, in vacant places or in new ones.
-    room: usize,
+    // How many places there may be, vacant ones and new ones too.
+    most: usize,
     // Above the number of each handle.
     next: u64,
     // By remainders of their numbers, where handles are likely to be: of two with one remainder,
@@ -75,28 +75,6 @@ fn remainder(number: u64) -> usize
     (number % REMAINDERS as u64) as usize
 }
 
-/// The place, where none is kept yet.
-#[inline]
-fn kept(place: usize, other: usize) -> usize
-    ensures { result ≡ (if place == 2 ^ 64 - 1 then other else place) }
-{
-    if place == NOWHERE {
-        return other;
-    }
-    place
-}
-
-/// No place, where that one is kept.
-#[inline]
-fn forgotten(place: usize, other: usize) -> usize
-    ensures { result ≡ (if place == other then 2 ^ 64 - 1 else place) }
-{
-    if place == other {
-        return NOWHERE;
-    }
-    place
-}
-
 impl Table {
     /// A table with room for so many handles.
     pub fn new(alloc: Global, room: usize) -> Result<Table, AllocError>
@@ -108,7 +86,7 @@ impl Table {
         Ok(Table {
             places,
             free,
-            room,
+            most: room,
             next: 0,
             likely: [NOWHERE; REMAINDERS],
             found: [0; REMAINDERS],
@@ -123,7 +101,7 @@ impl Table {
         ensures room { result ≡ self.now.room }
         ensures sound { IsSound self.now }
     {
-        self.room
+        self.most - self.places.len() + self.free.len()
     }
 
     /// Makes room for so many handles more.
@@ -132,13 +110,13 @@ impl Table {
             ≡ record (self.old) { room = self.old.room + more }) }
         ensures unchanged { OnErr result (self.new ≡ self.old) }
     {
-        let Some(room) = self.room.checked_add(more) else {
+        let Some(most) = self.most.checked_add(more) else {
             return Err(AllocError);
         };
-        self.places.reserve(room - self.free.len())?;
+        self.places.reserve(most - self.places.len())?;
         self.free.reserve(self.places.capacity() - self.free.len())?;
         self.listed.reserve(self.places.capacity())?;
-        self.room = room;
+        self.most = most;
         Ok(())
     }
 
@@ -151,29 +129,49 @@ impl Table {
         ensures added { self.new ≡ added self.old entry }
         ensures has { handle_at self.new entry.number ≡ Some entry }
     {
-        self.room -= 1;
         self.next = entry.number + 1;
         self.tally.count(entry.port, entry.kind);
-        let at = remainder(entry.number);
-        match self.free.pop() {
+        let place = match self.free.pop() {
             Some(place) => {
-                self.places[place] = Some(entry);
-                self.likely[at] = kept(self.likely[at], place);
+                let there = &mut self.places[place];
+                there.node = entry.node;
+                there.number = entry.number;
+                there.kind = entry.kind;
+                there.port = entry.port;
+                there.pool = entry.pool;
+                there.slot = entry.slot;
+                there.client = entry.client;
+                there.connections = entry.connections;
                 place
             }
-            None => {
-                let place = self.places.len();
-                self.places.push_reserved(Some(entry));
-                self.likely[at] = kept(self.likely[at], place);
-                place
-            }
-        }
+            None => self.add_new(entry),
+        };
+        self.likely[remainder(entry.number)] = place;
+        place
     }
 
-    /// Where the handle of that number is likely to be: each search tests it.
-    #[inline]
-    fn guess(&self, number: u64) -> usize {
-        self.likely[remainder(number)]
+    /// The same, in a new place.
+    #[inline(never)]
+    fn add_new(&mut self, entry: Entry) -> usize {
+        let place = self.places.len();
+        self.places.push_reserved(entry);
+        place
+    }
+
+    /// The place of the handle of that number, which is looked for at the hint first.
+    #[inline(always)]
+    pub(crate) fn place_of(&self, number: u64, hint: usize) -> Option<usize> {
+        if number != NOBODY && is_there(&self.places, hint, number) {
+            return Some(hint);
+        }
+        place_in(&self.places, number, &self.likely)
+    }
+
+    /// The handle in that place goes.
+    #[inline(always)]
+    pub(crate) fn vacate(&mut self, place: usize) {
+        self.places[place].number = NOBODY;
+        self.free.push_reserved(place);
     }
 
     /// The handle of that number, which is looked for in its likely place and at the hint first.
@@ -181,8 +179,8 @@ impl Table {
         ensures found { result ≡ handle_at self.now number }
         ensures sound { IsSound self.now }
     {
-        let place = place_of(&self.places, number, self.guess(number), hint)?;
-        self.places[place]
+        let place = self.place_of(number, hint)?;
+        Some(self.places[place])
     }
 
     /// Removes the handle of that number, which is looked for in its likely place and at the hint
@@ -193,15 +191,11 @@ impl Table {
         ensures gone { handle_at self.new number ≡ None }
         ensures unchanged { result ≡ None → self.new ≡ self.old }
     {
-        let place = place_of(&self.places, number, self.guess(number), hint)?;
+        let place = self.place_of(number, hint)?;
         let entry = self.places[place];
-        let kept_at = remainder(number);
-        self.likely[kept_at] = forgotten(self.likely[kept_at], place);
-        self.tally.discount_any(entry);
-        self.places[place] = None;
-        self.free.push_reserved(place);
-        self.room += 1;
-        entry
+        self.tally.discount(entry.port, entry.kind);
+        self.vacate(place);
+        Some(entry)
     }
 
     /// Changes the handle of that number, which is looked for in its likely place and at the hint
@@ -211,13 +205,13 @@ impl Table {
         ensures changed { IsSome result → self.new ≡ changed self.old entry }
         ensures unchanged { result ≡ None → self.new ≡ self.old }
     {
-        let place = place_of(&self.places, entry.number, self.guess(entry.number), hint)?;
+        let place = self.place_of(entry.number, hint)?;
         let old = self.places[place];
-        self.tally.discount_any(old);
+        self.tally.discount(old.port, old.kind);
         self.tally.count(entry.port, entry.kind);
-        self.places[place] = Some(entry);
+        self.places[place] = entry;
         self.listed.forget();
-        old
+        Some(old)
     }
 
     /// Removes the node's handle of that number, which is looked for in its likely place and at the
@@ -230,17 +224,13 @@ impl Table {
         ensures unchanged { result ≡ None → self.new ≡ self.old }
         ensures sound { IsSound self.old }
     {
-        let at = place_of(&self.places, number, self.guess(number), hint)?;
-        let entry = self.places[at]?;
+        let at = self.place_of(number, hint)?;
+        let entry = self.places[at];
         if entry.node != node {
             return None;
         }
-        let kept_at = remainder(number);
-        self.likely[kept_at] = forgotten(self.likely[kept_at], at);
         self.tally.discount(entry.port, entry.kind);
-        self.places[at].take();
-        self.free.push_reserved(at);
-        self.room = self.room + 1;
+        self.vacate(at);
         Some(entry)
     }
 
@@ -253,14 +243,14 @@ impl Table {
         ensures unchanged { result ≡ None → self.new ≡ self.old }
         ensures sound { IsSound self.old }
     {
-        let at = place_of(&self.places, entry.number, self.guess(entry.number), hint)?;
-        let old = self.places[at]?;
+        let at = self.place_of(entry.number, hint)?;
+        let old = self.places[at];
         if old.node != entry.node {
             return None;
         }
         self.tally.discount(old.port, old.kind);
         self.tally.count(entry.port, entry.kind);
-        self.places[at] = Some(entry);
+        self.places[at] = entry;
         Some(old)
     }
 
@@ -280,13 +270,13 @@ impl Table {
         ensures unchanged { result ≡ None → self.new ≡ self.old }
         ensures sound { IsSound self.old }
     {
-        let here = place_of(&self.places, number, self.guess(number), hint)?;
-        let old = self.places[here]?;
+        let here = self.place_of(number, hint)?;
+        let old = self.places[here];
         if old.node != node {
             return None;
         }
         let kind = change.becomes(old)?;
-        set_kind(&mut self.places[here], kind);
+        self.places[here].kind = kind;
         Some(Entry { kind, ..old })
     }
 
