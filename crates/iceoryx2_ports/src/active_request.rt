@@ -56,14 +56,14 @@ pub struct ActiveRequest<Q, QH, P, PH> {
 
 impl<Q: Payload, QH: Words, P: Payload, PH: Words> ActiveRequest<Q, QH, P, PH> {
     /// The node's active request of that number.
-    pub(crate) fn new(node: u64, number: u64) -> Self
+    pub(crate) fn new(node: u64, number: u64, hint: usize) -> Self
         ensures node { result.node ≡ node }
         ensures number { result.number ≡ number }
     {
         ActiveRequest {
             node,
             number,
-            hint: usize::MAX,
+            hint,
             of: PhantomData,
         }
     }
@@ -220,7 +220,7 @@ impl<Q: Payload, QH: Words, E: Words, PH: Words> ActiveRequest<Q, QH, One<E>, PH
         ensures left { OnErr result (hub.new ≡ with_control hub.old hub.new.control) }
     {
         match lend_response(hub, self.node, self.number, self.hint, 1, true) {
-            Ok(number) => Ok(ResponseMutUninit::new(self.node, number)),
+            Ok((number, place)) => Ok(ResponseMutUninit::new(self.node, number, place)),
             Err(error) => Err(error),
         }
     }
@@ -259,7 +259,7 @@ impl<Q: Payload, QH: Words, E: Words, PH: Words> ActiveRequest<Q, QH, One<E>, PH
         ensures left { OnErr result (hub.new ≡ with_control hub.old hub.new.control) }
     {
         match lend_response(hub, self.node, self.number, self.hint, 1, false) {
-            Ok(number) => Ok(ResponseMut::new(self.node, number)),
+            Ok((number, place)) => Ok(ResponseMut::new(self.node, number, place)),
             Err(error) => Err(error),
         }
     }
@@ -300,7 +300,7 @@ impl<Q: Payload, QH: Words, E: Words, PH: Words> ActiveRequest<Q, QH, Many<E>, P
         ensures left { OnErr result (hub.new ≡ with_control hub.old hub.new.control) }
     {
         match lend_response(hub, self.node, self.number, self.hint, elements, true) {
-            Ok(number) => Ok(ResponseMutUninit::new(self.node, number)),
+            Ok((number, place)) => Ok(ResponseMutUninit::new(self.node, number, place)),
             Err(error) => Err(error),
         }
     }
@@ -340,7 +340,7 @@ impl<Q: Payload, QH: Words, E: Words, PH: Words> ActiveRequest<Q, QH, Many<E>, P
         ensures left { OnErr result (hub.new ≡ with_control hub.old hub.new.control) }
     {
         match lend_response(hub, self.node, self.number, self.hint, elements, false) {
-            Ok(number) => Ok(ResponseMut::new(self.node, number)),
+            Ok((number, place)) => Ok(ResponseMut::new(self.node, number, place)),
             Err(error) => Err(error),
         }
     }

@@ -162,7 +162,7 @@ impl<E: Words, QH: Words, P: Payload, PH: Words> Client<One<E>, QH, P, PH> {
         ensures left { OnErr result (hub.new ≡ with_control hub.old hub.new.control) }
     {
         match lend_request(hub, self.node, self.number, 1, true) {
-            Ok(number) => Ok(RequestMutUninit::new(self.node, number)),
+            Ok((number, place)) => Ok(RequestMutUninit::new(self.node, number, place)),
             Err(error) => Err(error),
         }
     }
@@ -202,7 +202,7 @@ impl<E: Words, QH: Words, P: Payload, PH: Words> Client<One<E>, QH, P, PH> {
         ensures left { OnErr result (hub.new ≡ with_control hub.old hub.new.control) }
     {
         match lend_request(hub, self.node, self.number, 1, false) {
-            Ok(number) => Ok(RequestMut::new(self.node, number)),
+            Ok((number, place)) => Ok(RequestMut::new(self.node, number, place)),
             Err(error) => Err(error),
         }
     }
@@ -244,7 +244,7 @@ impl<E: Words, QH: Words, P: Payload, PH: Words> Client<Many<E>, QH, P, PH> {
         ensures left { OnErr result (hub.new ≡ with_control hub.old hub.new.control) }
     {
         match lend_request(hub, self.node, self.number, elements, true) {
-            Ok(number) => Ok(RequestMutUninit::new(self.node, number)),
+            Ok((number, place)) => Ok(RequestMutUninit::new(self.node, number, place)),
             Err(error) => Err(error),
         }
     }
@@ -285,7 +285,7 @@ impl<E: Words, QH: Words, P: Payload, PH: Words> Client<Many<E>, QH, P, PH> {
         ensures left { OnErr result (hub.new ≡ with_control hub.old hub.new.control) }
     {
         match lend_request(hub, self.node, self.number, elements, false) {
-            Ok(number) => Ok(RequestMut::new(self.node, number)),
+            Ok((number, place)) => Ok(RequestMut::new(self.node, number, place)),
             Err(error) => Err(error),
         }
     }

@@ -39,7 +39,7 @@ pub(crate) fn lend_request<Q: Payload, QH: Words, P: Payload, PH: Words, H: Back
     client: u64,
     elements: usize,
     uninit: bool,
-) -> Result<u64, LoanError>
+) -> Result<(u64, usize), LoanError>
     requires has { HasValue hub.old node client kinds.Client }
     requires default { uninit ≡ false → IsSome hub.old.request.default }
     ensures whole { (x : Given) → IsWholeCall (state_of_hub x hub.old) node
@@ -68,7 +68,7 @@ pub(crate) fn lend_request<Q: Payload, QH: Words, P: Payload, PH: Words, H: Back
     match iox_hub_laws::lend_request(hub, node, client, elements, uninit) {
         Lent::Handle(loan) => {
             hub.is_in_order();
-            Ok(loan.number)
+            Ok((loan.number, loan.place))
         }
         Lent::Refused(LoanRefusal::CallsSpent) => Err(LoanError::CallsSpent),
         Lent::Refused(LoanRefusal::WrongLength) => Err(LoanError::WrongLength),
@@ -88,7 +88,7 @@ pub(crate) fn lend_response<Q: Payload, QH: Words, P: Payload, PH: Words, H: Bac
     hint: usize,
     elements: usize,
     uninit: bool,
-) -> Result<u64, LoanError>
+) -> Result<(u64, usize), LoanError>
     requires has { HasValue hub.old node number kinds.ActiveRequest }
     requires default { uninit ≡ false → IsSome hub.old.response.default }
     ensures whole { (x : Given) → IsWholeCall (state_of_hub x hub.old) node
@@ -114,7 +114,7 @@ pub(crate) fn lend_response<Q: Payload, QH: Words, P: Payload, PH: Words, H: Bac
 {
     hub.is_in_order();
     match iox_hub_laws::lend_response(hub, node, number, hint, elements, uninit) {
-        Lent::Handle(loan) => Ok(loan.number),
+        Lent::Handle(loan) => Ok((loan.number, loan.place)),
         Lent::Refused(LoanRefusal::CallsSpent) => Err(LoanError::CallsSpent),
         Lent::Refused(LoanRefusal::WrongLength) => Err(LoanError::WrongLength),
         Lent::Refused(LoanRefusal::ExceedsMaxLoanSize) => Err(LoanError::ExceedsMaxLoanSize),

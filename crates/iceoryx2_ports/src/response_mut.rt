@@ -64,14 +64,14 @@ pub struct ResponseMut<Q, QH, P, PH> {
 
 impl<Q: Payload, QH: Words, P: Payload, PH: Words> ResponseMutUninit<Q, QH, P, PH> {
     /// The node's unfilled response of that number.
-    pub(crate) fn new(node: u64, number: u64) -> Self
+    pub(crate) fn new(node: u64, number: u64, hint: usize) -> Self
         ensures node { result.node ≡ node }
         ensures number { result.number ≡ number }
     {
         ResponseMutUninit {
             node,
             number,
-            hint: usize::MAX,
+            hint,
             of: PhantomData,
         }
     }
@@ -211,14 +211,14 @@ impl<Q: Payload, QH: Words, E: Words, PH: Words> ResponseMutUninit<Q, QH, One<E>
 
 impl<Q: Payload, QH: Words, P: Payload, PH: Words> ResponseMut<Q, QH, P, PH> {
     /// The node's filled response of that number.
-    pub(crate) fn new(node: u64, number: u64) -> Self
+    pub(crate) fn new(node: u64, number: u64, hint: usize) -> Self
         ensures node { result.node ≡ node }
         ensures number { result.number ≡ number }
     {
         ResponseMut {
             node,
             number,
-            hint: usize::MAX,
+            hint,
             of: PhantomData,
         }
     }

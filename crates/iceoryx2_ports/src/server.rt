@@ -97,7 +97,7 @@ impl<Q: Payload, QH: Words, P: Payload, PH: Words> Server<Q, QH, P, PH> {
     {
         hub.is_in_order();
         match receive_request(hub, self.node, self.number) {
-            Received::Handle(number) => Ok(Some(ActiveRequest::new(self.node, number))),
+            Received::Handle(number, place) => Ok(Some(ActiveRequest::new(self.node, number, place))),
             Received::Nothing => Ok(None),
             Received::AtLimit => Err(ReceiveError::ExceedsMaxBorrows),
         }

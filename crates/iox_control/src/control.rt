@@ -19,6 +19,7 @@ ghost use Rattle.iox_slots.specs.Slots.{held};
 ghost use Rattle.iox_control.specs.Controls.{ControlState, HaveBuffers, IsControl, new_control, with_got, with_handle, with_tables};
 ghost use Rattle.iox_control.specs.Entries.{handle_state};
 
+use crate::received::Received;
 use crate::settings::Settings;
 use iox_handles::{Entry, Table};
 use iox_hub_ports::ports::Ports;
@@ -131,14 +132,15 @@ impl Control {
 
     /// Adds a handle, whose number is the next one.
     #[inline(always)]
-    pub fn add_handle(&mut self, entry: Entry)
+    pub fn add_handle(&mut self, entry: Entry) -> usize
         requires room { 0 < self.old.room }
         requires number { entry.number ≡ self.old.tables.next_number }
         requires count { entry.number + 1 < 2 ^ 64 }
         ensures { self.new ≡ with_handle self.old (handle_state entry) }
     {
-        self.handles.add(entry);
+        let place = self.handles.add(entry);
         self.next_number += 1;
+        place
     }
 
     /// What a server is handed: under fire-and-forget any request, else those that are still named.
@@ -186,7 +188,7 @@ impl Control {
     /// Hands the message in that slot to a port of that role: it has a handle, and the call is
     /// counted.
     #[inline(always)]
-    pub fn got(&mut self, node: u64, role: Role, port: u64, pool: usize, slot: u64) -> u64
+    pub fn got(&mut self, node: u64, role: Role, port: u64, pool: usize, slot: u64) -> Received
         requires room { 0 < self.old.room }
         requires number { self.old.tables.next_number + 1 < 2 ^ 64 }
         requires calls { self.old.tables.calls + 1 < 2 ^ 64 }
@@ -197,8 +199,8 @@ impl Control {
     {
         let entry = self.got_entry(node, role, port, pool, slot);
         self.hold(pool, slot);
-        self.add_handle(entry);
+        let place = self.add_handle(entry);
         self.count_call();
-        entry.number
+        Received::Handle(entry.number, place)
     }
 }

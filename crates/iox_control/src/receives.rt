@@ -31,7 +31,7 @@ impl Control {
         let wanted = self.wanted_by_server();
         match self.visit(server, 0, wanted) {
             Visits::Got(_, pool, slot) => {
-                Received::Handle(self.got(node, Role::Server, server, pool, slot))
+                self.got(node, Role::Server, server, pool, slot)
             }
             Visits::AtLimit => Received::AtLimit,
             Visits::Nothing => {
@@ -61,7 +61,7 @@ impl Control {
         let label = self.label(entry.pool, entry.slot);
         match self.visit(entry.port, label.lane, Wanted::Of(label.request)) {
             Visits::Got(_, pool, slot) => {
-                Received::Handle(self.got(node, Role::Client, entry.port, pool, slot))
+                self.got(node, Role::Client, entry.port, pool, slot)
             }
             Visits::AtLimit => Received::AtLimit,
             Visits::Nothing => {

@@ -30,6 +30,8 @@ pub struct Lending {
 pub struct Loaned {
     /// The number of its handle.
     pub number: u64,
+    /// Where its handle is looked for first.
+    pub place: usize,
     /// The place of the pool, and the slot there.
     pub pool: usize,
     pub slot: u64,

@@ -59,7 +59,7 @@ fn loan_entry(control: &Control, lender: &Lending, uninit: bool, slot: u64) -> E
 
 /// The loan in that slot is handed out; it answers the number of its handle.
 #[inline(always)]
-fn hand_out(control: &mut Control, lender: &Lending, uninit: bool, slot: u64) -> u64
+fn hand_out(control: &mut Control, lender: &Lending, uninit: bool, slot: u64) -> (u64, usize)
     requires room { 0 < control.old.room }
     requires number { control.old.tables.next_number + 1 < 2 ^ 64 }
     requires calls { control.old.tables.calls + 1 < 2 ^ 64 }
@@ -71,9 +71,9 @@ fn hand_out(control: &mut Control, lender: &Lending, uninit: bool, slot: u64) ->
 {
     let entry = loan_entry(control, lender, uninit, slot);
     control.count_loan(lender.port.number);
-    control.add_handle(entry);
+    let place = control.add_handle(entry);
     control.count_call();
-    entry.number
+    (entry.number, place)
 }
 
 /// The loan is made in a slot that nobody has. It is `None` where there is none, and then nothing
@@ -93,9 +93,10 @@ pub(crate) fn lend_free(control: &mut Control, lender: &Lending, asked: Asked) -
     let Some(slot) = take(control, lender, asked.elements) else {
         return None;
     };
-    let number = hand_out(control, lender, asked.uninit, slot);
+    let (number, place) = hand_out(control, lender, asked.uninit, slot);
     Some(Loaned {
         number,
+        place,
         pool: lender.port.pool,
         slot,
     })

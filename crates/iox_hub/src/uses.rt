@@ -68,7 +68,7 @@ pub fn reads_what_it_receives(
     requires calls { hub.old.control.tables.calls < 2 ^ 56 }
 {
     match hub.receive_request(node, server) {
-        Received::Handle(number) => hub.request(node, number, 0).len(),
+        Received::Handle(number, _) => hub.request(node, number, 0).len(),
         _ => 0,
     }
 }

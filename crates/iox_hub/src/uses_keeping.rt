@@ -15,7 +15,7 @@ pub fn gives_up_what_it_gets(hub: &mut Hub<One<u64>, (), One<u64>, ()>, node: u6
     requires pending { HasValue hub.old node pending PendingResponse }
     requires calls { hub.old.control.tables.calls < 2 ^ 56 }
 {
-    if let Received::Handle(other) = hub.receive_response(node, pending, 0) {
+    if let Received::Handle(other, _) = hub.receive_response(node, pending, 0) {
         hub.release(node, other, 0);
     }
     hub.set_hint(node, pending, 0);

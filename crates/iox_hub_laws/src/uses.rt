@@ -31,7 +31,7 @@ pub fn reads_what_was_delivered<E: Words>(
         (messages_put_on (way_of (handle_of new h)) (beats_of hub.old r)))) }
 {
     match receive_request(hub, node, server) {
-        Received::Handle(number) => Some(hub.request(node, number, 0)),
+        Received::Handle(number, _) => Some(hub.request(node, number, 0)),
         _ => None,
     }
 }
@@ -49,7 +49,7 @@ pub fn receives_what_can_come<Q: Payload, QH: Words, P: Payload, PH: Words, H: B
     ensures { HasValue hub.new node result ActiveRequest }
 {
     match receive_request(hub, node, server) {
-        Received::Handle(number) => number,
+        Received::Handle(number, _) => number,
         _ => unreachable!(),
     }
 }

@@ -167,7 +167,7 @@ pub(crate) fn received<C>(received: Received) -> PortReply<Vec<u64>, C>
     ensures memory { tells_want result ≡ false }
 {
     match received {
-        Received::Handle(number) => PortReply::Handle(number),
+        Received::Handle(number, _) => PortReply::Handle(number),
         Received::Nothing => PortReply::Nothing,
         Received::AtLimit => PortReply::Refused(Refusal::ExceedsMaxBorrows),
     }
