@@ -46,18 +46,21 @@ mod send_copy;
 pub struct Client<Q, QH, P, PH> {
     node: u64,
     number: u64,
+    // Where the hub looks for it first. A wrong place is only slower.
+    place: usize,
     of: PhantomData<(Q, QH, P, PH)>,
 }
 
 impl<Q: Payload, QH: Words, P: Payload, PH: Words> Client<Q, QH, P, PH> {
     /// The node's client of that number.
-    pub(crate) fn new(node: u64, number: u64) -> Self
+    pub(crate) fn new(node: u64, number: u64, place: usize) -> Self
         ensures node { result.node ≡ node }
         ensures number { result.number ≡ number }
     {
         Client {
             node,
             number,
+            place,
             of: PhantomData,
         }
     }
@@ -108,10 +111,11 @@ impl<Q: Payload, QH: Words, P: Payload, PH: Words> Client<Q, QH, P, PH> {
     }
 
     /// Whether the hub still has it.
+    #[inline(always)]
     pub fn exists<H: Backpressure>(&self, hub: &Hub<Q, QH, P, PH, H>) -> bool
         ensures { IsTrue result ↔ HasValue hub.now self.now.node self.now.number kinds.Client }
     {
-        hub.has(self.node, self.number, Kind::Client, 0)
+        hub.has(self.node, self.number, Kind::Client, self.place)
     }
 
     /// Gives it up. Where the hub no longer has it, nothing changes.
@@ -121,6 +125,7 @@ impl<Q: Payload, QH: Words, P: Payload, PH: Words> Client<Q, QH, P, PH> {
         let Client {
             node,
             number,
+            place: _,
             of: _,
         } = self;
         release_port(hub, node, number, Kind::Client);
@@ -161,7 +166,7 @@ impl<E: Words, QH: Words, P: Payload, PH: Words> Client<One<E>, QH, P, PH> {
         ensures unchanged { IfErr result (λ error. error ≢ OutOfMemory → hub.new ≡ hub.old) }
         ensures left { OnErr result (hub.new ≡ with_control hub.old hub.new.control) }
     {
-        match lend_request(hub, self.node, self.number, 1, true) {
+        match lend_request(hub, self.node, self.number, self.place, 1, true) {
             Ok((number, place)) => Ok(RequestMutUninit::new(self.node, number, place)),
             Err(error) => Err(error),
         }
@@ -201,7 +206,7 @@ impl<E: Words, QH: Words, P: Payload, PH: Words> Client<One<E>, QH, P, PH> {
         ensures unchanged { IfErr result (λ error. error ≢ OutOfMemory → hub.new ≡ hub.old) }
         ensures left { OnErr result (hub.new ≡ with_control hub.old hub.new.control) }
     {
-        match lend_request(hub, self.node, self.number, 1, false) {
+        match lend_request(hub, self.node, self.number, self.place, 1, false) {
             Ok((number, place)) => Ok(RequestMut::new(self.node, number, place)),
             Err(error) => Err(error),
         }
@@ -243,7 +248,7 @@ impl<E: Words, QH: Words, P: Payload, PH: Words> Client<Many<E>, QH, P, PH> {
         ensures unchanged { IfErr result (λ error. error ≢ OutOfMemory → hub.new ≡ hub.old) }
         ensures left { OnErr result (hub.new ≡ with_control hub.old hub.new.control) }
     {
-        match lend_request(hub, self.node, self.number, elements, true) {
+        match lend_request(hub, self.node, self.number, self.place, elements, true) {
             Ok((number, place)) => Ok(RequestMutUninit::new(self.node, number, place)),
             Err(error) => Err(error),
         }
@@ -284,7 +289,7 @@ impl<E: Words, QH: Words, P: Payload, PH: Words> Client<Many<E>, QH, P, PH> {
         ensures unchanged { IfErr result (λ error. error ≢ OutOfMemory → hub.new ≡ hub.old) }
         ensures left { OnErr result (hub.new ≡ with_control hub.old hub.new.control) }
     {
-        match lend_request(hub, self.node, self.number, elements, false) {
+        match lend_request(hub, self.node, self.number, self.place, elements, false) {
             Ok((number, place)) => Ok(RequestMut::new(self.node, number, place)),
             Err(error) => Err(error),
         }

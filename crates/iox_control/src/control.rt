@@ -85,6 +85,24 @@ impl Control {
         None
     }
 
+    /// The node's handle of that number, which it has. It is looked for at the hint first.
+    #[inline(always)]
+    pub fn known(&self, number: u64, hint: usize) -> Entry {
+        self.handles.known(number, hint)
+    }
+
+    /// The same, if it is at the hint.
+    #[inline(always)]
+    pub fn near(&self, number: u64, hint: usize) -> Option<Entry> {
+        self.handles.near(number, hint)
+    }
+
+    /// The label of the message in a slot that is there.
+    #[inline(always)]
+    pub fn label_of(&self, pool: usize, slot: u64) -> Label {
+        self.pools.label_of(pool, slot)
+    }
+
     /// The label of the message in that slot.
     #[inline]
     pub fn label(&self, pool: usize, slot: u64) -> Label
@@ -119,6 +137,12 @@ impl Control {
             (with_visited self.old.tables port lane wanted) }
     {
         self.ports.visit(port, lane, wanted, &self.pools)
+    }
+
+    /// The same, of the port in that place.
+    #[inline(always)]
+    pub fn visit_at(&mut self, place: usize, lane: u64, wanted: Wanted) -> Visits {
+        self.ports.visit_at(place, lane, wanted, &self.pools)
     }
 
     /// Counts one call more.
@@ -166,17 +190,32 @@ impl Control {
     }
 
     /// The handle of the message in that slot for a port of that role, with the next number.
-    pub fn got_entry(&self, node: u64, role: Role, port: u64, pool: usize, slot: u64) -> Entry
+    #[inline(always)]
+    pub fn got_entry(
+        &self,
+        node: u64,
+        role: Role,
+        port: u64,
+        at: usize,
+        pool: usize,
+        slot: u64,
+    ) -> Entry
         ensures { handle_state result ≡ got_handle self.now.tables node role port pool slot }
     {
-        let (kind, client) = match role {
-            Role::Client => (Kind::Response, port),
-            Role::Server => (Kind::ActiveRequest, self.pools.owner(pool)),
+        let (kind, client, client_at) = match role {
+            Role::Client => (Kind::Response, port, at),
+            Role::Server => (
+                Kind::ActiveRequest,
+                self.pools.owner_of(pool),
+                self.pools.at(pool),
+            ),
         };
         Entry {
             node,
             number: self.next_number,
             kind,
+            at: (at & 0xffff) as u16,
+            client_at: (client_at & 0xffff_ffff) as u32,
             port,
             pool,
             slot,
@@ -188,7 +227,15 @@ impl Control {
     /// Hands the message in that slot to a port of that role: it has a handle, and the call is
     /// counted.
     #[inline(always)]
-    pub fn got(&mut self, node: u64, role: Role, port: u64, pool: usize, slot: u64) -> Received
+    pub fn got(
+        &mut self,
+        node: u64,
+        role: Role,
+        port: u64,
+        at: usize,
+        pool: usize,
+        slot: u64,
+    ) -> Received
         requires room { 0 < self.old.room }
         requires number { self.old.tables.next_number + 1 < 2 ^ 64 }
         requires calls { self.old.tables.calls + 1 < 2 ^ 64 }
@@ -197,7 +244,7 @@ impl Control {
         ensures number { result ≡ self.old.tables.next_number }
         ensures got { self.new ≡ with_got self.old node role port pool slot }
     {
-        let entry = self.got_entry(node, role, port, pool, slot);
+        let entry = self.got_entry(node, role, port, at, pool, slot);
         self.hold(pool, slot);
         let place = self.add_handle(entry);
         self.count_call();

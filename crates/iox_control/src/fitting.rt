@@ -45,10 +45,7 @@ fn has_elements(pools: &Pools, pool: usize, slot: u64, elements: Option<u64>) ->
     let Some(count) = elements else {
         return false;
     };
-    match pools.slot(pool, slot) {
-        Some(slot) => count == slot.elements(),
-        None => count == 0,
-    }
+    count == pools.elements_of(pool, slot)
 }
 
 impl<'a> KindChange for Fitting<'a> {

@@ -164,6 +164,12 @@ impl Control {
         self.ports.count_loan(port);
     }
 
+    /// The same, of a port that is looked for at the hint first.
+    #[inline(always)]
+    pub fn count_loan_at(&mut self, port: u64, at: usize) {
+        self.ports.count_loan_at(port, at);
+    }
+
     /// The own value of the port is gone.
     pub fn release_value(&mut self, port: u64)
         ensures { self.new ≡ with_tables self.old (with_value_released self.old.tables port) }

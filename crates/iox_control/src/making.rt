@@ -55,7 +55,9 @@ impl Control {
             (with_one_more self.old.tables.pools (new_pool port node_id port_id size))) }
         ensures unchanged { OnErr result (self.new ≡ self.old) }
     {
-        self.pools.add(alloc, port, node_id, port_id, size)
+        let place = self.pools.add(alloc, port, node_id, port_id, size)?;
+        self.pools.set_at(place, self.ports.len());
+        Ok(place)
     }
 
     /// Removes the pool in this place, if there is one.
@@ -82,7 +84,13 @@ impl Control {
         ensures removed { IsSome result → self.new ≡ with_port_removed self.old number }
         ensures unchanged { result ≡ None → self.new ≡ self.old }
     {
-        self.ports.remove(number)
+        let port = self.ports.remove(number)?;
+        for at in 0..self.ports.len() {
+            if let Some(info) = self.ports.at(at) {
+                self.pools.set_at(info.pool, at);
+            }
+        }
+        Some(port)
     }
 
     /// One more pipe leads to the port of that number. It says whether there was room.

@@ -28,11 +28,16 @@ impl Control {
         ensures whole { (x : Given) → IsWholeCall (state_shown x self.old.tables) node
             (Receive server) (reply_of_receive result) (state_shown x self.new.tables) }
     {
+        self.receive_request_at(node, server, usize::MAX)
+    }
+
+    /// The same, of a server that is looked for at the hint first.
+    #[inline(always)]
+    pub fn receive_request_at(&mut self, node: u64, server: u64, at: usize) -> Received {
         let wanted = self.wanted_by_server();
-        match self.visit(server, 0, wanted) {
-            Visits::Got(_, pool, slot) => {
-                self.got(node, Role::Server, server, pool, slot)
-            }
+        let place = self.ports.known_place(server, at);
+        match self.visit_at(place, 0, wanted) {
+            Visits::Got(_, pool, slot) => self.got(node, Role::Server, server, place, pool, slot),
             Visits::AtLimit => Received::AtLimit,
             Visits::Nothing => {
                 self.count_call();
@@ -42,6 +47,7 @@ impl Control {
     }
 
     /// Receives a response for that pending response, whose handle is looked for at the hint first.
+    #[inline(always)]
     pub fn receive_response(&mut self, node: u64, number: u64, hint: usize) -> Received
         requires pending { IsPending self.old.tables node number }
         requires order { IsControl self.old }
@@ -55,13 +61,12 @@ impl Control {
         ensures whole { (x : Given) → IsWholeCall (state_shown x self.old.tables) node
             (Receive number) (reply_of_receive result) (state_shown x self.new.tables) }
     {
-        let Some(entry) = self.entry(node, number, hint) else {
-            unreachable!();
-        };
-        let label = self.label(entry.pool, entry.slot);
-        match self.visit(entry.port, label.lane, Wanted::Of(label.request)) {
+        let entry = self.known(number, hint);
+        let label = self.label_of(entry.pool, entry.slot);
+        let place = self.ports.known_place(entry.port, entry.at as usize);
+        match self.visit_at(place, label.lane, Wanted::Of(label.request)) {
             Visits::Got(_, pool, slot) => {
-                self.got(node, Role::Client, entry.port, pool, slot)
+                self.got(node, Role::Client, entry.port, place, pool, slot)
             }
             Visits::AtLimit => Received::AtLimit,
             Visits::Nothing => {

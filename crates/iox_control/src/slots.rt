@@ -46,7 +46,7 @@ impl Control {
         ensures full { result ≡ None ↔ free_count self.old.tables.pools pool ≡ 0 }
         ensures unchanged { result ≡ None → self.new ≡ self.old }
     {
-        self.pools.take(pool, serial, lane, request, elements)
+        self.pools.take_of(pool, serial, lane, request, elements)
     }
 
     /// The same, where nobody has any slot of the pool.
@@ -65,7 +65,7 @@ impl Control {
         ensures left { self.new ≡ with_pools self.old self.new.tables.pools }
         ensures unchanged { result ≡ None → self.new ≡ self.old }
     {
-        self.pools.take_first(pool, serial, lane, request, elements)
+        self.pools.take_first_of(pool, serial, lane, request, elements)
     }
 
     /// Writes another message into a slot, and says whether there is such a slot. Who has the slot
@@ -85,6 +85,12 @@ impl Control {
     {
         self.pools
             .write(pool, slot, serial, lane, request, elements)
+    }
+
+    /// One less has a slot that somebody has.
+    #[inline(always)]
+    pub fn let_go_of(&mut self, pool: usize, slot: u64) {
+        self.pools.let_go_of(pool, slot);
     }
 
     /// One less has a slot, and says whether anybody had it: where nobody did, nothing changes.

@@ -56,7 +56,9 @@ pub fn copy_response(
     let label = control.label(entry.pool, entry.slot);
     let lender = Lending {
         port,
+        at: 0,
         client: entry.client,
+        client_at: 0,
         lane: label.lane,
         request: label.request,
     };

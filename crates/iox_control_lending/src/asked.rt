@@ -20,7 +20,10 @@ pub struct Asked {
 #[derive(Clone, Copy)]
 pub struct Lending {
     pub port: PortInfo,
+    /// Where the port is looked for first, and where the client is.
+    pub at: usize,
     pub client: u64,
+    pub client_at: u32,
     pub lane: u64,
     pub request: u64,
 }

@@ -58,6 +58,7 @@ pub fn lend_request_of(
     control: &mut Control,
     node: u64,
     client: u64,
+    at: usize,
     port: PortInfo,
     asked: Asked,
 ) -> Lent
@@ -75,7 +76,9 @@ pub fn lend_request_of(
     let port = known_as(port, Role::Client);
     let lender = Lending {
         port,
+        at,
         client: port.number,
+        client_at: (at & 0xffff_ffff) as u32,
         lane: 0,
         request: port.loans % (1 << 62),
     };
@@ -98,7 +101,7 @@ pub fn lend_request(control: &mut Control, node: u64, client: u64, asked: Asked)
     let Some(port) = control.ports().find(client) else {
         unreachable!();
     };
-    lend_request_of(control, node, client, port, asked)
+    lend_request_of(control, node, client, usize::MAX, port, asked)
 }
 
 /// Lends a response to that active request, of whose handle and of whose port this is said. All
@@ -109,6 +112,7 @@ pub fn lend_response_of(
     node: u64,
     number: u64,
     entry: Entry,
+    at: usize,
     port: PortInfo,
     asked: Asked,
 ) -> Lent
@@ -127,10 +131,12 @@ pub fn lend_response_of(
         (state_shown (given_after x x.response asked result) control.new.tables) }
 {
     let port = known_as(port, Role::Server);
-    let label = control.label(entry.pool, entry.slot);
+    let label = control.label_of(entry.pool, entry.slot);
     let lender = Lending {
         port,
+        at,
         client: entry.client,
+        client_at: entry.client_at,
         lane: label.lane,
         request: label.request,
     };

@@ -140,7 +140,9 @@ pub fn request_may_be_made(control: &Control, client: u64, asked: Asked) -> bool
     };
     let lender = Lending {
         port,
+        at: 0,
         client: port.number,
+        client_at: 0,
         lane: 0,
         request: port.loans % (1 << 62),
     };
@@ -180,7 +182,9 @@ pub fn response_may_be_made(
     let label = control.label(entry.pool, entry.slot);
     let lender = Lending {
         port,
+        at: 0,
         client: entry.client,
+        client_at: 0,
         lane: label.lane,
         request: label.request,
     };

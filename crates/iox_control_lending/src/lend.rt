@@ -49,6 +49,8 @@ fn loan_entry(control: &Control, lender: &Lending, uninit: bool, slot: u64) -> E
         node: lender.port.node,
         number: control.next_number(),
         kind: loan_kind(lender.port.role, uninit),
+        at: (lender.at & 0xffff) as u16,
+        client_at: lender.client_at,
         port: lender.port.number,
         pool: lender.port.pool,
         slot,
@@ -70,7 +72,7 @@ fn hand_out(control: &mut Control, lender: &Lending, uninit: bool, slot: u64) ->
         → control.new ≡ with_handed control.old (lender_of p lender.now) uninit slot }
 {
     let entry = loan_entry(control, lender, uninit, slot);
-    control.count_loan(lender.port.number);
+    control.count_loan_at(lender.port.number, lender.at);
     let place = control.add_handle(entry);
     control.count_call();
     (entry.number, place)

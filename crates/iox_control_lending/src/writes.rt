@@ -52,6 +52,8 @@ fn set_kind(control: &mut Control, entry: Entry, kind: Kind, hint: usize)
         node: entry.node,
         number: entry.number,
         kind,
+        at: entry.at,
+        client_at: entry.client_at,
         port: entry.port,
         pool: entry.pool,
         slot: entry.slot,

@@ -23,7 +23,9 @@ pub fn lose(control: &mut Control, client: u64, asked: Asked) -> Option<Copied>
     };
     let lender = Lending {
         port,
+        at: 0,
         client: port.number,
+        client_at: 0,
         lane: 0,
         request: port.loans % (1 << 62),
     };

@@ -38,6 +38,8 @@ pub fn lend_and_send(
         node,
         number: loaned.number,
         kind: Kind::RequestMut,
+        at: 0,
+        client_at: 0,
         port: client,
         pool: loaned.pool,
         slot: loaned.slot,

@@ -19,8 +19,7 @@ use iox_model::way::Way;
 pub fn has_one_out(control: &Control, pool: usize) -> bool
     ensures { result ≡ has_one_out control.now.tables.pools pool }
 {
-    let pools = control.pools();
-    pools.len(pool) - pools.free_len(pool) == 1
+    control.pools().has_one_out(pool)
 }
 
 /// Gets back all that was given back on the way. A call of its own, so that the others are short.

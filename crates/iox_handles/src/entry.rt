@@ -9,6 +9,9 @@ pub struct Entry {
     pub node: u64,
     pub number: u64,
     pub kind: Kind,
+    /// Where its port is looked for first, and where its client is. A wrong place is only slower.
+    pub at: u16,
+    pub client_at: u32,
     /// The port that it belongs to.
     pub port: u64,
     /// The place of the pool, and the slot there.
@@ -31,6 +34,8 @@ impl Entry {
             node: 0,
             number: NOBODY,
             kind: Kind::Client,
+            at: 0,
+            client_at: 0,
             port: 0,
             pool: 0,
             slot: 0,

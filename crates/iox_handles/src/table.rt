@@ -14,7 +14,7 @@ use crate::least::least_in;
 use crate::node_list::NodeList;
 use crate::numbered::Numbered;
 use crate::places::{count_if_in, count_in, is_there, place_in, place_of_port};
-use crate::tally::Tally;
+use crate::tally::{Tally, is_counted};
 use iox_model::kind::Kind;
 use std::alloc::{AllocError, Global};
 use std::marker::Model;
@@ -132,30 +132,66 @@ impl Table {
         self.next = entry.number + 1;
         self.tally.count(entry.port, entry.kind);
         let place = match self.free.pop() {
-            Some(place) => {
-                let there = &mut self.places[place];
-                there.node = entry.node;
-                there.number = entry.number;
-                there.kind = entry.kind;
-                there.port = entry.port;
-                there.pool = entry.pool;
-                there.slot = entry.slot;
-                there.client = entry.client;
-                there.connections = entry.connections;
-                place
-            }
-            None => self.add_new(entry),
+            Some(place) => place,
+            None => self.add_new(),
         };
+        let there = &mut self.places[place];
+        there.node = entry.node;
+        there.number = entry.number;
+        there.kind = entry.kind;
+        there.at = entry.at;
+        there.client_at = entry.client_at;
+        there.port = entry.port;
+        there.pool = entry.pool;
+        there.slot = entry.slot;
+        there.client = entry.client;
+        there.connections = entry.connections;
         self.likely[remainder(entry.number)] = place;
         place
     }
 
-    /// The same, in a new place.
+    /// One more place, which is vacant.
+    #[cold]
     #[inline(never)]
-    fn add_new(&mut self, entry: Entry) -> usize {
+    fn add_new(&mut self) -> usize {
         let place = self.places.len();
-        self.places.push_reserved(entry);
+        self.places.push_reserved(Entry::vacant());
         place
+    }
+
+    /// The place of the handle of that number, which is there. It is looked for at the hint first.
+    #[inline(always)]
+    pub(crate) fn known_place(&self, number: u64, hint: usize) -> usize {
+        if is_there(&self.places, hint, number) {
+            return hint;
+        }
+        let Some(place) = place_in(&self.places, number, &self.likely) else {
+            unreachable!();
+        };
+        place
+    }
+
+    /// The handle of that number, which is there. It is looked for at the hint first.
+    #[inline(always)]
+    pub fn known(&self, number: u64, hint: usize) -> Entry {
+        self.places[self.known_place(number, hint)]
+    }
+
+    /// The handle of that number, which is there, if it is at the hint.
+    #[inline(always)]
+    pub fn near(&self, number: u64, hint: usize) -> Option<Entry> {
+        if is_there(&self.places, hint, number) {
+            return Some(self.places[hint]);
+        }
+        None
+    }
+
+    /// The handle of that number, which is there, is of that kind now. It is looked for at the hint
+    /// first.
+    #[inline(always)]
+    pub fn set_kind(&mut self, number: u64, hint: usize, kind: Kind) {
+        let place = self.known_place(number, hint);
+        self.places[place].kind = kind;
     }
 
     /// The place of the handle of that number, which is looked for at the hint first.
@@ -167,7 +203,23 @@ impl Table {
         place_in(&self.places, number, &self.likely)
     }
 
+    /// The same, where no test passes what stands in a vacant place.
+    #[inline(always)]
+    pub(crate) fn place_or(&self, number: u64, hint: usize) -> Option<usize> {
+        if is_there(&self.places, hint, number) {
+            return Some(hint);
+        }
+        place_in(&self.places, number, &self.likely)
+    }
+
     /// The handle in that place goes.
+    #[inline(always)]
+    pub(crate) fn leave(&mut self, place: usize) {
+        self.places[place].kind = Kind::Client;
+        self.vacate(place);
+    }
+
+    /// The number of the handle in that place goes.
     #[inline(always)]
     pub(crate) fn vacate(&mut self, place: usize) {
         self.places[place].number = NOBODY;
@@ -288,14 +340,17 @@ impl Table {
         ensures counted { result
             ≡ length (filter (is_counted_at (tally_place port kind)) self.now.handles) }
     {
-        self.tally.at_most(port, kind)
+        if is_counted(kind) {
+            return self.tally.at_most(port, kind);
+        }
+        self.places.len()
     }
 
     /// How many handles of that kind a port has. Where there may be any, it looks at all places.
     pub fn count(&self, port: u64, kind: Kind) -> usize
         ensures { result ≡ count_of self.now port kind }
     {
-        if self.tally.at_most(port, kind) == 0 {
+        if self.at_most(port, kind) == 0 {
             return 0;
         }
         count_in(&self.places, port, kind)

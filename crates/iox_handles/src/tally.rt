@@ -37,6 +37,12 @@ fn group(kind: Kind) -> usize
     }
 }
 
+/// Whether handles of that kind are counted.
+#[inline(always)]
+pub fn is_counted(kind: Kind) -> bool {
+    group(kind) < 3
+}
+
 /// Where handles of that port and kind are counted.
 #[inline]
 fn place(port: u64, kind: Kind) -> usize
@@ -64,8 +70,10 @@ impl Tally {
         ensures { self.new.counts ≡ slice_set self.old.counts (tally_place port kind)
             (slice_index_or self.old.counts (tally_place port kind) 0 + 1) }
     {
-        let at = place(port, kind);
-        self.counts[at] += 1;
+        if group(kind) < 3 {
+            let at = place(port, kind);
+            self.counts[at] += 1;
+        }
     }
 
     /// Counts one less.
@@ -75,8 +83,10 @@ impl Tally {
         ensures { self.new.counts ≡ slice_set self.old.counts (tally_place port kind)
             (slice_index_or self.old.counts (tally_place port kind) 0 - 1) }
     {
-        let at = place(port, kind);
-        self.counts[at] -= 1;
+        if group(kind) < 3 {
+            let at = place(port, kind);
+            self.counts[at] -= 1;
+        }
     }
 
     /// The same, if there is such a handle.

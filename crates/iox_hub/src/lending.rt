@@ -61,6 +61,7 @@ impl<Q: Payload, QH: Words, P: Payload, PH: Words, H: Backpressure> Hub<Q, QH, P
         &mut self,
         node: u64,
         client: u64,
+        at: usize,
         port: PortInfo,
         elements: usize,
         uninit: bool,
@@ -80,7 +81,7 @@ impl<Q: Payload, QH: Words, P: Payload, PH: Words, H: Backpressure> Hub<Q, QH, P
         ensures memory { result ≡ Refused WantOfMemory → ⊥ }
     {
         let asked = asked_of::<Q, QH>(&self.request, elements, uninit);
-        let lent = lend_request_of(&mut self.control, node, client, port, asked);
+        let lent = lend_request_of(&mut self.control, node, client, at, port, asked);
         if let Lent::Handle(l) = lent {
             let slot = l.slot as usize;
             lend_request_in(
@@ -123,7 +124,7 @@ impl<Q: Payload, QH: Words, P: Payload, PH: Words, H: Backpressure> Hub<Q, QH, P
         let Some(port) = self.control.ports().find(client) else {
             unreachable!();
         };
-        self.lend_request_in_room(node, client, port, elements, uninit, spare)
+        self.lend_request_in_room(node, client, usize::MAX, port, elements, uninit, spare)
     }
 
     /// Lends a response to that active request, of whose handle and of whose port this is said, for
@@ -134,6 +135,7 @@ impl<Q: Payload, QH: Words, P: Payload, PH: Words, H: Backpressure> Hub<Q, QH, P
         node: u64,
         number: u64,
         entry: Entry,
+        at: usize,
         port: PortInfo,
         elements: usize,
         uninit: bool,
@@ -158,7 +160,7 @@ impl<Q: Payload, QH: Words, P: Payload, PH: Words, H: Backpressure> Hub<Q, QH, P
         ensures memory { result ≡ Refused WantOfMemory → ⊥ }
     {
         let asked = asked_of::<P, PH>(&self.response, elements, uninit);
-        let lent = lend_response_of(&mut self.control, node, number, entry, port, asked);
+        let lent = lend_response_of(&mut self.control, node, number, entry, at, port, asked);
         if let Lent::Handle(l) = lent {
             let slot = l.slot as usize;
             lend_response_in(
@@ -208,7 +210,7 @@ impl<Q: Payload, QH: Words, P: Payload, PH: Words, H: Backpressure> Hub<Q, QH, P
         let Some(port) = self.control.ports().find(entry.port) else {
             unreachable!();
         };
-        self.lend_response_in_room(node, number, entry, port, elements, uninit, spare)
+        self.lend_response_in_room(node, number, entry, usize::MAX, port, elements, uninit, spare)
     }
 
     /// Lends a request of that client for so many elements, for which its message may have to grow.
@@ -255,12 +257,24 @@ impl<Q: Payload, QH: Words, P: Payload, PH: Words, H: Backpressure> Hub<Q, QH, P
             → port_in self.old.control.tables.ports client ≡ Some p
             → WantsRoom self.old (lender_of_request p 0) self.old.request elements }
     {
+        self.lend_request_at(node, client, usize::MAX, elements, uninit)
+    }
+
+    /// The same, of a client that is looked for at the hint first.
+    #[inline(always)]
+    pub fn lend_request_at(
+        &mut self,
+        node: u64,
+        client: u64,
+        at: usize,
+        elements: usize,
+        uninit: bool,
+    ) -> Lent {
         self.is_in_order();
-        let Some(port) = self.control.ports().find(client) else {
-            unreachable!();
-        };
+        let at = self.control.ports().known_place(client, at);
+        let port = self.control.ports().info_of(at);
         if elements as u64 <= port.longest {
-            return self.lend_request_in_room(node, client, port, elements, uninit, None);
+            return self.lend_request_in_room(node, client, at, port, elements, uninit, None);
         }
         self.lend_request_growing(node, client, elements, uninit)
     }
@@ -324,14 +338,12 @@ impl<Q: Payload, QH: Words, P: Payload, PH: Words, H: Backpressure> Hub<Q, QH, P
             self.old.response elements }
     {
         self.is_in_order();
-        let Some(entry) = self.control.entry(node, number, hint) else {
-            unreachable!();
-        };
-        let Some(port) = self.control.ports().find(entry.port) else {
-            unreachable!();
-        };
+        let entry = self.control.known(number, hint);
+        let at = self.control.ports().known_place(entry.port, entry.at as usize);
+        let port = self.control.ports().info_of(at);
         if port.longest >= elements as u64 {
-            return self.lend_response_in_room(node, number, entry, port, elements, uninit, None);
+            return self
+                .lend_response_in_room(node, number, entry, at, port, elements, uninit, None);
         }
         self.lend_response_growing(node, number, hint, elements, uninit)
     }

@@ -58,14 +58,13 @@ impl<Q: Payload, QH: Words, P: Payload, PH: Words, H: Backpressure> Hub<Q, QH, P
         ensures { handle_in self.now.control.tables.handles node number
             ≡ Some (handle_state result) }
     {
-        let Some(entry) = self.control.entry(node, number, hint) else {
-            unreachable!();
-        };
-        entry
+        let _node = node;
+        self.control.known(number, hint)
     }
 
     /// The filled elements of the request that the handle has: an active request, a pending
     /// response or a loaned request. The handle is looked for at the hint first.
+    #[inline(always)]
     pub fn request(&self, node: u64, number: u64, hint: usize) -> &[Q::Element]
         requires has { HasOf has_request self.now node number }
         ensures words { flat_map Q.Element.words result.now
@@ -74,7 +73,16 @@ impl<Q: Payload, QH: Words, P: Payload, PH: Words, H: Backpressure> Hub<Q, QH, P
             (Words ((message_in self.now node number).user ++ flat_map Q.Element.words result.now))
             (state_of_hub x self.now) }
     {
-        let entry = self.handle(node, number, hint);
+        match self.control.near(number, hint) {
+            Some(entry) => requests_in(&self.words, entry.pool).payload(entry.slot as usize),
+            None => self.request_far(node, number),
+        }
+    }
+
+    /// The same, where the handle is not at the hint.
+    #[inline(never)]
+    fn request_far(&self, node: u64, number: u64) -> &[Q::Element] {
+        let entry = self.handle(node, number, usize::MAX);
         requests_in(&self.words, entry.pool).payload(entry.slot as usize)
     }
 
@@ -92,6 +100,7 @@ impl<Q: Payload, QH: Words, P: Payload, PH: Words, H: Backpressure> Hub<Q, QH, P
 
     /// The filled elements of the response that the handle has: one that was received, or a loaned
     /// one. The handle is looked for at the hint first.
+    #[inline(always)]
     pub fn response(&self, node: u64, number: u64, hint: usize) -> &[P::Element]
         requires has { HasOf has_response self.now node number }
         ensures words { flat_map P.Element.words result.now
@@ -100,7 +109,16 @@ impl<Q: Payload, QH: Words, P: Payload, PH: Words, H: Backpressure> Hub<Q, QH, P
             (Words ((message_in self.now node number).user ++ flat_map P.Element.words result.now))
             (state_of_hub x self.now) }
     {
-        let entry = self.handle(node, number, hint);
+        match self.control.near(number, hint) {
+            Some(entry) => responses_in(&self.words, entry.pool).payload(entry.slot as usize),
+            None => self.response_far(node, number),
+        }
+    }
+
+    /// The same, where the handle is not at the hint.
+    #[inline(never)]
+    fn response_far(&self, node: u64, number: u64) -> &[P::Element] {
+        let entry = self.handle(node, number, usize::MAX);
         responses_in(&self.words, entry.pool).payload(entry.slot as usize)
     }
 

@@ -29,6 +29,12 @@ impl<Q: Payload, QH: Words, P: Payload, PH: Words, H: Backpressure> Hub<Q, QH, P
         self.control.receive_request(node, server)
     }
 
+    /// The same, of a server that is looked for at the hint first.
+    #[inline(always)]
+    pub fn receive_request_at(&mut self, node: u64, server: u64, at: usize) -> Received {
+        self.control.receive_request_at(node, server, at)
+    }
+
     /// Receives a response for that pending response, whose handle is looked for at the hint first.
     pub fn receive_response(&mut self, node: u64, number: u64, hint: usize) -> Received
         requires has { HasValue self.old node number PendingResponse }

@@ -90,6 +90,51 @@ impl Ports {
         place_of(&self.ports, number)
     }
 
+    /// The place of the port of that number, which is looked for at the hint first.
+    #[inline(always)]
+    pub fn place_at(&self, number: u64, hint: usize) -> Option<usize>
+        ensures first { result ≡ place_in self.now.ports number }
+        ensures within { IfSome result (λ place. place < length self.now.ports) }
+    {
+        if is_at(&self.ports, hint, number) {
+            return Some(hint);
+        }
+        self.place_far(number)
+    }
+
+    /// Whether the port of that number is at the hint.
+    #[inline(always)]
+    pub fn is_near(&self, number: u64, hint: usize) -> bool {
+        is_at(&self.ports, hint, number)
+    }
+
+    /// The same, where it is not at the hint.
+    #[inline(never)]
+    fn place_far(&self, number: u64) -> Option<usize> {
+        self.place(number)
+    }
+
+    /// The place of the port of that number, which is there.
+    #[inline(always)]
+    pub fn known_place(&self, number: u64, hint: usize) -> usize {
+        let Some(place) = self.place_at(number, hint) else {
+            unreachable!();
+        };
+        place
+    }
+
+    /// What is said of the port of that number, which is there.
+    #[inline(always)]
+    pub fn known(&self, number: u64, hint: usize) -> PortInfo {
+        self.ports[self.known_place(number, hint)].info()
+    }
+
+    /// What is said of the port in that place, where one is.
+    #[inline(always)]
+    pub fn info_of(&self, place: usize) -> PortInfo {
+        self.ports[place].info()
+    }
+
     /// Takes a step on the lane of a way.
     #[inline(always)]
     pub(crate) fn on_lane_of<S: LaneStep>(&mut self, way: Way, step: &S) -> S::Answer
@@ -234,6 +279,13 @@ impl Ports {
         }
     }
 
+    /// The same, of a port that is there, and is looked for at the hint first.
+    #[inline(always)]
+    pub fn count_loan_at(&mut self, number: u64, at: usize) {
+        let place = self.known_place(number, at);
+        self.ports[place].count_loan();
+    }
+
     /// The own value of the port of that number is gone.
     pub fn release_value(&mut self, number: u64)
         ensures { self.new ≡ with_ports self.old (with_port without_value self.old.ports number) }
@@ -269,6 +321,18 @@ impl Ports {
             Some(place) => self.ports[place].visit(lane as usize, wanted, labels),
             None => Visits::Nothing,
         }
+    }
+
+    /// The same, of the port in that place.
+    #[inline(always)]
+    pub fn visit_at<L: Labels>(
+        &mut self,
+        place: usize,
+        lane: u64,
+        wanted: Wanted,
+        labels: &L,
+    ) -> Visits {
+        self.ports[place].visit(lane as usize, wanted, labels)
     }
 
     /// Gives a message of the way back that its receiver has, and says whether it had it.

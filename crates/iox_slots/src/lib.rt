@@ -3,7 +3,6 @@
 #![tactic(auto)]
 
 mod left;
-mod place;
 mod pool;
 mod pools;
 mod slot;

@@ -18,12 +18,16 @@ use std::marker::Model;
 /// It takes memory when it is made, and never again.
 #[derive(Drop)]
 pub struct Pool {
+    // Whether there is a pool. Where there is none, it has no slots.
+    pub(crate) there: bool,
+    // Where its port is looked for first. A wrong place is only slower.
+    pub(crate) at: u32,
     port: u64,
     node_id: UniqueSystemId,
     port_id: UniqueSystemId,
-    slots: Vec<Slot>,
+    pub(crate) slots: Vec<Slot>,
     // The slots that nobody has.
-    free: Vec<u64>,
+    pub(crate) free: Vec<u64>,
 }
 
 impl Model for Pool {
@@ -67,12 +71,33 @@ impl Pool {
         ensures { IfOk result (λ pool. pool ≡ new_pool port node_id port_id size) }
     {
         Ok(Pool {
+            there: true,
+            at: u32::MAX,
             port,
             node_id,
             port_id,
             slots: vec![in alloc; Slot::new(); size]?,
             free: numbers(alloc, size)?,
         })
+    }
+
+    /// No pool.
+    pub(crate) fn none(alloc: Global) -> Pool {
+        let nobody = UniqueSystemId {
+            process: 0,
+            seconds: 0,
+            nanoseconds: 0,
+            counter: 0,
+        };
+        Pool {
+            there: false,
+            at: u32::MAX,
+            port: 0,
+            node_id: nobody,
+            port_id: nobody,
+            slots: Vec::new(alloc),
+            free: Vec::new(alloc),
+        }
     }
 
     /// The port whose messages they are.
@@ -143,15 +168,26 @@ impl Pool {
     }
 
     /// One more has a slot that somebody has.
-    #[inline]
+    #[inline(always)]
     pub fn hold(&mut self, k: u64)
         requires taken { 0 < (slot_in self.old.slots k).holders }
         requires fits { (slot_in self.old.slots k).holders < 2 ^ 64 - 1 }
         ensures { self.new ≡ with_slot_of held self.old k }
     {
-        let k = k as usize;
-        if k < self.slots.len() {
-            self.slots[k] = self.slots[k].held();
+        let slot = &mut self.slots[k as usize];
+        slot.holders += 1;
+    }
+
+    /// One less has a slot that somebody has.
+    #[inline(always)]
+    pub fn leave(&mut self, k: u64)
+        requires taken { 0 < (slot_in self.old.slots k).holders }
+        ensures left { self.new ≡ with_slot_of let_go self.old k }
+    {
+        let slot = &mut self.slots[k as usize];
+        slot.holders -= 1;
+        if slot.holders == 0 {
+            self.free.push_reserved(k);
         }
     }
 

@@ -14,10 +14,6 @@ ghost use Rattle.iox_slots.specs.Slots.{held, is_taken, let_go, new_pool, slot_i
 
 mod leaving;
 
-use crate::place::{
-    acquire_in, free_len_of, hold_in, ids_of, is_untouched, len_of, let_go_in, port_of, slot_of,
-    take_in, write_in,
-};
 use crate::pool::Pool;
 use crate::slot::Slot;
 use iox_tables::wanted::{Label, Labels};
@@ -31,7 +27,8 @@ use std::marker::Model;
 /// Only `add` takes memory.
 #[derive(Drop)]
 pub struct Pools {
-    pools: Vec<Option<Pool>>,
+    pools: Vec<Pool>,
+    alloc: Global,
 }
 
 impl Model for Pools {
@@ -50,6 +47,7 @@ impl Pools {
     {
         Pools {
             pools: Vec::new(alloc),
+            alloc,
         }
     }
 
@@ -59,7 +57,7 @@ impl Pools {
         ensures { result ≡ slice_get (slots_of self.now place) slot }
     {
         if place < self.pools.len() {
-            return slot_of(&self.pools[place], slot);
+            return self.pools[place].slot(slot);
         }
         None
     }
@@ -81,8 +79,7 @@ impl Pools {
             ≡ with_slot (written serial lane request elements) self.old place slot }
     {
         if place < self.pools.len() {
-            let pool = &mut self.pools[place];
-            return write_in(pool, slot, serial, lane, request, elements);
+            return self.pools[place].write(slot, serial, lane, request, elements);
         }
         false
     }
@@ -95,7 +92,7 @@ impl Pools {
         ensures unchanged { result ≡ None → self.new ≡ self.old }
     {
         if place < self.pools.len() {
-            return acquire_in(&mut self.pools[place]);
+            return self.pools[place].acquire();
         }
         None
     }
@@ -132,7 +129,7 @@ impl Pools {
         ensures unchanged { result ≡ None → self.new ≡ self.old }
     {
         if place < self.pools.len() {
-            return take_in(&mut self.pools[place], serial, lane, request, elements);
+            return self.pools[place].take(serial, lane, request, elements);
         }
         None
     }
@@ -185,7 +182,7 @@ impl Pools {
         ensures { IsTrue result → is_idle self.now place ≡ true }
     {
         if place < self.pools.len() {
-            return is_untouched(&self.pools[place]);
+            return self.pools[place].there && self.pools[place].free_len() == self.pools[place].len();
         }
         false
     }
@@ -196,9 +193,7 @@ impl Pools {
         requires fits { (slot_at self.old place slot).holders < 2 ^ 64 - 1 }
         ensures { self.new ≡ with_slot held self.old place slot }
     {
-        if place < self.pools.len() {
-            hold_in(&mut self.pools[place], slot);
-        }
+        self.pools[place].hold(slot);
     }
 
     /// One more has a slot that somebody has.
@@ -221,7 +216,7 @@ impl Pools {
         ensures unchanged { OnFalse result (self.new ≡ self.old) }
     {
         if place < self.pools.len() {
-            return let_go_in(&mut self.pools[place], slot);
+            return self.pools[place].let_go(slot);
         }
         false
     }
@@ -241,6 +236,86 @@ impl Pools {
         self.let_go_at(place, slot)
     }
 
+    // ---- where it is known that there is a pool, or a slot that somebody has
+
+    /// The label of the message in a slot that is there.
+    #[inline(always)]
+    pub fn label_of(&self, place: usize, slot: u64) -> Label {
+        let slot = &self.pools[place].slots[slot as usize];
+        Label {
+            lane: slot.lane,
+            request: slot.request,
+        }
+    }
+
+    /// How many elements the message has in a slot that is there.
+    #[inline(always)]
+    pub fn elements_of(&self, place: usize, slot: u64) -> u64 {
+        self.pools[place].slots[slot as usize].elements
+    }
+
+    /// One less has a slot that somebody has.
+    #[inline(always)]
+    pub fn let_go_of(&mut self, place: usize, slot: u64) {
+        self.pools[place].leave(slot);
+    }
+
+    /// Whether somebody has just one slot of a pool that is there.
+    #[inline(always)]
+    pub fn has_one_out(&self, place: usize) -> bool {
+        let pool = &self.pools[place];
+        pool.slots.len() - pool.free.len() == 1
+    }
+
+    /// Where the port is looked for first whose pool it is.
+    #[inline(always)]
+    pub fn at(&self, place: usize) -> usize {
+        self.pools[place].at as usize
+    }
+
+    /// The port whose pool it is, which is there.
+    #[inline(always)]
+    pub fn owner_of(&self, place: usize) -> u64 {
+        self.pools[place].port()
+    }
+
+    /// The port of that pool is looked for there first.
+    pub fn set_at(&mut self, place: usize, at: usize) {
+        if place < self.pools.len() {
+            self.pools[place].at = (at & 0xffff_ffff) as u32;
+        }
+    }
+
+    /// Takes a slot of a pool that is there.
+    #[inline(always)]
+    pub fn take_of(
+        &mut self,
+        place: usize,
+        serial: u64,
+        lane: u64,
+        request: u64,
+        elements: u64,
+    ) -> Option<u64> {
+        self.pools[place].take(serial, lane, request, elements)
+    }
+
+    /// The same, where nobody has any slot of it.
+    #[inline(always)]
+    pub fn take_first_of(
+        &mut self,
+        place: usize,
+        serial: u64,
+        lane: u64,
+        request: u64,
+        elements: u64,
+    ) -> Option<u64> {
+        let pool = &mut self.pools[place];
+        if pool.free.len() == pool.slots.len() {
+            return pool.take(serial, lane, request, elements);
+        }
+        None
+    }
+
     // ---- what there is
 
     /// How many places there are: no pool is in any other.
@@ -257,7 +332,7 @@ impl Pools {
         ensures { result ≡ length (slots_of self.now place) }
     {
         if place < self.pools.len() {
-            return len_of(&self.pools[place]);
+            return self.pools[place].len();
         }
         0
     }
@@ -268,7 +343,7 @@ impl Pools {
         ensures { result ≡ free_count self.now place }
     {
         if place < self.pools.len() {
-            return free_len_of(&self.pools[place]);
+            return self.pools[place].free_len();
         }
         0
     }
@@ -287,7 +362,7 @@ impl Pools {
         ensures { result ≡ owner_of self.now place }
     {
         if place < self.pools.len() {
-            return port_of(&self.pools[place]);
+            return self.pools[place].port();
         }
         0
     }
@@ -298,7 +373,10 @@ impl Pools {
         ensures { result ≡ option_map (λ p. (p.node_id, p.port_id)) (pool_at self.now place) }
     {
         if place < self.pools.len() {
-            return ids_of(&self.pools[place]);
+            let pool = &self.pools[place];
+            if pool.there {
+                return Some((pool.node_id(), pool.port_id()));
+            }
         }
         None
     }
@@ -310,7 +388,7 @@ impl Pools {
         ensures first { result ≡ position is_none self.now }
         ensures within { IfSome result (λ place. place < length self.now) }
     {
-        self.pools.iter().position(|pool| pool.is_none())
+        self.pools.iter().position(|pool| !pool.there)
     }
 
     /// Makes a pool of so many slots that nobody has, and tells its place: the first that is
@@ -331,11 +409,11 @@ impl Pools {
         let pool = Pool::new(alloc, port, node_id, port_id, size)?;
         match self.vacant() {
             Some(place) => {
-                self.pools[place] = Some(pool);
+                self.pools[place] = pool;
                 Ok(place)
             }
             None => {
-                self.pools.push(Some(pool))?;
+                self.pools.push(pool)?;
                 Ok(self.pools.len() - 1)
             }
         }
@@ -346,7 +424,7 @@ impl Pools {
         ensures { self.new ≡ without_pool self.old place }
     {
         if place < self.pools.len() {
-            self.pools[place] = None;
+            self.pools[place] = Pool::none(self.alloc);
         }
     }
 }

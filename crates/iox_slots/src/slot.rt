@@ -9,10 +9,10 @@ use std::marker::Model;
 #[derive(Clone, Copy, Debug, PartialEq, Eq, Drop)]
 pub struct Slot {
     serial: u64,
-    lane: u64,
-    request: u64,
-    elements: u64,
-    holders: u64,
+    pub(crate) lane: u64,
+    pub(crate) request: u64,
+    pub(crate) elements: u64,
+    pub(crate) holders: u64,
 }
 
 impl Model for Slot {

@@ -25,7 +25,7 @@ impl Table {
         ensures unchanged { result ≡ None → self.new ≡ self.old }
         ensures sound { IsSound self.old }
     {
-        let at = self.place_of(number, hint)?;
+        let at = self.place_or(number, hint)?;
         let entry = self.places[at];
         if entry.node != node {
             return None;

@@ -7,88 +7,30 @@ ghost use Rattle.iox_slots.specs.Pools.{is_idle, with_slot};
 ghost use Rattle.iox_slots.specs.Slots.{let_go, slot_in, with_slot_of};
 
 use crate::left::Left;
-use crate::pool::Pool;
 use crate::pools::Pools;
 use iox_tables::wanted::Label;
 
-/// Where there is no message.
-const NO_LABEL: Label = Label {
-    lane: 0,
-    request: 0,
-};
-
-/// The label of the message in the slot of that number.
-#[inline(always)]
-fn label_of(pool: &Pool, slot: u64) -> Label
-    ensures lane { result.lane ≡ (slot_in pool.now.slots slot).lane }
-    ensures request { result.request ≡ (slot_in pool.now.slots slot).request }
-{
-    match pool.slot(slot) {
-        Some(slot) => Label {
-            lane: slot.lane(),
-            request: slot.request(),
-        },
-        None => NO_LABEL,
-    }
-}
-
-/// One less has a slot of the pool.
-#[inline(always)]
-fn leave_of(pool: &mut Pool, slot: u64) -> Left
-    ensures lane { result.label.lane ≡ (slot_in pool.old.slots slot).lane }
-    ensures request { result.label.request ≡ (slot_in pool.old.slots slot).request }
-    ensures owner { result.owner ≡ pool.old.port }
-    ensures idle { result.idle ≡ list_all is_free pool.new.slots }
-    ensures left { pool.new ≡ with_slot_of let_go pool.old slot }
-{
-    let label = label_of(pool, slot);
-    let owner = pool.port();
-    pool.let_go(slot);
-    Left {
-        label,
-        owner,
-        idle: pool.free_len() == pool.len(),
-    }
-}
-
-/// The same, if there is a pool.
-#[inline(always)]
-fn leave_in(pool: &mut Option<Pool>, slot: u64) -> Left
-    ensures lane { result.label.lane
-        ≡ (slot_in (option_map_or (λ p. p.slots) pool.old []) slot).lane }
-    ensures request { result.label.request
-        ≡ (slot_in (option_map_or (λ p. p.slots) pool.old []) slot).request }
-    ensures owner { result.owner ≡ option_map_or (λ p. p.port) pool.old 0 }
-    ensures idle { result.idle ≡ list_all is_free (option_map_or (λ p. p.slots) pool.new []) }
-    ensures left { pool.new ≡ option_map (λ p. with_slot_of let_go p slot) pool.old }
-{
-    match pool {
-        Some(pool) => leave_of(pool, slot),
-        None => Left {
-            label: NO_LABEL,
-            owner: 0,
-            idle: true,
-        },
-    }
-}
-
 impl Pools {
-    /// One less has a slot, of which this was known. Where nobody had it, and where there is no
-    /// such slot, nothing changes.
+    /// One less has a slot that somebody has, of which this was known.
     #[inline(always)]
     pub fn leave(&mut self, place: usize, slot: u64) -> Left
+        requires taken { 0 < (slot_at self.old place slot).holders }
         ensures label { result.label ≡ labels_of self.old place slot }
         ensures owner { result.owner ≡ owner_of self.old place }
         ensures idle { result.idle ≡ is_idle self.new place }
         ensures left { self.new ≡ with_slot let_go self.old place slot }
     {
-        if place < self.pools.len() {
-            return leave_in(&mut self.pools[place], slot);
-        }
+        let pool = &mut self.pools[place];
+        let label = Label {
+            lane: pool.slots[slot as usize].lane,
+            request: pool.slots[slot as usize].request,
+        };
+        pool.leave(slot);
         Left {
-            label: NO_LABEL,
-            owner: 0,
-            idle: true,
+            label,
+            owner: pool.port(),
+            at: pool.at as usize,
+            idle: pool.free.len() == pool.slots.len(),
         }
     }
 }
