@@ -198,9 +198,7 @@ impl<E: Words, QH: Words, P: Payload, PH: Words> RequestMutUninit<One<E>, QH, P,
             of,
         } = self;
         request_has_one(hub, node, number);
-        let Written::Done(_) = hub.write_request(node, number, hint, &[value]) else {
-            unreachable!();
-        };
+        hub.write_one_request(node, number, hint, value);
         RequestMut {
             node,
             number,

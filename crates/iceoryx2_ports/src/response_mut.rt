@@ -198,9 +198,7 @@ impl<Q: Payload, QH: Words, E: Words, PH: Words> ResponseMutUninit<Q, QH, One<E>
             of,
         } = self;
         response_has_one(hub, node, number);
-        let Written::Done(_) = hub.write_response(node, number, hint, &[value]) else {
-            unreachable!();
-        };
+        hub.write_one_response(node, number, hint, value);
         ResponseMut {
             node,
             number,

@@ -97,6 +97,12 @@ impl Control {
         self.handles.near(number, hint)
     }
 
+    /// The handle of that number, which is a loan at the hint, is of that kind now.
+    #[inline(always)]
+    pub fn set_kind(&mut self, number: u64, hint: usize, kind: Kind) {
+        self.handles.set_kind(number, hint, kind);
+    }
+
     /// The label of the message in a slot that is there.
     #[inline(always)]
     pub fn label_of(&self, pool: usize, slot: u64) -> Label {

@@ -7,7 +7,7 @@ ghost use Rattle.iox_hub.specs.Shapes.{shape_of};
 ghost use Rattle.iox_hub.specs.Words.{all_carried, stored_in};
 
 use crate::shape::MessageShape;
-use crate::words::PoolWords;
+use crate::words::AllWords;
 use iox_store::{Spare, Store};
 use iox_words::Words;
 
@@ -29,7 +29,10 @@ fn lend_in<E: Words, H: Words>(
         (first_stored (shape_of many E.WORDS E.words H.words shape.now) uninit elements
         (stored_at store.old slot)) }
 {
-    let _room = store.room(slot);
+    if uninit && spare.is_none() {
+        store.lend_own(slot, elements, shape.user_header);
+        return;
+    }
     if uninit {
         store.lend_uninit(slot, elements, shape.user_header, spare);
         return;
@@ -44,7 +47,7 @@ fn lend_in<E: Words, H: Words>(
 /// elements, it takes the room that is given.
 #[inline(always)]
 pub(crate) fn lend_request_in<QE: Words, QH: Words, PE: Words, PH: Words>(
-    words: &mut Vec<Option<PoolWords<QE, QH, PE, PH>>>,
+    words: &mut AllWords<QE, QH, PE, PH>,
     pool: usize,
     slot: usize,
     elements: usize,
@@ -61,17 +64,15 @@ pub(crate) fn lend_request_in<QE: Words, QH: Words, PE: Words, PH: Words>(
         (first_stored (shape_of many QE.WORDS QE.words QH.words shape.now) uninit elements
         (stored_in (all_carried words.old.items) pool slot)) }
 {
-    match &mut words[pool] {
-        Some(PoolWords::Requests(store)) => lend_in(store, slot, elements, uninit, shape, spare),
-        _ => unreachable!(),
-    }
+    let store = words.requests_mut(pool);
+    lend_in(store, slot, elements, uninit, shape, spare)
 }
 
 /// Lends the response in that slot of the pool in this place. Where it has no room for so many
 /// elements, it takes the room that is given.
 #[inline(always)]
 pub(crate) fn lend_response_in<QE: Words, QH: Words, PE: Words, PH: Words>(
-    words: &mut Vec<Option<PoolWords<QE, QH, PE, PH>>>,
+    words: &mut AllWords<QE, QH, PE, PH>,
     pool: usize,
     slot: usize,
     elements: usize,
@@ -88,15 +89,13 @@ pub(crate) fn lend_response_in<QE: Words, QH: Words, PE: Words, PH: Words>(
         (first_stored (shape_of many PE.WORDS PE.words PH.words shape.now) uninit elements
         (stored_in (all_carried words.old.items) pool slot)) }
 {
-    match &mut words[pool] {
-        Some(PoolWords::Responses(store)) => lend_in(store, slot, elements, uninit, shape, spare),
-        _ => unreachable!(),
-    }
+    let store = words.responses_mut(pool);
+    lend_in(store, slot, elements, uninit, shape, spare)
 }
 
 /// Fills the request in that slot with copies of these elements.
 pub(crate) fn write_request_in<QE: Words, QH: Words, PE: Words, PH: Words>(
-    words: &mut Vec<Option<PoolWords<QE, QH, PE, PH>>>,
+    words: &mut AllWords<QE, QH, PE, PH>,
     pool: usize,
     slot: usize,
     values: &[QE],
@@ -109,15 +108,13 @@ pub(crate) fn write_request_in<QE: Words, QH: Words, PE: Words, PH: Words>(
         (filled_with (stored_in (all_carried words.old.items) pool slot)
         (flat_map QE.words values.now)) }
 {
-    match &mut words[pool] {
-        Some(PoolWords::Requests(store)) => store.write_from_slice(slot, values),
-        _ => unreachable!(),
-    }
+    let store = words.requests_mut(pool);
+    store.write_from_slice(slot, values)
 }
 
 /// Fills the response in that slot with copies of these elements.
 pub(crate) fn write_response_in<QE: Words, QH: Words, PE: Words, PH: Words>(
-    words: &mut Vec<Option<PoolWords<QE, QH, PE, PH>>>,
+    words: &mut AllWords<QE, QH, PE, PH>,
     pool: usize,
     slot: usize,
     values: &[PE],
@@ -130,8 +127,6 @@ pub(crate) fn write_response_in<QE: Words, QH: Words, PE: Words, PH: Words>(
         (filled_with (stored_in (all_carried words.old.items) pool slot)
         (flat_map PE.words values.now)) }
 {
-    match &mut words[pool] {
-        Some(PoolWords::Responses(store)) => store.write_from_slice(slot, values),
-        _ => unreachable!(),
-    }
+    let store = words.responses_mut(pool);
+    store.write_from_slice(slot, values)
 }

@@ -6,7 +6,7 @@ ghost use Rattle.iox_hub.specs.Fits.{are_requests_in, count_in, longest_in};
 ghost use Rattle.iox_hub.specs.Lending.{with_message};
 ghost use Rattle.iox_hub.specs.Words.{all_carried, stored_in};
 
-use crate::words::PoolWords;
+use crate::words::AllWords;
 use iox_control_request_copies::Place;
 use iox_store::{Spare, Store};
 use iox_words::Words;
@@ -34,7 +34,7 @@ fn copy_in<E: Words, H: Words>(
 /// Copies these elements into the request in that place. Where it has no room for them, it takes
 /// the room that is given.
 pub(crate) fn copy_request_in<QE: Words, QH: Words, PE: Words, PH: Words>(
-    words: &mut Vec<Option<PoolWords<QE, QH, PE, PH>>>,
+    words: &mut AllWords<QE, QH, PE, PH>,
     place: Place,
     values: &[QE],
     user: QH,
@@ -50,16 +50,14 @@ pub(crate) fn copy_request_in<QE: Words, QH: Words, PE: Words, PH: Words>(
         (stored_in (all_carried words.old.items) place.pool place.slot)) }
 {
     let slot = place.slot as usize;
-    match &mut words[place.pool] {
-        Some(PoolWords::Requests(store)) => copy_in(store, slot, values, user, spare),
-        _ => unreachable!(),
-    }
+    let store = words.requests_mut(place.pool);
+    copy_in(store, slot, values, user, spare)
 }
 
 /// Copies these elements into the response in that place. Where it has no room for them, it takes
 /// the room that is given.
 pub(crate) fn copy_response_in<QE: Words, QH: Words, PE: Words, PH: Words>(
-    words: &mut Vec<Option<PoolWords<QE, QH, PE, PH>>>,
+    words: &mut AllWords<QE, QH, PE, PH>,
     place: Place,
     values: &[PE],
     user: PH,
@@ -75,8 +73,6 @@ pub(crate) fn copy_response_in<QE: Words, QH: Words, PE: Words, PH: Words>(
         (stored_in (all_carried words.old.items) place.pool place.slot)) }
 {
     let slot = place.slot as usize;
-    match &mut words[place.pool] {
-        Some(PoolWords::Responses(store)) => copy_in(store, slot, values, user, spare),
-        _ => unreachable!(),
-    }
+    let store = words.responses_mut(place.pool);
+    copy_in(store, slot, values, user, spare)
 }

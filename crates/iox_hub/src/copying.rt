@@ -81,7 +81,7 @@ impl<Q: Payload, QH: Words, P: Payload, PH: Words, H: Backpressure> Hub<Q, QH, P
             handler,
             strategy: port.strategy,
         };
-        let asked = asked_of::<Q, QH>(&self.request, values.len(), false);
+        let asked = asked_of::<Q, QH>(&self.request, self.most_of_request, values.len(), false);
         let copied = iox_control_request_copies::copy_request(
             &mut self.control,
             node,
@@ -140,7 +140,7 @@ impl<Q: Payload, QH: Words, P: Payload, PH: Words, H: Backpressure> Hub<Q, QH, P
             unreachable!();
         };
         let fails = fails_at_client(&self.control, &self.handlers, entry);
-        let asked = asked_of::<P, PH>(&self.response, values.len(), false);
+        let asked = asked_of::<P, PH>(&self.response, self.most_of_response, values.len(), false);
         let answered = iox_control_request_copies::copy_response(
             &mut self.control,
             node,

@@ -9,7 +9,7 @@ ghost use Rattle.iox_hub.specs.Shapes.{shape_of};
 ghost use Rattle.iox_hub.specs.Words.{all_carried, stored_in};
 
 use crate::shape::MessageShape;
-use crate::words::PoolWords;
+use crate::words::AllWords;
 use iox_store::Store;
 use iox_words::Words;
 
@@ -42,7 +42,7 @@ fn is_full_in<E: Words, H: Words>(store: &Store<E, H>, slot: usize) -> bool
 
 /// Whether all elements of the message in that slot of the pool in this place are filled.
 pub(crate) fn is_filled_in<QE: Words, QH: Words, PE: Words, PH: Words>(
-    words: &[Option<PoolWords<QE, QH, PE, PH>>],
+    words: &AllWords<QE, QH, PE, PH>,
     pool: usize,
     slot: usize,
 ) -> bool
@@ -52,16 +52,15 @@ pub(crate) fn is_filled_in<QE: Words, QH: Words, PE: Words, PH: Words>(
     ensures within { (stored_in (all_carried words.now) pool slot).filled
         ≤ (stored_in (all_carried words.now) pool slot).elements }
 {
-    match words.get(pool) {
-        Some(Some(PoolWords::Requests(store))) => is_full_in(store, slot),
-        Some(Some(PoolWords::Responses(store))) => is_full_in(store, slot),
-        _ => unreachable!(),
+    if words.are_requests(pool) {
+        return is_full_in(words.requests(pool), slot);
     }
+    is_full_in(words.responses(pool), slot)
 }
 
 /// Gives the request in that slot another user header.
 pub(crate) fn set_request_header_in<QE: Words, QH: Words, PE: Words, PH: Words>(
-    words: &mut Vec<Option<PoolWords<QE, QH, PE, PH>>>,
+    words: &mut AllWords<QE, QH, PE, PH>,
     pool: usize,
     slot: usize,
     user: QH,
@@ -71,15 +70,13 @@ pub(crate) fn set_request_header_in<QE: Words, QH: Words, PE: Words, PH: Words>(
     ensures { all_carried words.new.items ≡ with_message (all_carried words.old.items) pool slot
         (with_user (stored_in (all_carried words.old.items) pool slot) (QH.words user)) }
 {
-    match &mut words[pool] {
-        Some(PoolWords::Requests(store)) => store.set_user_header(slot, user),
-        _ => unreachable!(),
-    }
+    let store = words.requests_mut(pool);
+    store.set_user_header(slot, user)
 }
 
 /// Gives the response in that slot another user header.
 pub(crate) fn set_response_header_in<QE: Words, QH: Words, PE: Words, PH: Words>(
-    words: &mut Vec<Option<PoolWords<QE, QH, PE, PH>>>,
+    words: &mut AllWords<QE, QH, PE, PH>,
     pool: usize,
     slot: usize,
     user: PH,
@@ -89,15 +86,13 @@ pub(crate) fn set_response_header_in<QE: Words, QH: Words, PE: Words, PH: Words>
     ensures { all_carried words.new.items ≡ with_message (all_carried words.old.items) pool slot
         (with_user (stored_in (all_carried words.old.items) pool slot) (PH.words user)) }
 {
-    match &mut words[pool] {
-        Some(PoolWords::Responses(store)) => store.set_user_header(slot, user),
-        _ => unreachable!(),
-    }
+    let store = words.responses_mut(pool);
+    store.set_user_header(slot, user)
 }
 
 /// Fills the next element of the request in that slot.
 pub(crate) fn write_next_request_in<QE: Words, QH: Words, PE: Words, PH: Words>(
-    words: &mut Vec<Option<PoolWords<QE, QH, PE, PH>>>,
+    words: &mut AllWords<QE, QH, PE, PH>,
     pool: usize,
     slot: usize,
     value: QE,
@@ -109,15 +104,13 @@ pub(crate) fn write_next_request_in<QE: Words, QH: Words, PE: Words, PH: Words>(
     ensures { all_carried words.new.items ≡ with_message (all_carried words.old.items) pool slot
         (written_next (stored_in (all_carried words.old.items) pool slot) (QE.words value)) }
 {
-    match &mut words[pool] {
-        Some(PoolWords::Requests(store)) => store.write_next(slot, value),
-        _ => unreachable!(),
-    }
+    let store = words.requests_mut(pool);
+    store.write_next(slot, value)
 }
 
 /// Fills the next element of the response in that slot.
 pub(crate) fn write_next_response_in<QE: Words, QH: Words, PE: Words, PH: Words>(
-    words: &mut Vec<Option<PoolWords<QE, QH, PE, PH>>>,
+    words: &mut AllWords<QE, QH, PE, PH>,
     pool: usize,
     slot: usize,
     value: PE,
@@ -129,10 +122,8 @@ pub(crate) fn write_next_response_in<QE: Words, QH: Words, PE: Words, PH: Words>
     ensures { all_carried words.new.items ≡ with_message (all_carried words.old.items) pool slot
         (written_next (stored_in (all_carried words.old.items) pool slot) (PE.words value)) }
 {
-    match &mut words[pool] {
-        Some(PoolWords::Responses(store)) => store.write_next(slot, value),
-        _ => unreachable!(),
-    }
+    let store = words.responses_mut(pool);
+    store.write_next(slot, value)
 }
 
 /// Fills all elements of the request in that slot, each with what the closure answers for its
@@ -143,7 +134,7 @@ pub(crate) fn write_request_from_fn_in<
     PE: Words,
     PH: Words,
     F: FnMut(usize) -> QE,
->(words: &mut Vec<Option<PoolWords<QE, QH, PE, PH>>>, pool: usize, slot: usize, f: F)
+>(words: &mut AllWords<QE, QH, PE, PH>, pool: usize, slot: usize, f: F)
     requires requests { are_requests_in (all_carried words.old.items) pool ≡ true }
     requires there { slot < count_in (all_carried words.old.items) pool }
     requires callable { F.IsAlwaysCallable f }
@@ -154,10 +145,8 @@ pub(crate) fn write_request_from_fn_in<
         ≡ with_message (all_carried words.old.items) pool slot
         (stored_in (all_carried words.new.items) pool slot) }
 {
-    match &mut words[pool] {
-        Some(PoolWords::Requests(store)) => store.write_from_fn(slot, f),
-        _ => unreachable!(),
-    }
+    let store = words.requests_mut(pool);
+    store.write_from_fn(slot, f)
 }
 
 /// Fills all elements of the response in that slot, each with what the closure answers for its
@@ -168,7 +157,7 @@ pub(crate) fn write_response_from_fn_in<
     PE: Words,
     PH: Words,
     F: FnMut(usize) -> PE,
->(words: &mut Vec<Option<PoolWords<QE, QH, PE, PH>>>, pool: usize, slot: usize, f: F)
+>(words: &mut AllWords<QE, QH, PE, PH>, pool: usize, slot: usize, f: F)
     requires responses { are_requests_in (all_carried words.old.items) pool ≡ false }
     requires there { slot < count_in (all_carried words.old.items) pool }
     requires callable { F.IsAlwaysCallable f }
@@ -179,8 +168,6 @@ pub(crate) fn write_response_from_fn_in<
         ≡ with_message (all_carried words.old.items) pool slot
         (stored_in (all_carried words.new.items) pool slot) }
 {
-    match &mut words[pool] {
-        Some(PoolWords::Responses(store)) => store.write_from_fn(slot, f),
-        _ => unreachable!(),
-    }
+    let store = words.responses_mut(pool);
+    store.write_from_fn(slot, f)
 }

@@ -11,7 +11,7 @@ ghost use Rattle.iox_hub.specs.Words.{all_carried};
 
 use crate::hub::Hub;
 use crate::lending::asked_of;
-use crate::words::PoolWords;
+use crate::words::AllWords;
 use iox_backpressure::Backpressure;
 use iox_control_request_copies::{request_may_be_made, response_may_be_made};
 use iox_store::{Payload, Spare};
@@ -25,7 +25,7 @@ pub(crate) fn let_go<E: Words>(_spare: Option<Spare<E>>) {}
 /// Room for a request of so many elements, from the pool in this place. The words that there are
 /// stay.
 fn spare_of_requests<QE: Words, QH: Words, PE: Words, PH: Words>(
-    words: &mut Vec<Option<PoolWords<QE, QH, PE, PH>>>,
+    words: &mut AllWords<QE, QH, PE, PH>,
     pool: usize,
     elements: usize,
 ) -> Result<Spare<QE>, AllocError>
@@ -34,16 +34,14 @@ fn spare_of_requests<QE: Words, QH: Words, PE: Words, PH: Words>(
     ensures room { IfOk result (λ spare. elements ≤ spare) }
     ensures unchanged { all_carried words.new.items ≡ all_carried words.old.items }
 {
-    match &mut words[pool] {
-        Some(PoolWords::Requests(store)) => store.spare(elements),
-        _ => unreachable!(),
-    }
+    let store = words.requests_mut(pool);
+    store.spare(elements)
 }
 
 /// Room for a response of so many elements, from the pool in this place. The words that there are
 /// stay.
 fn spare_of_responses<QE: Words, QH: Words, PE: Words, PH: Words>(
-    words: &mut Vec<Option<PoolWords<QE, QH, PE, PH>>>,
+    words: &mut AllWords<QE, QH, PE, PH>,
     pool: usize,
     elements: usize,
 ) -> Result<Spare<PE>, AllocError>
@@ -52,10 +50,8 @@ fn spare_of_responses<QE: Words, QH: Words, PE: Words, PH: Words>(
     ensures room { IfOk result (λ spare. elements ≤ spare) }
     ensures unchanged { all_carried words.new.items ≡ all_carried words.old.items }
 {
-    match &mut words[pool] {
-        Some(PoolWords::Responses(store)) => store.spare(elements),
-        _ => unreachable!(),
-    }
+    let store = words.responses_mut(pool);
+    store.spare(elements)
 }
 
 impl<Q: Payload, QH: Words, P: Payload, PH: Words, H: Backpressure> Hub<Q, QH, P, PH, H> {
@@ -85,7 +81,7 @@ impl<Q: Payload, QH: Words, P: Payload, PH: Words, H: Backpressure> Hub<Q, QH, P
         if elements as u64 <= port.longest {
             return Ok(None);
         }
-        let asked = asked_of::<Q, QH>(&self.request, elements, false);
+        let asked = asked_of::<Q, QH>(&self.request, self.most_of_request, elements, false);
         if !request_may_be_made(&self.control, client, asked) {
             return Ok(None);
         }
@@ -129,7 +125,7 @@ impl<Q: Payload, QH: Words, P: Payload, PH: Words, H: Backpressure> Hub<Q, QH, P
         if elements as u64 <= port.longest {
             return Ok(None);
         }
-        let asked = asked_of::<P, PH>(&self.response, elements, false);
+        let asked = asked_of::<P, PH>(&self.response, self.most_of_response, elements, false);
         if !response_may_be_made(&self.control, node, number, hint, asked) {
             return Ok(None);
         }

@@ -6,9 +6,10 @@ ghost use Rattle.iox_hub.specs.Hubs.{IsReached};
 ghost use Rattle.iox_hub.specs.Shapes.{HaveParts, shape_of};
 ghost use Rattle.iox_hub.specs.Starts.{new_hub};
 
+use crate::layouts::most_of;
 use crate::settings::started;
 use crate::shape::{MessageShape, known};
-use crate::words::PoolWords;
+use crate::words::AllWords;
 use iox_backpressure::{Backpressure, Handlers};
 use iox_control::{Control, Settings};
 use iox_store::Payload;
@@ -25,9 +26,12 @@ use std::marker::Model;
 pub struct Hub<Q: Payload, QH: Words, P: Payload, PH: Words, H: Backpressure = ()> {
     pub(crate) control: Control,
     // Beside each pool of the tables.
-    pub(crate) words: Vec<Option<PoolWords<Q::Element, QH, P::Element, PH>>>,
+    pub(crate) words: AllWords<Q::Element, QH, P::Element, PH>,
     pub(crate) request: MessageShape<Q::Element, QH>,
     pub(crate) response: MessageShape<P::Element, PH>,
+    // Messages of so many elements, or fewer, can be addressed.
+    pub(crate) most_of_request: u64,
+    pub(crate) most_of_response: u64,
     pub(crate) handlers: Handlers<H>,
 }
 
@@ -73,7 +77,13 @@ impl<Q: Payload, QH: Words, P: Payload, PH: Words, H: Backpressure> Hub<Q, QH, P
         let control = Control::new(alloc, started(settings))?;
         Ok(Hub {
             control,
-            words: Vec::new(alloc),
+            words: AllWords::new(alloc),
+            most_of_request: most_of(request.header_part, request.user_part, request.element_part),
+            most_of_response: most_of(
+                response.header_part,
+                response.user_part,
+                response.element_part,
+            ),
             request: known(request),
             response: known(response),
             handlers: Handlers::new(alloc),

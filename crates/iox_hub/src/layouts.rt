@@ -61,3 +61,11 @@ pub(crate) fn has_layout(header: Part, user: Part, element: Part, elements: u64)
     }
     can_be_addressed(header, user, element, elements)
 }
+
+/// Messages of so many elements of such parts, or fewer, can be addressed.
+pub(crate) fn most_of(header: Part, user: Part, element: Part) -> u64 {
+    if is_small(header) && is_small(user) && is_small(element) {
+        return (1 << 60) / (element.size as u64 + 1);
+    }
+    0
+}

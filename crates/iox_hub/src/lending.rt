@@ -34,6 +34,7 @@ use iox_words::Words;
 #[inline(always)]
 pub(crate) fn asked_of<Q: Payload, H: Words>(
     shape: &MessageShape<Q::Element, H>,
+    most: u64,
     elements: usize,
     uninit: bool,
 ) -> Asked
@@ -44,12 +45,13 @@ pub(crate) fn asked_of<Q: Payload, H: Words>(
         elements: elements as u64,
         uninit,
         is_count: is_length::<Q>(elements),
-        has_layout: has_layout(
-            shape.header_part,
-            shape.user_part,
-            shape.element_part,
-            elements as u64,
-        ),
+        has_layout: elements as u64 <= most && elements > 0
+            || has_layout(
+                shape.header_part,
+                shape.user_part,
+                shape.element_part,
+                elements as u64,
+            ),
     }
 }
 
@@ -80,7 +82,7 @@ impl<Q: Payload, QH: Words, P: Payload, PH: Words, H: Backpressure> Hub<Q, QH, P
         ensures keeps { KeepsAll self.old self.new }
         ensures memory { result ≡ Refused WantOfMemory → ⊥ }
     {
-        let asked = asked_of::<Q, QH>(&self.request, elements, uninit);
+        let asked = asked_of::<Q, QH>(&self.request, self.most_of_request, elements, uninit);
         let lent = lend_request_of(&mut self.control, node, client, at, port, asked);
         if let Lent::Handle(l) = lent {
             let slot = l.slot as usize;
@@ -159,7 +161,7 @@ impl<Q: Payload, QH: Words, P: Payload, PH: Words, H: Backpressure> Hub<Q, QH, P
         ensures keeps { KeepsAll self.old self.new }
         ensures memory { result ≡ Refused WantOfMemory → ⊥ }
     {
-        let asked = asked_of::<P, PH>(&self.response, elements, uninit);
+        let asked = asked_of::<P, PH>(&self.response, self.most_of_response, elements, uninit);
         let lent = lend_response_of(&mut self.control, node, number, entry, at, port, asked);
         if let Lent::Handle(l) = lent {
             let slot = l.slot as usize;

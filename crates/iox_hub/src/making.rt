@@ -20,7 +20,7 @@ ghost use Rattle.iox_hub.specs.Words.{all_carried, carried};
 use crate::hub::Hub;
 use crate::options::Options;
 use crate::pools::{Form, asked_of, worst_pool};
-use crate::words::PoolWords;
+use crate::words::{AllWords, PoolWords};
 use iox_backpressure::Backpressure;
 use iox_control_making::{Asked, NotMade, make_port};
 use iox_model::kind::Role;
@@ -44,21 +44,18 @@ fn next_place(pools: &Pools) -> Option<usize>
 
 /// Makes room for words in this place. The words that there are stay.
 fn make_room<QE: Words, QH: Words, PE: Words, PH: Words>(
-    words: &mut Vec<Option<PoolWords<QE, QH, PE, PH>>>,
+    words: &mut AllWords<QE, QH, PE, PH>,
     place: usize,
 ) -> Result<(), AllocError>
     ensures room { OnOk result (place < vec_capacity words.new) }
     ensures unchanged { words.new.items ≡ words.old.items }
 {
-    let Some(more) = place.saturating_sub(words.len()).checked_add(1) else {
-        return Err(AllocError);
-    };
-    words.reserve(more)
+    words.make_room(place)
 }
 
 /// Puts words in this place, for which there is room.
 fn put<QE: Words, QH: Words, PE: Words, PH: Words>(
-    words: &mut Vec<Option<PoolWords<QE, QH, PE, PH>>>,
+    words: &mut AllWords<QE, QH, PE, PH>,
     place: usize,
     new: PoolWords<QE, QH, PE, PH>,
 )
@@ -66,10 +63,7 @@ fn put<QE: Words, QH: Words, PE: Words, PH: Words>(
     ensures { AreWordsPut (all_carried words.old.items) place (carried new)
         (all_carried words.new.items) }
 {
-    while words.len() <= place {
-        words.push_reserved(None);
-    }
-    words[place] = Some(new);
+    words.put(place, new);
 }
 
 impl<Q: Payload, QH: Words, P: Payload, PH: Words, H: Backpressure> Hub<Q, QH, P, PH, H> {

@@ -13,30 +13,29 @@ ghost use Rattle.iox_hub.specs.Reads.{HasOf, has_request, has_response, message_
 ghost use Rattle.iox_hub.specs.Words.{all_carried};
 
 use crate::hub::Hub;
-use crate::words::PoolWords;
+use crate::words::AllWords;
 use iox_backpressure::Backpressure;
 use iox_handles::Entry;
 use iox_store::{Payload, Store};
 use iox_words::Words;
 
 /// What the requests carry whose pool is in this place.
+#[inline(always)]
 pub(crate) fn requests_in<QE: Words, QH: Words, PE: Words, PH: Words>(
-    words: &[Option<PoolWords<QE, QH, PE, PH>>],
+    words: &AllWords<QE, QH, PE, PH>,
     pool: usize,
 ) -> &Store<QE, QH>
     requires requests { are_requests_in (all_carried words.now) pool ≡ true }
     ensures { carried_in (all_carried words.now) pool
         ≡ Some (record { requests = true; contents = result.now }) }
 {
-    match words.get(pool) {
-        Some(Some(PoolWords::Requests(store))) => store,
-        _ => unreachable!(),
-    }
+    words.requests(pool)
 }
 
 /// What the responses carry whose pool is in this place.
+#[inline(always)]
 pub(crate) fn responses_in<QE: Words, QH: Words, PE: Words, PH: Words>(
-    words: &[Option<PoolWords<QE, QH, PE, PH>>],
+    words: &AllWords<QE, QH, PE, PH>,
     pool: usize,
 ) -> &Store<PE, PH>
     requires there { 0 < count_in (all_carried words.now) pool }
@@ -44,10 +43,7 @@ pub(crate) fn responses_in<QE: Words, QH: Words, PE: Words, PH: Words>(
     ensures { carried_in (all_carried words.now) pool
         ≡ Some (record { requests = false; contents = result.now }) }
 {
-    match words.get(pool) {
-        Some(Some(PoolWords::Responses(store))) => store,
-        _ => unreachable!(),
-    }
+    words.responses(pool)
 }
 
 impl<Q: Payload, QH: Words, P: Payload, PH: Words, H: Backpressure> Hub<Q, QH, P, PH, H> {

@@ -128,6 +128,18 @@ impl<E: Words, H: Words> Cell<E, H> {
         }
     }
 
+    /// Lends it in its own room for so many elements, none of which is filled.
+    #[inline(always)]
+    pub fn lend_own(&mut self, elements: usize, user: H)
+        requires { elements ≤ self.old.room }
+        ensures { self.new ≡ lent_uninit self.old elements (H.words user) }
+    {
+        user.known();
+        self.elements = elements;
+        self.user = user;
+        self.payload.clear();
+    }
+
     /// No element is filled any more.
     #[inline]
     pub fn empty(&mut self)

@@ -50,6 +50,16 @@ impl<E: Words, H: Words> Store<E, H> {
         })
     }
 
+    /// No messages.
+    pub fn none(alloc: Global) -> Self {
+        Store {
+            cells: Vec::new(alloc),
+            longest: 0,
+            spare: None,
+            alloc,
+        }
+    }
+
     /// How many messages there are.
     #[inline]
     pub fn len(&self) -> usize

@@ -31,6 +31,12 @@ impl<E: Words, H: Words> Store<E, H> {
         self.keep(left);
     }
 
+    /// The same, in the message's own room.
+    #[inline(always)]
+    pub fn lend_own(&mut self, place: usize, elements: usize, user: H) {
+        self.cells[place].lend_own(elements, user);
+    }
+
     /// Lends the message for so many elements, each filled with the same value. Where it has no
     /// room for them, it takes the room that is given.
     #[inline]
