@@ -203,6 +203,7 @@ impl Control {
         role: Role,
         port: u64,
         at: usize,
+        rank: usize,
         pool: usize,
         slot: u64,
     ) -> Entry
@@ -221,7 +222,8 @@ impl Control {
             number: self.next_number,
             kind,
             at: (at & 0xffff) as u16,
-            client_at: (client_at & 0xffff_ffff) as u32,
+            client_at: (client_at & 0xffff) as u16,
+            rank: (rank & 0xffff) as u16,
             port,
             pool,
             slot,
@@ -239,6 +241,7 @@ impl Control {
         role: Role,
         port: u64,
         at: usize,
+        rank: usize,
         pool: usize,
         slot: u64,
     ) -> Received
@@ -250,7 +253,7 @@ impl Control {
         ensures number { result ≡ self.old.tables.next_number }
         ensures got { self.new ≡ with_got self.old node role port pool slot }
     {
-        let entry = self.got_entry(node, role, port, at, pool, slot);
+        let entry = self.got_entry(node, role, port, at, rank, pool, slot);
         self.hold(pool, slot);
         let place = self.add_handle(entry);
         self.count_call();

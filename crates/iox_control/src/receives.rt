@@ -37,7 +37,9 @@ impl Control {
         let wanted = self.wanted_by_server();
         let place = self.ports.known_place(server, at);
         match self.visit_at(place, 0, wanted) {
-            Visits::Got(_, pool, slot) => self.got(node, Role::Server, server, place, pool, slot),
+            Visits::Got(_, pool, slot, rank) => {
+                self.got(node, Role::Server, server, place, rank, pool, slot)
+            },
             Visits::AtLimit => Received::AtLimit,
             Visits::Nothing => {
                 self.count_call();
@@ -65,8 +67,8 @@ impl Control {
         let label = self.label_of(entry.pool, entry.slot);
         let place = self.ports.known_place(entry.port, entry.at as usize);
         match self.visit_at(place, label.lane, Wanted::Of(label.request)) {
-            Visits::Got(_, pool, slot) => {
-                self.got(node, Role::Client, entry.port, place, pool, slot)
+            Visits::Got(_, pool, slot, rank) => {
+                self.got(node, Role::Client, entry.port, place, rank, pool, slot)
             }
             Visits::AtLimit => Received::AtLimit,
             Visits::Nothing => {

@@ -59,6 +59,7 @@ pub fn copy_response(
         at: 0,
         client: entry.client,
         client_at: 0,
+        rank: 0,
         lane: label.lane,
         request: label.request,
     };

@@ -23,7 +23,9 @@ pub struct Lending {
     /// Where the port is looked for first, and where the client is.
     pub at: usize,
     pub client: u64,
-    pub client_at: u32,
+    pub client_at: u16,
+    /// Of the pipes that lead to it, where the client's is likely.
+    pub rank: u16,
     pub lane: u64,
     pub request: u64,
 }

@@ -78,7 +78,8 @@ pub fn lend_request_of(
         port,
         at,
         client: port.number,
-        client_at: (at & 0xffff_ffff) as u32,
+        client_at: (at & 0xffff) as u16,
+        rank: 0,
         lane: 0,
         request: port.loans % (1 << 62),
     };
@@ -137,6 +138,7 @@ pub fn lend_response_of(
         at,
         client: entry.client,
         client_at: entry.client_at,
+        rank: entry.rank,
         lane: label.lane,
         request: label.request,
     };

@@ -143,6 +143,7 @@ pub fn request_may_be_made(control: &Control, client: u64, asked: Asked) -> bool
         at: 0,
         client: port.number,
         client_at: 0,
+        rank: 0,
         lane: 0,
         request: port.loans % (1 << 62),
     };
@@ -185,6 +186,7 @@ pub fn response_may_be_made(
         at: 0,
         client: entry.client,
         client_at: 0,
+        rank: 0,
         lane: label.lane,
         request: label.request,
     };

@@ -51,6 +51,7 @@ fn loan_entry(control: &Control, lender: &Lending, uninit: bool, slot: u64) -> E
         kind: loan_kind(lender.port.role, uninit),
         at: (lender.at & 0xffff) as u16,
         client_at: lender.client_at,
+        rank: lender.rank,
         port: lender.port.number,
         pool: lender.port.pool,
         slot,

@@ -54,6 +54,7 @@ fn set_kind(control: &mut Control, entry: Entry, kind: Kind, hint: usize)
         kind,
         at: entry.at,
         client_at: entry.client_at,
+        rank: entry.rank,
         port: entry.port,
         pool: entry.pool,
         slot: entry.slot,

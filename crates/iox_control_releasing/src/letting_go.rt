@@ -31,6 +31,10 @@ pub fn let_pipe_go(control: &mut Control, pipe: Pipe)
         (λ pool k. in_pipe (lane_count pool k) pipe) }
 {
     let mut pipe = pipe;
+    while let Some(next) = pipe.get_next() {
+        let pool = pipe.pool(next.lane);
+        control.let_go(pool, next.place);
+    }
     while let Some(lane) = pipe.take_lane() {
         let_lane_go(control, lane);
     }

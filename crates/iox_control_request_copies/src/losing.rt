@@ -26,6 +26,7 @@ pub fn lose(control: &mut Control, client: u64, asked: Asked) -> Option<Copied>
         at: 0,
         client: port.number,
         client_at: 0,
+        rank: 0,
         lane: 0,
         request: port.loans % (1 << 62),
     };

@@ -40,6 +40,7 @@ pub fn lend_and_send(
         kind: Kind::RequestMut,
         at: 0,
         client_at: 0,
+        rank: 0,
         port: client,
         pool: loaned.pool,
         slot: loaned.slot,

@@ -46,6 +46,7 @@ fn become_pending(control: &mut Control, entry: Entry, hint: usize, count: u64)
         kind: Kind::PendingResponse,
         at: entry.at,
         client_at: entry.client_at,
+        rank: entry.rank,
         port: entry.port,
         pool: entry.pool,
         slot: entry.slot,

@@ -11,7 +11,9 @@ pub struct Entry {
     pub kind: Kind,
     /// Where its port is looked for first, and where its client is. A wrong place is only slower.
     pub at: u16,
-    pub client_at: u32,
+    pub client_at: u16,
+    /// Of the pipes that lead to its port, where the one is likely that its message came on.
+    pub rank: u16,
     /// The port that it belongs to.
     pub port: u64,
     /// The place of the pool, and the slot there.
@@ -36,6 +38,7 @@ impl Entry {
             kind: Kind::Client,
             at: 0,
             client_at: 0,
+            rank: 0,
             port: 0,
             pool: 0,
             slot: 0,

@@ -141,6 +141,7 @@ impl Table {
         there.kind = entry.kind;
         there.at = entry.at;
         there.client_at = entry.client_at;
+        there.rank = entry.rank;
         there.port = entry.port;
         there.pool = entry.pool;
         there.slot = entry.slot;

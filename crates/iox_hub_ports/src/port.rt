@@ -20,7 +20,7 @@ use iox_model::way::RequestState;
 use iox_tables::expired::Expired;
 use iox_tables::incoming::{Incoming, Visits};
 use iox_tables::pipe::{Next, Pipe};
-use iox_tables::steps::{LaneStep, StateStep};
+use iox_tables::steps::{LaneStep, PipeStep, StateStep};
 use iox_tables::wanted::{Labels, Wanted};
 use std::marker::Model;
 
@@ -29,6 +29,8 @@ use std::marker::Model;
 #[derive(Drop)]
 pub struct Port {
     info: PortInfo,
+    // Which of the pipes that lead to others of those of its role are from it, likely.
+    rank: usize,
     expired: Expired,
     incoming: Incoming,
 }
@@ -47,7 +49,7 @@ fn after_limit(visits: Visits) -> Visits
     ensures { result ≡ both_visits AtLimit visits }
 {
     match visits {
-        Visits::Got(sender, pool, place) => Visits::Got(sender, pool, place),
+        Visits::Got(sender, pool, place, rank) => Visits::Got(sender, pool, place, rank),
         Visits::AtLimit => Visits::AtLimit,
         Visits::Nothing => Visits::AtLimit,
     }
@@ -60,6 +62,7 @@ impl Port {
     {
         Port {
             info,
+            rank: 0,
             expired,
             incoming,
         }
@@ -94,6 +97,70 @@ impl Port {
         ensures { result ≡ length self.now.expired.pipes }
     {
         self.expired.len()
+    }
+
+    /// Where pipes from it are likely among those that lead to others.
+    #[inline(always)]
+    pub fn rank(&self) -> usize {
+        self.rank
+    }
+
+    /// They are likely there.
+    pub fn set_rank(&mut self, rank: usize) {
+        self.rank = rank;
+    }
+
+    /// Takes a step on the pipe from this sender, which is looked for at the hint first.
+    #[inline(always)]
+    pub fn on_pipe_at<S: PipeStep>(&mut self, sender: u64, hint: usize, step: &S) -> S::Answer {
+        if self.expired.len() == 0 {
+            return self.incoming.on_pipe_at(sender, hint, step);
+        }
+        self.on_pipe_far(sender, step)
+    }
+
+    /// The same, where there may be senders that are gone.
+    #[cold]
+    #[inline(never)]
+    fn on_pipe_far<S: PipeStep>(&mut self, sender: u64, step: &S) -> S::Answer {
+        match self.expired.rank(sender) {
+            Some(rank) => self.expired.on_pipe(rank, step),
+            None => self.incoming.on_pipe_at(sender, 0, step),
+        }
+    }
+
+    /// The request state of that lane, beside the pipe from this sender, which is looked for at the
+    /// hint first; closed where there is none.
+    #[inline(always)]
+    pub fn state_at(&self, sender: u64, hint: usize, lane: u64) -> RequestState {
+        if self.expired.len() == 0 {
+            return self.incoming.state_at(sender, hint, lane);
+        }
+        self.state_far(sender, lane)
+    }
+
+    /// The same, where there may be senders that are gone.
+    #[cold]
+    #[inline(never)]
+    fn state_far(&self, sender: u64, lane: u64) -> RequestState {
+        self.state(sender, lane)
+    }
+
+    /// Gets back the oldest message of those that were given back to this sender, which is looked
+    /// for at the hint first, if there is one.
+    #[inline(always)]
+    pub fn get_next_at(&mut self, sender: u64, hint: usize) -> Option<Next> {
+        if self.expired.len() == 0 {
+            return self.incoming.get_next_at(sender, hint);
+        }
+        self.get_next_far(sender)
+    }
+
+    /// The same, where there may be senders that are gone.
+    #[cold]
+    #[inline(never)]
+    fn get_next_far(&mut self, sender: u64) -> Option<Next> {
+        self.get_next(sender)
     }
 
     /// Counts one loan more.
@@ -251,7 +318,7 @@ impl Port {
         ensures visited { self.new ≡ visited_port wanted (L.label_of labels.now) lane self.old }
     {
         match self.expired.visit_all(lane, wanted, labels) {
-            Visits::Got(sender, pool, place) => Visits::Got(sender, pool, place),
+            Visits::Got(sender, pool, place, rank) => Visits::Got(sender, pool, place, rank),
             Visits::Nothing => self.incoming.visit_all(lane, wanted, labels),
             Visits::AtLimit => after_limit(self.incoming.visit_all(lane, wanted, labels)),
         }

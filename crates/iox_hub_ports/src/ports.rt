@@ -22,10 +22,11 @@ use crate::info::PortInfo;
 use crate::port::Port;
 use crate::steps::Release;
 use crate::walks::{is_at, place_of};
-use iox_model::way::Way;
+use iox_model::kind::Role;
+use iox_model::way::{RequestState, Way};
 use iox_tables::incoming::Visits;
-use iox_tables::pipe::Pipe;
-use iox_tables::steps::{LaneStep, StateStep};
+use iox_tables::pipe::{Next, Pipe};
+use iox_tables::steps::{LaneStep, PipeStep, StateStep};
 use iox_tables::wanted::{Labels, Wanted};
 use std::alloc::{AllocError, Global};
 use std::marker::Model;
@@ -135,6 +136,62 @@ impl Ports {
         self.ports[place].info()
     }
 
+    /// Where pipes from the port in that place are likely among those that lead to others.
+    #[inline(always)]
+    pub fn rank(&self, place: usize) -> usize {
+        self.ports[place].rank()
+    }
+
+    /// Takes a step on the pipe from the sender to the port in that place, where one is. The pipe is
+    /// looked for at the hint first.
+    #[inline(always)]
+    pub fn on_pipe_in<S: PipeStep>(
+        &mut self,
+        place: usize,
+        sender: u64,
+        hint: usize,
+        step: &S,
+    ) -> S::Answer {
+        self.ports[place].on_pipe_at(sender, hint, step)
+    }
+
+    /// The request state of that lane, from the port in that place, where one is, to the receiver.
+    #[inline(always)]
+    pub fn state_in(&self, place: usize, receiver: u64, hint: usize, lane: u64) -> RequestState {
+        self.ports[place].state_at(receiver, hint, lane)
+    }
+
+    /// Gets back the oldest message of those that the port in that place, where one is, gave back to
+    /// the sender, if there is one.
+    #[inline(always)]
+    pub fn get_next_in(&mut self, place: usize, sender: u64, hint: usize) -> Option<Next> {
+        self.ports[place].get_next_at(sender, hint)
+    }
+
+    /// Counts one loan more of the port in that place, where one is.
+    #[inline(always)]
+    pub fn count_loan_in(&mut self, place: usize) {
+        self.ports[place].count_loan();
+    }
+
+    /// The ranks of all ports among those of their role.
+    fn number_ranks(&mut self) {
+        let mut clients = 0;
+        let mut servers = 0;
+        for place in 0..self.ports.len() {
+            match self.ports[place].role() {
+                Role::Client => {
+                    self.ports[place].set_rank(clients);
+                    clients += 1;
+                }
+                Role::Server => {
+                    self.ports[place].set_rank(servers);
+                    servers += 1;
+                }
+            }
+        }
+    }
+
     /// Takes a step on the lane of a way.
     #[inline(always)]
     pub(crate) fn on_lane_of<S: LaneStep>(&mut self, way: Way, step: &S) -> S::Answer
@@ -214,6 +271,7 @@ impl Ports {
         self.last = self.last.max(number);
         self.latest[remainder(number)] = self.ports.len();
         self.ports.push_reserved(port);
+        self.number_ranks();
     }
 
     /// Takes the port of that number out, if there is one.
@@ -228,6 +286,7 @@ impl Ports {
                 self.room += 1;
                 let port = self.ports.remove(place);
                 self.latest = latest_of(&self.ports);
+                self.number_ranks();
                 Some(port)
             }
         }

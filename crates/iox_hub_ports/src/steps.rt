@@ -6,7 +6,7 @@ ghost use Rattle.iox_tables.specs.Lanes.{has_room, is_taken, offered, oldest, re
 ghost use Rattle.iox_hub_ports.specs.Ports.{pushed, pushed_out};
 
 use iox_tables::pipe::Pipe;
-use iox_tables::steps::{LaneStep, StateStep};
+use iox_tables::steps::{LaneStep, PipeStep, StateStep};
 
 /// The message in this place is put last in line, where there is room.
 #[derive(Clone, Copy, Drop)]
@@ -23,12 +23,12 @@ impl LaneStep for Deliver {
 
     ghost none = { λ s. false };
 
-    #[inline]
+    #[inline(always)]
     fn nothing(&self) -> bool {
         false
     }
 
-    #[inline]
+    #[inline(always)]
     fn step(&self, pipe: &mut Pipe, lane: usize) -> bool {
         pipe.deliver(lane, self.place)
     }
@@ -49,12 +49,12 @@ impl LaneStep for Release {
 
     ghost none = { λ s. false };
 
-    #[inline]
+    #[inline(always)]
     fn nothing(&self) -> bool {
         false
     }
 
-    #[inline]
+    #[inline(always)]
     fn step(&self, pipe: &mut Pipe, lane: usize) -> bool {
         pipe.release(lane, self.place)
     }
@@ -73,12 +73,12 @@ impl LaneStep for Evict {
 
     ghost none = { λ s. None };
 
-    #[inline]
+    #[inline(always)]
     fn nothing(&self) -> Option<u64> {
         None
     }
 
-    #[inline]
+    #[inline(always)]
     fn step(&self, pipe: &mut Pipe, lane: usize) -> Option<u64> {
         pipe.evict(lane)
     }
@@ -100,21 +100,127 @@ impl LaneStep for Push {
 
     ghost none = { λ s. None };
 
-    #[inline]
+    #[inline(always)]
     fn nothing(&self) -> Option<u64> {
         None
     }
 
-    #[inline]
+    #[inline(always)]
     fn step(&self, pipe: &mut Pipe, lane: usize) -> Option<u64> {
-        let place = self.place;
-        if pipe.is_full(lane) {
-            let oldest = pipe.evict(lane);
-            pipe.deliver(lane, place);
-            return oldest;
-        }
-        pipe.deliver(lane, place);
+        pipe.push(lane, self.place)
+    }
+}
+
+/// The receiver gives the message in this place of a lane back.
+#[derive(Clone, Copy, Drop)]
+pub struct GiveBack {
+    pub lane: usize,
+    pub place: u64,
+}
+
+impl PipeStep for GiveBack {
+    type Answer = bool;
+
+    #[inline(always)]
+    fn nothing(&self) -> bool {
+        false
+    }
+
+    #[inline(always)]
+    fn step(&self, pipe: &mut Pipe) -> bool {
+        pipe.release(self.lane, self.place)
+    }
+}
+
+/// The same on the first lane, and the request of that number is closed whose responses go on that
+/// lane.
+#[derive(Clone, Copy, Drop)]
+pub struct GiveBackAndClose {
+    pub place: u64,
+    pub state: usize,
+    pub id: u64,
+}
+
+impl PipeStep for GiveBackAndClose {
+    type Answer = bool;
+
+    #[inline(always)]
+    fn nothing(&self) -> bool {
+        false
+    }
+
+    #[inline(always)]
+    fn step(&self, pipe: &mut Pipe) -> bool {
+        pipe.close_request(self.state, self.id);
+        pipe.release(0, self.place)
+    }
+}
+
+/// The message in this place is put last in line, where nothing of that lane is left to get back.
+/// Where as many wait as may, the oldest is pushed out first.
+#[derive(Clone, Copy, Drop)]
+pub struct PushOn {
+    pub lane: usize,
+    pub place: u64,
+}
+
+impl PipeStep for PushOn {
+    type Answer = Option<u64>;
+
+    #[inline(always)]
+    fn nothing(&self) -> Option<u64> {
         None
+    }
+
+    #[inline(always)]
+    fn step(&self, pipe: &mut Pipe) -> Option<u64> {
+        pipe.push(self.lane, self.place)
+    }
+}
+
+/// The request of that number is open, its responses go on that lane, and its message comes last in
+/// line on the first lane, where nothing of that is left to get back.
+#[derive(Clone, Copy, Drop)]
+pub struct OpenAndPush {
+    pub place: u64,
+    pub state: usize,
+    pub id: u64,
+}
+
+impl PipeStep for OpenAndPush {
+    type Answer = Option<u64>;
+
+    #[inline(always)]
+    fn nothing(&self) -> Option<u64> {
+        None
+    }
+
+    #[inline(always)]
+    fn step(&self, pipe: &mut Pipe) -> Option<u64> {
+        pipe.open_request(self.state, self.id);
+        pipe.push(0, self.place)
+    }
+}
+
+/// The request of that number is closed, whose responses go on that lane.
+#[derive(Clone, Copy, Drop)]
+pub struct CloseOn {
+    pub state: usize,
+    pub id: u64,
+}
+
+impl PipeStep for CloseOn {
+    type Answer = bool;
+
+    #[inline(always)]
+    fn nothing(&self) -> bool {
+        false
+    }
+
+    #[inline(always)]
+    fn step(&self, pipe: &mut Pipe) -> bool {
+        pipe.close_request(self.state, self.id);
+        true
     }
 }
 
@@ -131,12 +237,12 @@ impl LaneStep for GetBack {
 
     ghost none = { λ s. None };
 
-    #[inline]
+    #[inline(always)]
     fn nothing(&self) -> Option<u64> {
         None
     }
 
-    #[inline]
+    #[inline(always)]
     fn step(&self, pipe: &mut Pipe, lane: usize) -> Option<u64> {
         pipe.get_back(lane)
     }
@@ -151,7 +257,7 @@ pub struct Open {
 impl StateStep for Open {
     ghost changed = { λ s r. Named s.id false };
 
-    #[inline]
+    #[inline(always)]
     fn step(&self, pipe: &mut Pipe, lane: usize) {
         pipe.open_request(lane, self.id);
     }
@@ -166,7 +272,7 @@ pub struct Close {
 impl StateStep for Close {
     ghost changed = { λ s r. closed_for r s.id };
 
-    #[inline]
+    #[inline(always)]
     fn step(&self, pipe: &mut Pipe, lane: usize) {
         pipe.close_request(lane, self.id);
     }
@@ -181,7 +287,7 @@ pub struct Hint {
 impl StateStep for Hint {
     ghost changed = { λ s r. hinted_for r s.id };
 
-    #[inline]
+    #[inline(always)]
     fn step(&self, pipe: &mut Pipe, lane: usize) {
         pipe.hint_request(lane, self.id);
     }

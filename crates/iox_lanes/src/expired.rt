@@ -9,7 +9,7 @@ ghost use Rattle.iox_lanes.specs.Incomings.{IncomingState, all_visited_of, given
 use crate::incoming::Visits;
 use crate::pipe::{Next, Pipe};
 use crate::search::LaneVisit;
-use crate::steps::{LaneStep, StateStep};
+use crate::steps::{LaneStep, PipeStep, StateStep};
 use crate::wanted::{Labels, Wanted};
 use circular_buffer::HeapCircularBuffer;
 use std::alloc::{AllocError, Global};
@@ -56,7 +56,7 @@ fn visit_ring<L: Labels>(
         let sender = pipe.sender();
         let pool = pipe.pool(lane);
         match pipe.visit(lane, wanted, labels) {
-            LaneVisit::Got(place) => return Visits::Got(sender, pool, place),
+            LaneVisit::Got(place) => return Visits::Got(sender, pool, place, i),
             LaneVisit::AtLimit => waits = true,
             LaneVisit::Nothing => {}
         }
@@ -140,6 +140,14 @@ impl Expired {
     {
         match self.pipes.get_mut(rank) {
             Some(pipe) => step.step(pipe, lane),
+            None => step.nothing(),
+        }
+    }
+
+    /// Takes a step on the pipe of that rank.
+    pub fn on_pipe<S: PipeStep>(&mut self, rank: usize, step: &S) -> S::Answer {
+        match self.pipes.get_mut(rank) {
+            Some(pipe) => step.step(pipe),
             None => step.nothing(),
         }
     }

@@ -9,16 +9,18 @@ ghost use Rattle.iox_lanes.specs.Incomings.{IncomingState, all_visited_of, conne
 
 use crate::pipe::{Next, Pipe};
 use crate::search::LaneVisit;
-use crate::steps::{LaneStep, StateStep};
+use crate::steps::{LaneStep, PipeStep, StateStep};
 use crate::wanted::{Labels, Wanted};
+use iox_model::way::RequestState;
 use std::alloc::{AllocError, Global};
 use std::marker::Model;
 
 /// What the visits of a receiver came to.
 #[derive(Clone, Copy, Debug, PartialEq, Eq, Drop)]
 pub enum Visits {
-    /// From this sender, of that pool, the message in this place was taken.
-    Got(u64, usize, u64),
+    /// From this sender, of that pool, the message in this place was taken, on the pipe of that
+    /// rank of those from its like.
+    Got(u64, usize, u64, usize),
     /// No lane gave a message. On one, something waits, and the receiver has as many as it may.
     AtLimit,
     /// Nothing that is wanted waits.
@@ -60,7 +62,7 @@ fn visit_pipes<L: Labels>(all: &mut Vec<Pipe>, lane: usize, wanted: Wanted, labe
         let sender = pipe.sender();
         let pool = pipe.pool(lane);
         match pipe.visit(lane, wanted, labels) {
-            LaneVisit::Got(place) => return Visits::Got(sender, pool, place),
+            LaneVisit::Got(place) => return Visits::Got(sender, pool, place, i),
             LaneVisit::AtLimit => waits = true,
             LaneVisit::Nothing => {}
         }
@@ -91,11 +93,50 @@ impl Incoming {
     }
 
     /// The rank of the pipe from this sender, if it is connected.
+    #[inline(never)]
     pub fn rank(&self, sender: u64) -> Option<usize>
         ensures first { result ≡ rank_from self.now.pipes sender }
         ensures within { IfSome result (λ rank. rank < length self.now.pipes) }
     {
         self.pipes.iter().position(|pipe| pipe.sender() == sender)
+    }
+
+    /// The same, which is looked for at the hint first.
+    #[inline(always)]
+    pub fn rank_at(&self, sender: u64, hint: usize) -> Option<usize> {
+        if hint < self.pipes.len() && self.pipes[hint].sender() == sender {
+            return Some(hint);
+        }
+        self.rank(sender)
+    }
+
+    /// Takes a step on the pipe from this sender, which is looked for at the hint first.
+    #[inline(always)]
+    pub fn on_pipe_at<S: PipeStep>(&mut self, sender: u64, hint: usize, step: &S) -> S::Answer {
+        match self.rank_at(sender, hint) {
+            Some(rank) => step.step(&mut self.pipes[rank]),
+            None => step.nothing(),
+        }
+    }
+
+    /// The request state of that lane beside the pipe from this sender, which is looked for at the
+    /// hint first; closed where there is none.
+    #[inline(always)]
+    pub fn state_at(&self, sender: u64, hint: usize, lane: u64) -> RequestState {
+        match self.rank_at(sender, hint) {
+            Some(rank) => self.pipes[rank].state(lane),
+            None => RequestState::Closed,
+        }
+    }
+
+    /// Gets back the oldest message of those that were given back to this sender, which is looked
+    /// for at the hint first, if there is one.
+    #[inline(always)]
+    pub fn get_next_at(&mut self, sender: u64, hint: usize) -> Option<Next> {
+        match self.rank_at(sender, hint) {
+            Some(rank) => self.pipes[rank].get_next(),
+            None => None,
+        }
     }
 
     /// Connects one more port, and says whether there was room.

@@ -1,226 +1,140 @@
-//! What waits for a receiver, what it has, and what it gave back.
-ghost use Rattle.std.specs.Prelude.{◌≡◌, ◌+◌, ◌-◌, ◌<◌, ◌≤◌, ◌^◌, ◌==◌, if◌then◌else◌, IfOk, IfSome, OnSome, length, slice_get};
-ghost use Rattle.iox_model.specs.Maps.{is_empty};
-ghost use Rattle.iox_lanes.specs.Lanes.{HasOneInHand, IsSound, offered, empty_lane, has_returned, has_room, is_at_limit, is_full, is_taken, oldest, oldest_returned, oldest_taken, outstanding, places, rank_in, released, returned_times, with_returned, with_taken, without_first, without_oldest, without_returned, without_taken};
+//! What waits for a receiver, and what it has.
 
-use iox_queues::spsc::index_queue::IndexQueue;
 use std::alloc::{AllocError, Global};
-use std::marker::Model;
 
-/// The messages on one lane of a way, by their places in the pool of their sender.
+/// The messages on one lane of a way, by their places in the pool of their sender, but for those
+/// that were given back: the pipe has these.
 ///
-/// It takes memory when it is made, and never again. What its receiver has can always be given
-/// back.
+/// It takes memory when it is made, and never again.
 #[derive(Drop)]
 pub struct Lane {
     pool: usize,
-    waiting: IndexQueue,
-    returned: IndexQueue,
+    // What waits, in a ring of cells: the oldest is in the first.
+    cells: Vec<u64>,
+    first: usize,
+    count: usize,
     taken: Vec<u64>,
-    buffer: usize,
     limit: usize,
 }
 
-impl Model for Lane {
-    ghost use Rattle.std.specs.Prelude.{◌≡◌, ◌+◌, ◌≤◌};
-    ghost use Rattle.std.specs.Vec.{vec_capacity};
-    ghost use Rattle.iox_lanes.specs.Lanes.{HaveCapacity, IsSound, LaneState, lane_of};
-
-    ghost Value = { LaneState };
-
-    ghost view = { λ l. lane_of l.pool l.waiting l.returned l.taken.items l.buffer l.limit };
-
-    ghost invariant = { λ l. HaveCapacity l.waiting l.returned l.buffer l.limit
-        × (l.limit ≤ vec_capacity l.taken)
-        × IsSound (lane_of l.pool l.waiting l.returned l.taken.items l.buffer l.limit) };
-}
-
-fn rank_of(places: &[u64], place: u64) -> Option<usize>
-    ensures first { result ≡ rank_in places.now place }
-    ensures within { IfSome result (λ rank. rank < length places.now) }
-{
+fn rank_of(places: &[u64], place: u64) -> Option<usize> {
     places.iter().position(|other| *other == place)
-}
-
-/// One time more, if both places are one.
-fn counted(times: usize, other: u64, place: u64) -> usize
-    requires { times < 2 ^ 64 - 1 }
-    ensures { result ≡ times + (if other == place then 1 else 0) }
-{
-    if other == place {
-        return times + 1;
-    }
-    times
 }
 
 impl Lane {
     /// Makes a lane on which nothing waits. It fails only for want of memory.
-    pub fn new(alloc: Global, pool: usize, buffer: usize, limit: usize) -> Result<Lane, AllocError>
-        requires { buffer + limit < 2 ^ 64 }
-        ensures { IfOk result (λ l. l ≡ empty_lane pool buffer limit) }
-    {
+    pub fn new(alloc: Global, pool: usize, buffer: usize, limit: usize) -> Result<Lane, AllocError> {
         Ok(Lane {
             pool,
-            waiting: IndexQueue::new(alloc, buffer)?,
-            returned: IndexQueue::new(alloc, buffer + limit)?,
+            cells: vec![in alloc; 0u64; buffer]?,
+            first: 0,
+            count: 0,
             taken: Vec::with_capacity(alloc, limit)?,
-            buffer,
             limit,
         })
     }
 
     /// Which pool its places are of.
-    #[inline]
-    pub fn pool(&self) -> usize
-        ensures pool { result ≡ self.now.pool }
-        ensures sound { IsSound self.now }
-    {
+    #[inline(always)]
+    pub fn pool(&self) -> usize {
         self.pool
     }
 
     /// How many messages wait.
-    #[inline]
-    pub fn waiting_len(&self) -> usize
-        ensures len { result ≡ length self.now.waiting }
-        ensures within { result ≤ self.now.buffer }
-    {
-        self.waiting.len()
+    #[inline(always)]
+    pub fn waiting_len(&self) -> usize {
+        self.count
     }
 
     /// How many messages its receiver has.
-    #[inline]
-    pub fn taken_len(&self) -> usize
-        ensures len { result ≡ length self.now.taken }
-        ensures within { result ≤ self.now.limit }
-    {
+    #[inline(always)]
+    pub fn taken_len(&self) -> usize {
         self.taken.len()
     }
 
+    /// How many messages may be on the lane.
+    #[inline(always)]
+    pub fn most(&self) -> usize {
+        self.cells.len() + self.limit
+    }
+
     /// Whether nothing waits.
-    #[inline]
-    pub fn is_empty(&self) -> bool
-        ensures { result ≡ is_empty self.now.waiting }
-    {
-        self.waiting.is_empty()
+    #[inline(always)]
+    pub fn is_empty(&self) -> bool {
+        self.count == 0
     }
 
     /// Whether as many messages wait as may.
-    #[inline]
-    pub fn is_full(&self) -> bool
-        ensures full { result ≡ is_full self.now }
-        ensures sound { IsSound self.now }
-    {
-        self.buffer <= self.waiting.len()
+    #[inline(always)]
+    pub fn is_full(&self) -> bool {
+        self.cells.len() <= self.count
     }
 
     /// Whether its receiver has as many messages as it may.
-    #[inline]
-    pub fn is_at_limit(&self) -> bool
-        ensures { result ≡ is_at_limit self.now }
-    {
+    #[inline(always)]
+    pub fn is_at_limit(&self) -> bool {
         self.limit <= self.taken.len()
     }
 
-    /// Whether something that was given back is left to get back.
-    #[inline]
-    pub fn has_returned(&self) -> bool
-        ensures { result ≡ has_returned self.now }
-    {
-        !self.returned.is_empty()
-    }
-
-    /// How often the message in this place was given back, and is left to get back.
-    pub fn returned_times(&self, place: u64) -> usize
-        ensures { result ≡ returned_times self.now place }
-    {
-        let mut times = 0;
-        for rank in 0..self.returned.len() {
-            let Some(other) = self.returned.get(rank) else {
-                unreachable!();
-            };
-            times = counted(times, other, place);
+    /// Puts a message last in line, where there is room.
+    #[inline(always)]
+    pub(crate) fn push(&mut self, place: u64) {
+        let mut at = self.first + self.count;
+        if at >= self.cells.len() {
+            at -= self.cells.len();
         }
-        times
+        self.cells[at] = place;
+        self.count += 1;
     }
 
-    // ---- its sender
+    /// The oldest goes, where the lane is full, and this comes last.
+    #[inline(always)]
+    pub(crate) fn push_over(&mut self, place: u64) -> u64 {
+        let oldest = self.cells[self.first];
+        self.cells[self.first] = place;
+        self.step();
+        oldest
+    }
 
-    /// Puts a message last in line, and says whether there was room.
-    ///
-    /// Where nothing is left to get back, it lacks room exactly if it is full.
-    #[inline]
-    pub fn deliver(&mut self, place: u64) -> bool
-        ensures room { result ≡ has_room self.old }
-        ensures delivered { self.new ≡ offered self.old place }
-    {
-        let most = self.returned.capacity();
-        if self.waiting.len() + self.returned.len() + self.taken.len() < most {
-            return self.waiting.push(place);
+    /// The first cell is the next one.
+    #[inline(always)]
+    fn step(&mut self) {
+        let next = self.first + 1;
+        self.first = if next == self.cells.len() { 0 } else { next };
+    }
+
+    /// Takes the oldest out of the line.
+    #[inline(always)]
+    pub(crate) fn pull(&mut self) -> Option<u64> {
+        if self.count == 0 {
+            return None;
         }
-        false
-    }
-
-    /// Pushes the oldest message out, if any waits: it is its sender's again.
-    #[inline]
-    pub fn evict(&mut self) -> Option<u64>
-        ensures oldest { result ≡ oldest self.old }
-        ensures evicted { self.new ≡ without_oldest self.old }
-    {
-        self.pull()
-    }
-
-    /// Gets back the oldest message of those that were given back, if there is one.
-    #[inline]
-    pub fn get_back(&mut self) -> Option<u64>
-        ensures oldest { result ≡ slice_get self.old.returned 0 }
-        ensures got_back { self.new ≡ without_returned self.old }
-    {
-        self.returned.pop()
-    }
-
-    // ---- its receiver
-
-    /// Takes the oldest message that waits, if there is one.
-    #[inline]
-    pub fn take(&mut self) -> Option<u64>
-        requires below { length self.old.taken < self.old.limit }
-        ensures oldest { result ≡ oldest self.old }
-        ensures taken { self.new ≡ oldest_taken self.old }
-    {
-        let place = self.pull()?;
-        self.hold(place);
-        Some(place)
-    }
-
-    /// Gives the oldest message that waits back unread, if there is one.
-    #[inline]
-    pub fn pass_over(&mut self) -> Option<u64>
-        ensures oldest { result ≡ oldest self.old }
-        ensures returned { self.new ≡ oldest_returned self.old }
-    {
-        let oldest = self.pull()?;
-        self.give_back(oldest);
+        let oldest = self.cells[self.first];
+        self.step();
+        self.count -= 1;
         Some(oldest)
     }
 
-    /// Gives a message back that its receiver has, and says whether it had it.
-    pub fn release(&mut self, place: u64) -> bool
-        ensures taken { result ≡ is_taken self.old place }
-        ensures released { self.new ≡ released self.old place }
-    {
-        if self.let_go(place) {
-            self.give_back(place);
-            return true;
-        }
-        false
+    /// Counts a message that its receiver has.
+    #[inline(always)]
+    pub(crate) fn hold(&mut self, place: u64) {
+        self.taken.push_reserved(place);
     }
 
     /// Takes a message from its receiver, and says whether it had it.
-    fn let_go(&mut self, place: u64) -> bool
-        ensures taken { result ≡ is_taken self.old place }
-        ensures left { self.new ≡ without_taken self.old place }
-        ensures hand { OnSome (rank_in self.old.taken place) (HasOneInHand self.new) }
-    {
+    #[inline(always)]
+    pub(crate) fn let_go(&mut self, place: u64) -> bool {
+        let had = self.taken.len();
+        if had == 1 && self.taken[0] == place {
+            self.taken.pop();
+            return true;
+        }
+        self.let_go_of(place)
+    }
+
+    /// The same, where it may have several.
+    #[inline(never)]
+    fn let_go_of(&mut self, place: u64) -> bool {
         match rank_of(&self.taken, place) {
             None => false,
             Some(rank) => {
@@ -230,59 +144,15 @@ impl Lane {
         }
     }
 
-    // ---- a lane that is taken apart
-
-    /// Takes the first message off the lane, if there is one: of those that were given back, then
-    /// of those that wait, then of those that its receiver has.
-    pub fn take_off(&mut self) -> Option<u64>
-        ensures first { result ≡ slice_get (places self.old) 0 }
-        ensures left { self.new ≡ without_first self.old }
-    {
-        if self.has_returned() {
-            return self.get_back();
-        }
-        if !self.is_empty() {
-            return self.evict();
+    /// Takes the first message off the lane, if there is one: of those that wait, then of those that
+    /// its receiver has.
+    pub fn take_off(&mut self) -> Option<u64> {
+        if let Some(oldest) = self.pull() {
+            return Some(oldest);
         }
         if self.taken.is_empty() {
             return None;
         }
         Some(self.taken.remove(0))
-    }
-
-    // ---- steps of its receiver
-
-    /// Takes the oldest out of the line. It is in its receiver's hand, and not counted yet.
-    #[inline]
-    pub(crate) fn pull(&mut self) -> Option<u64>
-        ensures oldest { result ≡ oldest self.old }
-        ensures left { self.new ≡ without_oldest self.old }
-        ensures hand { OnSome result (HasOneInHand self.new) }
-    {
-        self.waiting.pop()
-    }
-
-    /// Gives a message back that was in its receiver's hand.
-    #[inline]
-    pub(crate) fn give_back(&mut self, place: u64)
-        requires hand { HasOneInHand self.old }
-        ensures { self.new ≡ with_returned self.old place }
-    {
-        if !self.returned.push(place) {
-            unreachable!();
-        }
-    }
-
-    /// Counts the message that is in its receiver's hand.
-    #[inline]
-    pub(crate) fn hold(&mut self, place: u64)
-        requires below { length self.old.taken < self.old.limit }
-        requires hand { HasOneInHand self.old }
-        ensures { self.new ≡ with_taken self.old place }
-    {
-        match self.taken.push(place) {
-            Ok(()) => {}
-            Err(_) => unreachable!(),
-        }
     }
 }

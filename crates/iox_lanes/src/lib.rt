@@ -3,6 +3,7 @@
 #![tactic(auto)]
 
 pub mod expired;
+pub mod given;
 pub mod incoming;
 pub mod lane;
 pub mod pipe;

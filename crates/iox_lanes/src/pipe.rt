@@ -1,18 +1,12 @@
 //! All lanes from one port to another.
-ghost use Rattle.std.specs.Option.{option_map};
-ghost use Rattle.std.specs.Prelude.{◌≡◌, ◌+◌, ◌-◌, ◌^◌, ◌<◌, ◌≤◌, IfOk, IfSome, None, Some, false, is_some, length, replicate, slice_get, take, true};
-ghost use Rattle.iox_lanes.specs.Lanes.{offered, empty_lane, has_room, has_waiting, is_full, is_taken, oldest, released, without_oldest, without_returned, returned_times};
-ghost use Rattle.iox_lanes.specs.Pipes.{IsSoundAt, NoneToGetBelow, PipeState, closed, has_returned_at, has_waiting_on_any, hinted, lane_to_get, new_pipe, on_lane, opened, with_lane};
-ghost use Rattle.iox_lanes.specs.Searches.{state_on};
-ghost use Rattle.iox_lanes.specs.Visited.{pipe_visit, pipe_visited, pool_on};
 
+use crate::given::{Given, GivenBack};
 use crate::lane::Lane;
 use crate::search::{LaneVisit, visit_lane};
-use crate::states::{after_close, after_hint, state_of};
+use crate::states::{after_hint, is_named, state_of};
 use crate::wanted::{Labels, Wanted};
 use iox_model::way::RequestState;
 use std::alloc::{AllocError, Global};
-use std::marker::Model;
 
 /// A message that its sender gets back.
 #[derive(Clone, Copy, Debug, PartialEq, Eq, Drop)]
@@ -34,26 +28,8 @@ pub struct Pipe {
     sender: u64,
     lanes: Vec<Lane>,
     states: Vec<RequestState>,
-    // on no lane below is anything left to get back
-    none_below: usize,
-    // and on none from there on
-    none_from: usize,
-}
-
-impl Model for Pipe {
-    ghost use Rattle.std.specs.Prelude.{length, ◌≤◌};
-    ghost use Rattle.iox_lanes.specs.Pipes.{NoneToGetBelow, NoneToGetFrom, PipeState};
-
-    ghost Value = { PipeState };
-
-    ghost view = { λ p. record {
-      sender = p.sender;
-      lanes = p.lanes.items;
-      states = p.states.items;
-    } };
-
-    ghost invariant = { λ p. NoneToGetBelow p.none_below p.lanes.items
-        × NoneToGetFrom p.none_from p.lanes.items × (p.none_from ≤ length p.lanes.items) };
+    // what was given back, on all lanes
+    given: GivenBack,
 }
 
 fn new_lanes(
@@ -73,23 +49,15 @@ fn new_lanes(
     Ok(lanes)
 }
 
-/// The first lane between those numbers on which something is left to get back, or a number past
-/// the last of them.
-fn next_to_get(lanes: &[Lane], from: usize, to: usize) -> usize
-    requires below { NoneToGetBelow from lanes.now }
-    requires within { to ≤ length lanes.now }
-    ensures none { NoneToGetBelow result lanes.now }
-    ensures found { result < to → has_returned_at lanes.now result ≡ true }
-{
-    for lane in from..to {
-        if lanes[lane].has_returned() {
-            return lane;
-        }
+/// Pushes the oldest out of a lane that is full, and puts this last. Where none may wait, it does
+/// not.
+#[cold]
+#[inline(never)]
+fn push_to_full(lane: &mut Lane, place: u64) -> Option<u64> {
+    if lane.waiting_len() == 0 {
+        return None;
     }
-    if from < to {
-        return to;
-    }
-    from
+    Some(lane.push_over(place))
 }
 
 impl Pipe {
@@ -107,12 +75,14 @@ impl Pipe {
         requires { buffer + limit < 2 ^ 64 }
         ensures { IfOk result (λ p. p ≡ new_pipe sender pool lanes buffer limit states) }
     {
+        let Some(given) = lanes.checked_mul(buffer + limit) else {
+            return Err(AllocError);
+        };
         Ok(Pipe {
             sender,
             lanes: new_lanes(alloc, lanes, pool, buffer, limit)?,
             states: vec![in alloc; RequestState::Closed; states]?,
-            none_below: 0,
-            none_from: lanes,
+            given: GivenBack::new(alloc, given)?,
         })
     }
 
@@ -145,7 +115,6 @@ impl Pipe {
 
     /// Whether as many messages wait on that lane as may.
     #[inline]
-    #[tactic(auto, using(crate::proofs::Sound::sound))]
     pub fn is_full(&self, lane: usize) -> bool
         ensures full { result ≡ on_lane is_full true self.now lane }
         ensures sound { IsSoundAt self.now.lanes lane }
@@ -189,88 +158,81 @@ impl Pipe {
     pub fn returned_times(&self, lane: usize, place: u64) -> usize
         ensures { result ≡ on_lane (λ l. returned_times l place) 0 self.now lane }
     {
-        if lane < self.lanes.len() {
-            return self.lanes[lane].returned_times(place);
-        }
-        0
+        self.given.times(lane, place)
     }
 
     // ---- the sender
 
     /// Puts a message last in line on that lane, and says whether there was room.
     #[inline]
-    #[tactic(auto, using(crate::proofs::Returns::kept))]
     pub fn deliver(&mut self, lane: usize, place: u64) -> bool
         ensures room { result ≡ on_lane has_room false self.old lane }
         ensures delivered { self.new ≡ with_lane (λ l. offered l place) self.old lane }
     {
         if lane < self.lanes.len() {
-            return self.lanes[lane].deliver(place);
+            let there = &self.lanes[lane];
+            let on = there.waiting_len() + there.taken_len() + self.given.count_of(lane);
+            if on < there.most() && !there.is_full() {
+                self.lanes[lane].push(place);
+                return true;
+            }
         }
         false
     }
 
+    /// Puts a message last in line on that lane, of which nothing is left to get back. Where as many
+    /// wait as may, the oldest is pushed out first: it is its sender's again.
+    #[inline(always)]
+    pub fn push(&mut self, lane: usize, place: u64) -> Option<u64> {
+        if lane < self.lanes.len() {
+            let there = &mut self.lanes[lane];
+            if there.is_full() {
+                return push_to_full(there, place);
+            }
+            there.push(place);
+        }
+        None
+    }
+
     /// Pushes the oldest message of that lane out, if any waits: it is its sender's again.
     #[inline]
-    #[tactic(auto, using(crate::proofs::Returns::kept))]
     pub fn evict(&mut self, lane: usize) -> Option<u64>
         ensures oldest { result ≡ on_lane oldest None self.old lane }
         ensures evicted { self.new ≡ with_lane without_oldest self.old lane }
     {
         if lane < self.lanes.len() {
-            return self.lanes[lane].evict();
+            return self.lanes[lane].pull();
         }
         None
     }
 
     /// Gets back the oldest message of those that were given back on that lane, if there is one.
     #[inline]
-    #[tactic(auto, using(crate::proofs::Returns::kept))]
     pub fn get_back(&mut self, lane: usize) -> Option<u64>
         ensures oldest { result ≡ on_lane (λ l. slice_get l.returned 0) None self.old lane }
         ensures got_back { self.new ≡ with_lane without_returned self.old lane }
     {
-        if lane < self.lanes.len() {
-            return self.lanes[lane].get_back();
-        }
-        None
+        self.given.pop_of(lane)
     }
 
     /// The lowest lane on which something that was given back is left to get back, if there is one.
     #[inline]
-    #[tactic(auto, using(crate::proofs::Returns::to_get))]
     pub fn lane_to_get(&mut self) -> Option<usize>
         ensures lowest { result ≡ lane_to_get self.old }
         ensures unchanged { self.new ≡ self.old }
     {
-        let lane = next_to_get(&self.lanes, self.none_below, self.none_from);
-        if lane < self.none_from {
-            self.none_below = lane;
-            return Some(lane);
-        }
-        self.none_below = usize::MAX;
-        self.none_from = 0;
-        None
+        self.given.lowest()
     }
 
-    /// Gets back the oldest message of those that were given back on the lowest lane on which
-    /// something is left to get back, if there is one.
+    /// Gets back the oldest message of those that were given back, if there is one.
     #[inline(always)]
-    pub fn get_next(&mut self) -> Option<Next>
-        ensures lowest { option_map (λ n. n.lane) result ≡ lane_to_get self.old }
-        ensures oldest { IfSome result (λ n.
-            on_lane (λ l. slice_get l.returned 0) None self.old n.lane ≡ Some n.place) }
-        ensures got_back { IfSome result (λ n.
-            self.new ≡ with_lane without_returned self.old n.lane) }
-        ensures more { IfSome result (λ n. n.more ≡ is_some (lane_to_get self.new)) }
-        ensures unchanged { result ≡ None → self.new ≡ self.old }
-    {
-        let lane = self.lane_to_get()?;
-        let Some(place) = self.get_back(lane) else {
-            unreachable!();
-        };
-        let more = self.lane_to_get().is_some();
-        Some(Next { lane, place, more })
+    pub fn get_next(&mut self) -> Option<Next> {
+        let Given { lane, place } = self.given.pop()?;
+        Some(Next {
+            lane,
+            place,
+            more: self.given.len() > 0,
+        })
     }
 
     // ---- the receiver
@@ -278,32 +240,23 @@ impl Pipe {
     /// Takes the oldest message on that lane that is wanted, unless the receiver has as many as it
     /// may.
     #[inline(always)]
-    #[tactic(auto, using(crate::proofs::Returns::kept))]
     pub fn visit<L: Labels>(&mut self, lane: usize, wanted: Wanted, labels: &L) -> LaneVisit
         ensures visit { result ≡ pipe_visit wanted (L.label_of labels.now) lane self.old }
         ensures visited { self.new ≡ pipe_visited wanted (L.label_of labels.now) lane self.old }
     {
         if lane < self.lanes.len() {
-            self.none_below = self.none_below.min(lane);
-            self.none_from = self.none_from.max(lane + 1);
-            let l = &mut self.lanes[lane];
-            return visit_lane(l, wanted, labels, &self.states);
+            let there = &mut self.lanes[lane];
+            return visit_lane(there, lane, wanted, labels, &self.states, &mut self.given);
         }
         LaneVisit::Nothing
     }
 
     /// Gives a message of that lane back that the receiver has, and says whether it had it.
-    #[tactic(auto, using(crate::proofs::Returns::kept))]
-    pub fn release(&mut self, lane: usize, place: u64) -> bool
-        ensures taken { result ≡ on_lane (λ l. is_taken l place) false self.old lane }
-        ensures released { self.new ≡ with_lane (λ l. released l place) self.old lane }
-    {
-        if lane < self.lanes.len() {
-            let lower = self.none_below.min(lane);
-            let upper = self.none_from.max(lane + 1);
-            self.none_below = lower;
-            self.none_from = upper;
-            return self.lanes[lane].release(place);
+    #[inline(always)]
+    pub fn release(&mut self, lane: usize, place: u64) -> bool {
+        if lane < self.lanes.len() && self.lanes[lane].let_go(place) {
+            self.given.push(Given { lane, place });
+            return true;
         }
         false
     }
@@ -316,10 +269,7 @@ impl Pipe {
         ensures left { self.new
             ≡ record (self.old) { lanes = take (length self.old.lanes - 1) self.old.lanes } }
     {
-        let last = self.lanes.pop();
-        self.none_below = 0;
-        self.none_from = self.lanes.len();
-        last
+        self.lanes.pop()
     }
 
     // ---- the states of requests
@@ -333,6 +283,7 @@ impl Pipe {
     }
 
     /// Opens a request on that lane.
+    #[inline(always)]
     pub fn open_request(&mut self, lane: usize, id: u64)
         ensures { self.new ≡ opened self.old lane id }
     {
@@ -342,11 +293,12 @@ impl Pipe {
     }
 
     /// Closes the request on that lane, if it is the open one.
+    #[inline(always)]
     pub fn close_request(&mut self, lane: usize, id: u64)
         ensures { self.new ≡ closed self.old lane id }
     {
-        if lane < self.states.len() {
-            self.states[lane] = after_close(self.states[lane], id);
+        if lane < self.states.len() && is_named(self.states[lane], id) {
+            self.states[lane] = RequestState::Closed;
         }
     }
 

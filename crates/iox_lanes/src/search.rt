@@ -3,6 +3,7 @@ ghost use Rattle.std.specs.Prelude.{◌≡◌, length, OnSome};
 ghost use Rattle.iox_lanes.specs.Lanes.{HasOneInHand};
 ghost use Rattle.iox_lanes.specs.Searches.{first_on, is_wanted, searched_on, visit_on, visited_on};
 
+use crate::given::{Given, GivenBack};
 use crate::lane::Lane;
 use crate::states::{is_named, state_of};
 use crate::wanted::{Labels, Wanted};
@@ -19,6 +20,7 @@ pub enum LaneVisit {
     Nothing,
 }
 
+#[inline(always)]
 fn wants<L: Labels>(
     wanted: Wanted,
     states: &[RequestState],
@@ -38,50 +40,34 @@ fn wants<L: Labels>(
     }
 }
 
-/// Puts the oldest that is wanted into its receiver's hand. Those before it are given back.
-#[inline(always)]
-fn search<L: Labels>(
-    lane: &mut Lane,
-    wanted: Wanted,
-    labels: &L,
-    states: &[RequestState],
-) -> Option<u64>
-    ensures found { result ≡ first_on wanted states.now (L.label_of labels.now) lane.old }
-    ensures left { lane.new ≡ searched_on wanted states.now (L.label_of labels.now) lane.old }
-    ensures hand { OnSome result (HasOneInHand lane.new) }
-{
-    loop {
-        let place = lane.pull()?;
-        if wants(wanted, states, labels, lane.pool(), place) {
-            return Some(place);
-        }
-        lane.give_back(place);
-    }
-}
-
 /// Takes the oldest message that is wanted, unless the receiver has as many as it may. Those before
 /// it are given back unread.
 #[inline(always)]
 pub fn visit_lane<L: Labels>(
     lane: &mut Lane,
+    number: usize,
     wanted: Wanted,
     labels: &L,
     states: &[RequestState],
-) -> LaneVisit
-    ensures visit { result ≡ visit_on wanted states.now (L.label_of labels.now) lane.old }
-    ensures visited { lane.new ≡ visited_on wanted states.now (L.label_of labels.now) lane.old }
-{
+    given: &mut GivenBack,
+) -> LaneVisit {
     if lane.is_at_limit() {
         if lane.is_empty() {
             return LaneVisit::Nothing;
         }
         return LaneVisit::AtLimit;
     }
-    match search(lane, wanted, labels, states) {
-        None => LaneVisit::Nothing,
-        Some(place) => {
+    loop {
+        let Some(place) = lane.pull() else {
+            return LaneVisit::Nothing;
+        };
+        if wants(wanted, states, labels, lane.pool(), place) {
             lane.hold(place);
-            LaneVisit::Got(place)
+            return LaneVisit::Got(place);
         }
+        given.push(Given {
+            lane: number,
+            place,
+        });
     }
 }

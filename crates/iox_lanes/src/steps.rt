@@ -31,3 +31,12 @@ pub trait StateStep {
     fn step(&self, pipe: &mut Pipe, lane: usize)
         ensures { pipe.new ≡ with_state (changed self.now) pipe.old lane };
 }
+
+/// A step of a sender or a receiver on one pipe, and what it is told.
+pub trait PipeStep {
+    type Answer: Drop;
+
+    fn nothing(&self) -> Self::Answer;
+
+    fn step(&self, pipe: &mut Pipe) -> Self::Answer;
+}

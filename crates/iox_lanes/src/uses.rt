@@ -6,7 +6,6 @@ ghost use Rattle.iox_lanes.specs.Lanes.{is_full};
 ghost use Rattle.iox_lanes.specs.Pipes.{new_pipe};
 
 use crate::expired::Expired;
-use crate::lane::Lane;
 use crate::pipe::Pipe;
 use crate::search::LaneVisit;
 use crate::wanted::{Label, Labels, Wanted};
@@ -24,44 +23,6 @@ impl Labels for OneLabel {
     fn label(&self, _pool: usize, _place: u64) -> Label {
         self.label
     }
-}
-
-/// What was delivered is taken, given back, and got back.
-pub fn goes_around(
-    alloc: Global,
-    place: u64,
-) -> Result<(Option<u64>, bool, Option<u64>), AllocError>
-    ensures { IfOk result (λ r. r ≡ (Some place, true, Some place)) }
-{
-    let mut lane = Lane::new(alloc, 0, 2, 1)?;
-    lane.deliver(place);
-    let taken = lane.take();
-    let released = lane.release(place);
-    Ok((taken, released, lane.get_back()))
-}
-
-/// A lane on which as many messages wait as may refuses one more, and stays as it is.
-pub fn full_lane_refuses(lane: &mut Lane, place: u64) -> bool
-    requires { is_full lane.old ≡ true }
-    ensures refused { result ≡ false }
-    ensures unchanged { lane.new ≡ lane.old }
-{
-    lane.deliver(place)
-}
-
-/// The oldest is pushed out, and the newer one is taken.
-pub fn newer_is_taken(
-    alloc: Global,
-    older: u64,
-    newer: u64,
-) -> Result<(Option<u64>, Option<u64>), AllocError>
-    ensures { IfOk result (λ r. r ≡ (Some older, Some newer)) }
-{
-    let mut lane = Lane::new(alloc, 0, 1, 1)?;
-    lane.deliver(older);
-    let evicted = lane.evict();
-    lane.deliver(newer);
-    Ok((evicted, lane.take()))
 }
 
 /// A request that is not open is given back unread.

@@ -15,6 +15,7 @@ fn entry(number: u64, kind: Kind) -> Entry
         kind,
         at: 0,
         client_at: 0,
+        rank: 0,
         port: 2,
         pool: 0,
         slot: 3,

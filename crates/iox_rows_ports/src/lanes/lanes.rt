@@ -1,7 +1,7 @@
 //! A lane, asked one thing after another. A test is a list of what is asked and of what has to be
 //! answered, since what is known of each answer would stand in the proof of all that come after.
 use crate::expected::equal;
-use iox_lanes::lane::Lane;
+use iox_lanes::pipe::Pipe;
 use std::process::Abort;
 use std::test::Fail;
 
