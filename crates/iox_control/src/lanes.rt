@@ -15,6 +15,9 @@ ghost use Rattle.iox_control.specs.Controls.{with_ports, with_tables};
 
 use crate::control::Control;
 use iox_lanes::pipe::Next;
+use iox_hub_ports::steps::{CloseOn, GiveBack, GiveBackAndClose, OpenAndPush, PushOn};
+use iox_lanes::wanted::Label;
+use iox_model::kind::{Kind, Role};
 use iox_model::way::Way;
 
 impl Control {
@@ -151,6 +154,128 @@ impl Control {
             (with_states (λ r. closed_for r id) self.old.tables (way ∷ [])) }
     {
         self.ports.close(way, id);
+    }
+
+    // ---- in the places of ports
+
+    /// Where pipes from the port in that place are likely among those that lead to others.
+    #[inline(always)]
+    pub fn rank(&self, place: usize) -> usize {
+        self.ports.rank(place)
+    }
+
+    /// Gets back the oldest message of those that the port in that place gave back to the sender, if
+    /// there is one. Its slot stays as it is.
+    #[inline(always)]
+    pub fn get_next_in(&mut self, place: usize, sender: u64, hint: usize) -> Option<Next> {
+        self.ports.get_next_in(place, sender, hint)
+    }
+
+    /// Gives a message back that the port in that place has from the sender.
+    #[inline(always)]
+    pub fn give_back_in(&mut self, place: usize, sender: u64, hint: usize, lane: u64, slot: u64) {
+        let step = GiveBack {
+            lane: lane as usize,
+            place: slot,
+        };
+        self.ports.on_pipe_in(place, sender, hint, &step);
+    }
+
+    /// Gives a request back that the server in that place has from the client, and closes it.
+    #[inline(always)]
+    pub fn give_back_and_close_in(
+        &mut self,
+        place: usize,
+        client: u64,
+        hint: usize,
+        slot: u64,
+        label: Label,
+    ) {
+        let step = GiveBackAndClose {
+            place: slot,
+            state: label.lane as usize,
+            id: label.request,
+        };
+        self.ports.on_pipe_in(place, client, hint, &step);
+    }
+
+    /// Closes the request of that label of the client with each server.
+    #[inline(always)]
+    pub fn close_all_in(&mut self, client: u64, hint: usize, label: Label) {
+        let step = CloseOn {
+            state: label.lane as usize,
+            id: label.request,
+        };
+        for rank in 0..self.ports.servers_len() {
+            let place = self.ports.other(Role::Client, rank);
+            self.ports.on_pipe_in(place, client, hint, &step);
+        }
+    }
+
+    /// Opens the request of that label of the client with each server, and puts its message last in
+    /// line there. One less has each message that is pushed out, and so many more have this.
+    #[inline(always)]
+    pub fn open_and_push_all(
+        &mut self,
+        client: u64,
+        hint: usize,
+        pool: usize,
+        slot: u64,
+        label: Label,
+    ) -> u64 {
+        let count = self.ports.servers_len();
+        self.pools.hold_times(pool, slot, count as u64);
+        let step = OpenAndPush {
+            place: slot,
+            state: label.lane as usize,
+            id: label.request,
+        };
+        for rank in 0..count {
+            let place = self.ports.other(Role::Client, rank);
+            if let Some(oldest) = self.ports.on_pipe_in(place, client, hint, &step) {
+                self.pools.let_go_of(pool, oldest);
+            }
+        }
+        count as u64
+    }
+
+    /// Puts a message last in line for the port in that place, on a lane from the sender of which
+    /// nothing is left to get back. One less has the message that is pushed out.
+    #[inline(always)]
+    pub fn push_in(
+        &mut self,
+        place: usize,
+        sender: u64,
+        hint: usize,
+        lane: u64,
+        pool: usize,
+        slot: u64,
+    ) {
+        let step = PushOn {
+            lane: lane as usize,
+            place: slot,
+        };
+        if let Some(oldest) = self.ports.on_pipe_in(place, sender, hint, &step) {
+            self.pools.let_go_of(pool, oldest);
+        }
+    }
+
+    /// The loaned request is a pending response now.
+    #[inline(always)]
+    pub fn become_pending(&mut self, number: u64, hint: usize, port: u64, connections: u64) {
+        self.handles.become_pending(number, hint, port, connections);
+    }
+
+    /// Removes the handle of that number, which is there, and is of that port and kind.
+    #[inline(always)]
+    pub fn remove_known(&mut self, number: u64, hint: usize, port: u64, kind: Kind) {
+        self.handles.remove_known(number, hint, port, kind);
+    }
+
+    /// Counts one loan more of the port in that place.
+    #[inline(always)]
+    pub fn count_loan_in(&mut self, place: usize) {
+        self.ports.count_loan_in(place);
     }
 
     // ---- a port

@@ -57,6 +57,7 @@ pub fn copy_response(
     let lender = Lending {
         port,
         at: 0,
+        own_rank: 0,
         client: entry.client,
         client_at: 0,
         rank: 0,

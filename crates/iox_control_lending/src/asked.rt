@@ -20,8 +20,9 @@ pub struct Asked {
 #[derive(Clone, Copy)]
 pub struct Lending {
     pub port: PortInfo,
-    /// Where the port is looked for first, and where the client is.
+    /// Where the port is, its rank, and where the client is looked for first.
     pub at: usize,
+    pub own_rank: usize,
     pub client: u64,
     pub client_at: u16,
     /// Of the pipes that lead to it, where the client's is likely.

@@ -42,7 +42,7 @@ fn lend(control: &mut Control, lender: &Lending, asked: Asked) -> Lent
     if let Some(refusal) = loan_refusal(control, *lender, asked) {
         return Lent::Refused(refusal);
     }
-    retrieve_all_of(control, &lender.port);
+    retrieve_all_of(control, &lender.port, lender.own_rank);
     match lend_free(control, lender, asked) {
         Some(loaned) => Lent::Handle(loaned),
         None => Lent::OutOfMemory,
@@ -74,12 +74,14 @@ pub fn lend_request_of(
         (state_shown (given_after x x.request asked result) control.new.tables) }
 {
     let port = known_as(port, Role::Client);
+    let own = control.rank(at);
     let lender = Lending {
         port,
         at,
         client: port.number,
         client_at: (at & 0xffff) as u16,
-        rank: 0,
+        rank: (own & 0xffff) as u16,
+        own_rank: own,
         lane: 0,
         request: port.loans % (1 << 62),
     };
@@ -102,7 +104,8 @@ pub fn lend_request(control: &mut Control, node: u64, client: u64, asked: Asked)
     let Some(port) = control.ports().find(client) else {
         unreachable!();
     };
-    lend_request_of(control, node, client, usize::MAX, port, asked)
+    let at = control.ports().known_place(client, usize::MAX);
+    lend_request_of(control, node, client, at, port, asked)
 }
 
 /// Lends a response to that active request, of whose handle and of whose port this is said. All
@@ -139,6 +142,7 @@ pub fn lend_response_of(
         client: entry.client,
         client_at: entry.client_at,
         rank: entry.rank,
+        own_rank: control.rank(at),
         lane: label.lane,
         request: label.request,
     };

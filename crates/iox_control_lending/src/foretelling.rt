@@ -141,6 +141,7 @@ pub fn request_may_be_made(control: &Control, client: u64, asked: Asked) -> bool
     let lender = Lending {
         port,
         at: 0,
+        own_rank: 0,
         client: port.number,
         client_at: 0,
         rank: 0,
@@ -184,6 +185,7 @@ pub fn response_may_be_made(
     let lender = Lending {
         port,
         at: 0,
+        own_rank: 0,
         client: entry.client,
         client_at: 0,
         rank: 0,

@@ -73,7 +73,7 @@ fn hand_out(control: &mut Control, lender: &Lending, uninit: bool, slot: u64) ->
         → control.new ≡ with_handed control.old (lender_of p lender.now) uninit slot }
 {
     let entry = loan_entry(control, lender, uninit, slot);
-    control.count_loan_at(lender.port.number, lender.at);
+    control.count_loan_in(lender.at);
     let place = control.add_handle(entry);
     control.count_call();
     (entry.number, place)

@@ -107,7 +107,8 @@ fn take_port(control: &mut Control, port: u64)
 /// The port goes if nothing of it is left: neither its own value nor a handle. With it go the pools
 /// of ports that are gone of which nobody has a message any more: its own, and those of which
 /// messages were given up.
-#[inline(always)]
+#[cold]
+#[inline(never)]
 pub fn disconnect_if_unused(control: &mut Control, port: u64)
     requires order { IsControl control.old }
     ensures left { control.new.tables

@@ -18,44 +18,25 @@ ghost use Rattle.iox_control_releasing.specs.Goings.{ArePoolsThere, KeptPools, N
 
 use crate::ending::Ending;
 use crate::leaving::leave;
-use crate::unused::may_go;
 use iox_control::Control;
 use iox_handles::Entry;
 use iox_lanes::wanted::Label;
 use iox_model::kind::Kind;
-use iox_model::way::Way;
 
 /// Gives a received message of that label and owner back, and closes a request whose pending
-/// response or active request it was.
+/// response or active request it was. Its port is in that place.
 #[inline(always)]
-fn give_up(control: &mut Control, entry: Entry, label: Label, owner: u64)
+fn give_up(control: &mut Control, entry: Entry, at: usize, label: Label, owner: u64)
     ensures { control.new ≡ with_tables control.old
         (given_up_with entry.kind control.old.tables (handle_state entry) label owner) }
 {
+    let hint = entry.rank as usize;
     match entry.kind {
-        Kind::PendingResponse => control.close_all(entry.port, label.lane, label.request),
+        Kind::PendingResponse => control.close_all_in(entry.port, hint, label),
         Kind::ActiveRequest => {
-            let way = Way {
-                sender: entry.client,
-                receiver: entry.port,
-                lane: 0,
-            };
-            control.give_back(way, entry.slot);
-            let own = Way {
-                sender: entry.port,
-                receiver: entry.client,
-                lane: label.lane,
-            };
-            control.close(own, label.request);
+            control.give_back_and_close_in(at, entry.client, hint, entry.slot, label);
         }
-        Kind::Response => {
-            let way = Way {
-                sender: owner,
-                receiver: entry.port,
-                lane: label.lane,
-            };
-            control.give_back(way, entry.slot);
-        }
+        Kind::Response => control.give_back_in(at, owner, hint, label.lane, entry.slot),
         Kind::Client => {}
         Kind::Server => {}
         Kind::RequestMutUninit => {}
@@ -77,9 +58,9 @@ fn end_removed(control: &mut Control, entry: Entry) -> bool
         (port_in control.old.tables.ports entry.port) false ≡ true }
 {
     let left = control.leave_slot(entry.pool, entry.slot);
-    let goes = may_go(control.ports(), entry.port, left.idle);
-    give_up(control, entry, left.label, left.owner);
-    goes
+    let at = control.ports().known_place(entry.port, entry.at as usize);
+    give_up(control, entry, at, left.label, left.owner);
+    left.idle || !control.ports().info_of(at).held
 }
 
 /// Releases the node's handle of that number, if it is of that kind, or a loan that was filled

@@ -24,6 +24,7 @@ pub fn lose(control: &mut Control, client: u64, asked: Asked) -> Option<Copied>
     let lender = Lending {
         port,
         at: 0,
+        own_rank: 0,
         client: port.number,
         client_at: 0,
         rank: 0,

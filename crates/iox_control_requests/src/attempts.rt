@@ -22,6 +22,7 @@ use iox_control_retrieving::{has_one_out, retrieve_all_unless};
 use iox_handles::Entry;
 
 /// Whether the send of a request of the client fails as the servers are now.
+#[inline(always)]
 fn is_to_fail<B: WhenFull>(control: &Control, client: u64, overflow: bool, backpressure: &B) -> bool
     ensures { result
         ≡ is_failing (B.fails backpressure.now) overflow control.now.tables.ports client }
@@ -35,6 +36,7 @@ fn is_to_fail<B: WhenFull>(control: &Control, client: u64, overflow: bool, backp
 /// Sends a client's loaned request, and says to how many servers: first the client gets all back.
 /// Without overflow, a full server may make the send fail. Then the loan ends, and the answer is
 /// `None`.
+#[inline(always)]
 pub fn attempt<B: WhenFull>(
     control: &mut Control,
     entry: Entry,
@@ -63,7 +65,7 @@ pub fn attempt<B: WhenFull>(
     ensures messages { bare_pools control.old.tables.pools ≡ bare_pools control.new.tables.pools }
     ensures order { IsControl control.new }
 {
-    let label = control.label(entry.pool, entry.slot);
+    let label = control.label_of(entry.pool, entry.slot);
     let alone = has_one_out(control, entry.pool);
     retrieve_all_unless(control, entry.port, alone);
     if is_to_fail(control, entry.port, overflow, backpressure) {

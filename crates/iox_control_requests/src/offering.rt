@@ -21,6 +21,7 @@ use iox_handles::Entry;
 /// Offers this loaned request, which is looked for by its number, at the hint first, to all
 /// servers: all of its send but the disconnection of the client, where the loan is lost and nothing
 /// else of that is left. What is said of full servers counts only where requests do not overflow.
+#[inline(always)]
 pub fn offer_request<B: WhenFull>(
     control: &mut Control,
     node: u64,

@@ -21,6 +21,7 @@ use iox_handles::Entry;
 /// and says to how many. Where it is lost, the client goes with it, if nothing else of that is
 /// left. Whether the send fails where a server is full, the caller says: that counts only where
 /// requests do not overflow.
+#[inline(always)]
 pub fn send_request<B: WhenFull>(
     control: &mut Control,
     node: u64,

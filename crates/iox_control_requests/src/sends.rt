@@ -60,6 +60,7 @@ fn become_pending(control: &mut Control, entry: Entry, hint: usize, count: u64)
 /// Sends a client's loaned request, whose message has that label, once the client got all back, and
 /// says to how many servers. It is opened with each server, and a full one gets nothing, unless its
 /// oldest message is pushed out.
+#[inline(always)]
 pub fn send_to_all(
     control: &mut Control,
     entry: Entry,
@@ -86,8 +87,21 @@ pub fn send_to_all(
         control.old.tables.pools control.new.tables.pools }
     ensures order { IsControl control.new }
 {
+    if overflow {
+        let rank = entry.rank as usize;
+        let count = control.open_and_push_all(entry.port, rank, entry.pool, entry.slot, label);
+        control.become_pending(entry.number, hint, entry.port, count);
+        control.count_call();
+        return count;
+    }
+    send_to_some(control, entry, label, hint)
+}
+
+/// The same, where a full server gets nothing.
+#[inline(never)]
+fn send_to_some(control: &mut Control, entry: Entry, label: Label, hint: usize) -> u64 {
     open_request(control, entry, label);
-    let count = deliver_to_all(control, entry, overflow);
+    let count = deliver_to_all(control, entry, false);
     become_pending(control, entry, hint, count);
     count
 }

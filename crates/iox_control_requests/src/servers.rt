@@ -58,6 +58,7 @@ fn is_refused_by<B: WhenFull>(
 }
 
 /// Whether a server is full at which a send of the client fails.
+#[inline(never)]
 pub fn is_refused<B: WhenFull>(control: &Control, client: u64, backpressure: &B) -> bool
     ensures { result ≡ list_any (B.fails backpressure.now)
         (full_in (lane_on control.now.tables.ports)

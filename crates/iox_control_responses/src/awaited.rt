@@ -22,7 +22,7 @@ pub fn is_awaited(control: &Control, entry: Entry) -> bool
 }
 
 /// The same, under the label of the handle's message.
-pub(crate) fn is_awaited_under(control: &Control, entry: Entry, label: Label) -> bool
+fn is_awaited_under(control: &Control, entry: Entry, label: Label) -> bool
     requires order { IsControl control.now }
     requires label { label ≡ labels_of control.now.tables.pools entry.pool entry.slot }
     ensures { result ≡ is_named_by_client control.now.tables (handle_state entry) false }

@@ -3,7 +3,6 @@
 
 mod awaited;
 mod failing;
-mod handing;
 mod offering;
 mod responded;
 mod sending;

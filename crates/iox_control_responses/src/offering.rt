@@ -14,35 +14,16 @@ ghost use Rattle.iox_control.specs.Controls.{IsControl};
 ghost use Rattle.iox_control.specs.Entries.{handle_state};
 ghost use Rattle.iox_control_responses.specs.Responses.{IsFailure, IsResponse, reply_of_send, response_reply, with_response_ended};
 
-use crate::awaited::is_awaited_under;
-use crate::handing::hand_over;
 use crate::responded::Responded;
 use iox_control::Control;
 use iox_control_ending::{count, end_loan};
 use iox_control_retrieving::{has_one_out, retrieve_unless};
 use iox_handles::Entry;
+use iox_hub_ports::walks::is_same_role;
+use iox_lanes::states::is_named;
+use iox_lanes::wanted::Label;
+use iox_model::kind::{Kind, Role};
 use iox_model::way::Way;
-
-/// The lane of the way is sound. It has nothing to do: it is there for its contract.
-#[inline(always)]
-fn lane_is_sound(control: &Control, way: Way)
-    ensures { (l : LaneState) → lane_on control.now.tables.ports way ≡ Some l → IsSound l }
-{
-    control.ports().is_full(way);
-}
-
-/// Whether a response may not wait on the way: as many wait as may, and none of them is pushed out.
-fn is_shut(control: &Control, way: Way) -> bool
-    ensures shut { result ≡ (on_way is_full true control.now.tables.ports way
-        && not control.now.tables.settings.response_overflow) }
-    ensures sound { (l : LaneState) → lane_on control.now.tables.ports way ≡ Some l → IsSound l }
-{
-    lane_is_sound(control, way);
-    if control.settings().response_overflow {
-        return false;
-    }
-    control.ports().is_full(way)
-}
 
 /// Offers this loaned response to its client, and ends its handle, which is looked for by its
 /// number, at the hint first: all of its send but the disconnection of the server, where nothing
@@ -75,24 +56,48 @@ pub fn offer_response(
         → IsWholeCall (state_shown x control.old.tables) node (Send number)
         (reply_of_send result) (state_shown x t) }
 {
-    let label = control.label(entry.pool, entry.slot);
+    let at = control.ports().known_place(entry.port, entry.at as usize);
+    offer_response_at(control, node, number, hint, entry, at, fails)
+}
+
+/// The same, of a server in that place.
+#[inline(always)]
+pub fn offer_response_at(
+    control: &mut Control,
+    node: u64,
+    number: u64,
+    hint: usize,
+    entry: Entry,
+    at: usize,
+    fails: bool,
+) -> Responded {
+    let label = control.label_of(entry.pool, entry.slot);
     let alone = has_one_out(control, entry.pool);
+    let Some(to) = client_of(control, entry, at, label) else {
+        count(control);
+        end_loan(control, node, number, hint);
+        return Responded::Done;
+    };
     let way = Way {
         sender: entry.port,
         receiver: entry.client,
         lane: label.lane,
     };
-    let shut = is_shut(control, way);
-    if !is_awaited_under(control, entry, label) {
-        count(control);
-        end_loan(control, node, number, hint);
-        return Responded::Done;
+    if !control.settings().response_overflow && control.ports().is_full(way) {
+        retrieve_unless(control, way, entry.pool, alone);
+        return lose(control, node, number, hint, fails);
     }
     retrieve_unless(control, way, entry.pool, alone);
-    if !shut {
-        hand_over(control, node, number, hint, way, entry.pool, entry.slot);
-        return Responded::Done;
-    }
+    let rank = control.rank(at);
+    control.push_in(to, entry.port, rank, label.lane, entry.pool, entry.slot);
+    control.remove_known(number, hint, entry.port, Kind::ResponseMut);
+    control.count_call();
+    Responded::Done
+}
+
+/// The response is lost at a full client.
+#[inline(never)]
+fn lose(control: &mut Control, node: u64, number: u64, hint: usize, fails: bool) -> Responded {
     if fails {
         end_loan(control, node, number, hint);
         return Responded::Undelivered;
@@ -100,4 +105,23 @@ pub fn offer_response(
     count(control);
     end_loan(control, node, number, hint);
     Responded::Done
+}
+
+/// The place of the client of the handle's request, if it still names it: else nobody waits for a
+/// response. The server is in that place.
+#[inline(always)]
+fn client_of(control: &Control, entry: Entry, at: usize, label: Label) -> Option<usize> {
+    let to = control
+        .ports()
+        .place_at(entry.client, entry.client_at as usize)?;
+    if is_same_role(control.ports().info_of(to).role, Role::Server) {
+        return None;
+    }
+    let state = control
+        .ports()
+        .state_in(at, entry.client, entry.rank as usize, label.lane);
+    if is_named(state, label.request) {
+        return Some(to);
+    }
+    None
 }

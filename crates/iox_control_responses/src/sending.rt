@@ -11,7 +11,7 @@ ghost use Rattle.iox_control.specs.Entries.{handle_state};
 ghost use Rattle.iox_control_releasing.specs.Goings.{KeptPools, StaysTidy};
 ghost use Rattle.iox_control_responses.specs.Responses.{IsFailure, IsResponse, reply_of_send, response_reply, with_response_ended};
 
-use crate::offering::offer_response;
+use crate::offering::offer_response_at;
 use crate::responded::Responded;
 use iox_control::Control;
 use iox_control_releasing::disconnect_if_unused;
@@ -21,6 +21,7 @@ use iox_handles::Entry;
 /// number, at the hint first; the server goes with it, if nothing else of that is left. Whether the
 /// send fails where the client is full, the caller says: by the server's handler, or else by its
 /// strategy. That counts only where responses do not overflow.
+#[inline(always)]
 pub fn send_response(
     control: &mut Control,
     node: u64,
@@ -28,7 +29,7 @@ pub fn send_response(
     hint: usize,
     entry: Entry,
     fails: bool,
-) -> Responded
+) -> (Responded, bool)
     requires response { IsResponse control.old.tables node number }
     requires entry { Some (handle_state entry) ≡ handle_in control.old.tables.handles node number }
     requires order { IsControl control.old }
@@ -50,7 +51,11 @@ pub fn send_response(
         → IsWholeCall (state_shown x control.old.tables) node (Send number)
         (reply_of_send result) (state_shown x control.new.tables) }
 {
-    let responded = offer_response(control, node, number, hint, entry, fails);
-    disconnect_if_unused(control, entry.port);
-    responded
+    let at = control.ports().known_place(entry.port, entry.at as usize);
+    let responded = offer_response_at(control, node, number, hint, entry, at, fails);
+    let goes = !control.ports().info_of(at).held;
+    if goes {
+        disconnect_if_unused(control, entry.port);
+    }
+    (responded, goes)
 }

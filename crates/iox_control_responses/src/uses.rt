@@ -17,5 +17,5 @@ pub fn sends_by_strategy(control: &mut Control, node: u64, number: u64, server: 
         unreachable!();
     };
     let fails = fails_when_full(control, server);
-    send_response(control, node, number, 0, entry, fails)
+    send_response(control, node, number, 0, entry, fails).0
 }

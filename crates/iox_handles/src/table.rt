@@ -187,6 +187,26 @@ impl Table {
         None
     }
 
+    /// The loaned request of that number, which is there, and is of that port, is a pending response
+    /// now, with so many connections.
+    #[inline(always)]
+    pub fn become_pending(&mut self, number: u64, hint: usize, port: u64, connections: u64) {
+        let place = self.known_place(number, hint);
+        self.tally.discount(port, Kind::RequestMut);
+        self.tally.count(port, Kind::PendingResponse);
+        let entry = &mut self.places[place];
+        entry.kind = Kind::PendingResponse;
+        entry.connections = connections;
+    }
+
+    /// Removes the handle of that number, which is there, and is of that port and kind.
+    #[inline(always)]
+    pub fn remove_known(&mut self, number: u64, hint: usize, port: u64, kind: Kind) {
+        let place = self.known_place(number, hint);
+        self.tally.discount(port, kind);
+        self.vacate(place);
+    }
+
     /// The handle of that number, which is there, is of that kind now. It is looked for at the hint
     /// first.
     #[inline(always)]

@@ -32,6 +32,7 @@ impl<H: Backpressure> WhenFull for ByHandler<H> {
 
 /// Whether the send of a response fails where its client is full: the server and the client are
 /// those of that handle.
+#[inline(never)]
 pub(crate) fn fails_at_client<H: Backpressure>(
     control: &Control,
     handlers: &Handlers<H>,
@@ -50,6 +51,7 @@ pub(crate) fn fails_at_client<H: Backpressure>(
 
 /// Whether the send of a response fails where its client is full. Where responses overflow no send
 /// does, so the server is not asked.
+#[inline(always)]
 pub(crate) fn fails_without_overflow<H: Backpressure>(
     control: &Control,
     handlers: &Handlers<H>,
@@ -68,6 +70,7 @@ pub(crate) fn fails_without_overflow<H: Backpressure>(
 
 /// What full servers mean for the send of a request: the client's handler decides, if it has one,
 /// and else its strategy. Where requests overflow no send fails, so the client is not asked.
+#[inline(always)]
 pub(crate) fn asked_of_client<H: Backpressure>(
     control: &Control,
     handlers: &Handlers<H>,
@@ -87,8 +90,21 @@ pub(crate) fn asked_of_client<H: Backpressure>(
     if control.settings().request_overflow {
         return nothing;
     }
+    asked_of_known(control, handlers, client)
+}
+
+/// The same, where requests do not overflow.
+#[inline(never)]
+fn asked_of_known<H: Backpressure>(
+    control: &Control,
+    handlers: &Handlers<H>,
+    client: u64,
+) -> ByHandler<H> {
     let Some(port) = control.ports().find(client) else {
-        return nothing;
+        return ByHandler {
+            handler: None,
+            strategy: BackpressureStrategy::DiscardData,
+        };
     };
     let handler = handlers.find(client);
     ByHandler {

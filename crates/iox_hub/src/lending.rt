@@ -123,10 +123,9 @@ impl<Q: Payload, QH: Words, P: Payload, PH: Words, H: Backpressure> Hub<Q, QH, P
         ensures keeps { KeepsAll self.old self.new }
         ensures memory { result ≡ Refused WantOfMemory → ⊥ }
     {
-        let Some(port) = self.control.ports().find(client) else {
-            unreachable!();
-        };
-        self.lend_request_in_room(node, client, usize::MAX, port, elements, uninit, spare)
+        let at = self.control.ports().known_place(client, usize::MAX);
+        let port = self.control.ports().info_of(at);
+        self.lend_request_in_room(node, client, at, port, elements, uninit, spare)
     }
 
     /// Lends a response to that active request, of whose handle and of whose port this is said, for
@@ -209,10 +208,9 @@ impl<Q: Payload, QH: Words, P: Payload, PH: Words, H: Backpressure> Hub<Q, QH, P
         let Some(entry) = self.control.entry(node, number, hint) else {
             unreachable!();
         };
-        let Some(port) = self.control.ports().find(entry.port) else {
-            unreachable!();
-        };
-        self.lend_response_in_room(node, number, entry, usize::MAX, port, elements, uninit, spare)
+        let at = self.control.ports().known_place(entry.port, usize::MAX);
+        let port = self.control.ports().info_of(at);
+        self.lend_response_in_room(node, number, entry, at, port, elements, uninit, spare)
     }
 
     /// Lends a request of that client for so many elements, for which its message may have to grow.

@@ -25,6 +25,7 @@ use iox_words::Words;
 impl<Q: Payload, QH: Words, P: Payload, PH: Words, H: Backpressure> Hub<Q, QH, P, PH, H> {
     /// Sends a loaned response to its client, and ends its handle, which is looked for at the hint
     /// first; the server goes with it, if nothing else of that is left.
+    #[inline(always)]
     pub fn send_response(&mut self, node: u64, number: u64, hint: usize) -> Responded
         requires has { HasValue self.old node number ResponseMut }
         requires calls { self.old.control.tables.calls < 2 ^ 56 }
@@ -43,11 +44,9 @@ impl<Q: Payload, QH: Words, P: Payload, PH: Words, H: Backpressure> Hub<Q, QH, P
         ensures keeps { KeepsOthers self.old node number self.new }
         ensures tidy { StaysTidy self.old.control.tables self.new.control.tables }
     {
-        let Some(entry) = self.control.entry(node, number, hint) else {
-            unreachable!();
-        };
+        let entry = self.control.known(number, hint);
         let fails = fails_without_overflow(&self.control, &self.handlers, entry);
-        let responded = iox_control_request_copies::send_response(
+        let (responded, goes) = iox_control_request_copies::send_response(
             &mut self.control,
             node,
             number,
@@ -55,13 +54,16 @@ impl<Q: Payload, QH: Words, P: Payload, PH: Words, H: Backpressure> Hub<Q, QH, P
             entry,
             fails,
         );
-        self.drop_words(entry.pool);
+        if goes {
+            self.drop_words(entry.pool);
+        }
         responded
     }
 
     /// Sends a loaned request, whose handle is looked for at the hint first, to all servers, and
     /// says to how many: then the handle is a pending response. Where the request is lost, the
     /// client goes with it, if nothing else of that is left.
+    #[inline(always)]
     pub fn send_request(&mut self, node: u64, number: u64, hint: usize) -> Requested
         requires has { HasValue self.old node number RequestMut }
         requires calls { self.old.control.tables.calls < 2 ^ 56 }
@@ -78,9 +80,7 @@ impl<Q: Payload, QH: Words, P: Payload, PH: Words, H: Backpressure> Hub<Q, QH, P
         ensures keeps { KeepsOthers self.old node number self.new }
         ensures tidy { StaysTidy self.old.control.tables self.new.control.tables }
     {
-        let Some(entry) = self.control.entry(node, number, hint) else {
-            unreachable!();
-        };
+        let entry = self.control.known(number, hint);
         let by = asked_of_client(&self.control, &self.handlers, entry.port);
         let requested = iox_control_request_copies::send_request(
             &mut self.control,
@@ -90,7 +90,10 @@ impl<Q: Payload, QH: Words, P: Payload, PH: Words, H: Backpressure> Hub<Q, QH, P
             entry,
             &by,
         );
-        self.drop_words(entry.pool);
+        match requested {
+            Requested::To(_) => {}
+            _ => self.drop_words(entry.pool),
+        }
         requested
     }
 }

@@ -47,6 +47,9 @@ pub struct Ports {
     last: u64,
     // By the remainder of its number, where a port is.
     latest: [usize; REMAINDERS],
+    // The places of clients, and of servers.
+    clients: Vec<usize>,
+    servers: Vec<usize>,
 }
 
 impl Model for Ports {
@@ -174,19 +177,43 @@ impl Ports {
         self.ports[place].count_loan();
     }
 
+    /// How many servers there are.
+    #[inline(always)]
+    pub fn servers_len(&self) -> usize {
+        self.servers.len()
+    }
+
+    /// How many ports of the other role there are.
+    #[inline(always)]
+    pub fn others_len(&self, role: Role) -> usize {
+        match role {
+            Role::Client => self.servers.len(),
+            Role::Server => self.clients.len(),
+        }
+    }
+
+    /// The place of the port of that rank among those of the other role.
+    #[inline(always)]
+    pub fn other(&self, role: Role, rank: usize) -> usize {
+        match role {
+            Role::Client => self.servers[rank],
+            Role::Server => self.clients[rank],
+        }
+    }
+
     /// The ranks of all ports among those of their role.
     fn number_ranks(&mut self) {
-        let mut clients = 0;
-        let mut servers = 0;
+        self.clients.clear();
+        self.servers.clear();
         for place in 0..self.ports.len() {
             match self.ports[place].role() {
                 Role::Client => {
-                    self.ports[place].set_rank(clients);
-                    clients += 1;
+                    self.ports[place].set_rank(self.clients.len());
+                    self.clients.push_reserved(place);
                 }
                 Role::Server => {
-                    self.ports[place].set_rank(servers);
-                    servers += 1;
+                    self.ports[place].set_rank(self.servers.len());
+                    self.servers.push_reserved(place);
                 }
             }
         }
@@ -226,6 +253,8 @@ impl Ports {
             room,
             last: 0,
             latest: [0; REMAINDERS],
+            clients: Vec::with_capacity(alloc, room)?,
+            servers: Vec::with_capacity(alloc, room)?,
         })
     }
 
@@ -256,6 +285,8 @@ impl Ports {
             return Err(AllocError);
         };
         self.ports.reserve(room)?;
+        self.clients.reserve(self.ports.len() + room - self.clients.len())?;
+        self.servers.reserve(self.ports.len() + room - self.servers.len())?;
         self.room = room;
         Ok(())
     }

@@ -260,6 +260,13 @@ impl Pools {
         self.pools[place].leave(slot);
     }
 
+    /// So many more have a slot that somebody has.
+    #[inline(always)]
+    pub fn hold_times(&mut self, place: usize, slot: u64, times: u64) {
+        let slot = &mut self.pools[place].slots[slot as usize];
+        slot.holders += times;
+    }
+
     /// Whether somebody has just one slot of a pool that is there.
     #[inline(always)]
     pub fn has_one_out(&self, place: usize) -> bool {
