@@ -66,6 +66,23 @@ pub(crate) fn lend_request<Q: Payload, QH: Words, P: Payload, PH: Words, H: Back
     ensures left { OnErr result (hub.new ≡ with_control hub.old hub.new.control) }
 {
     hub.is_in_order();
+    match hub.lend_request_near(client, at, elements, uninit) {
+        Some(loan) => Ok((loan.number, loan.place)),
+        None => lend_request_far(hub, node, client, at, elements, uninit),
+    }
+}
+
+/// The same, on any way.
+#[inline(never)]
+fn lend_request_far<Q: Payload, QH: Words, P: Payload, PH: Words, H: Backpressure>(
+    hub: &mut Hub<Q, QH, P, PH, H>,
+    node: u64,
+    client: u64,
+    at: usize,
+    elements: usize,
+    uninit: bool,
+) -> Result<(u64, usize), LoanError> {
+    hub.is_in_order();
     match iox_hub_laws::lend_request(hub, node, client, at, elements, uninit) {
         Lent::Handle(loan) => {
             hub.is_in_order();
@@ -113,6 +130,23 @@ pub(crate) fn lend_response<Q: Payload, QH: Words, P: Payload, PH: Words, H: Bac
     ensures unchanged { IfErr result (λ error. error ≢ OutOfMemory → hub.new ≡ hub.old) }
     ensures left { OnErr result (hub.new ≡ with_control hub.old hub.new.control) }
 {
+    hub.is_in_order();
+    match hub.lend_response_near(number, hint, elements, uninit) {
+        Some(loan) => Ok((loan.number, loan.place)),
+        None => lend_response_far(hub, node, number, hint, elements, uninit),
+    }
+}
+
+/// The same, on any way.
+#[inline(never)]
+fn lend_response_far<Q: Payload, QH: Words, P: Payload, PH: Words, H: Backpressure>(
+    hub: &mut Hub<Q, QH, P, PH, H>,
+    node: u64,
+    number: u64,
+    hint: usize,
+    elements: usize,
+    uninit: bool,
+) -> Result<(u64, usize), LoanError> {
     hub.is_in_order();
     match iox_hub_laws::lend_response(hub, node, number, hint, elements, uninit) {
         Lent::Handle(loan) => Ok((loan.number, loan.place)),

@@ -111,6 +111,18 @@ impl<Q: Payload, QH: Words, P: Payload, PH: Words> PendingResponse<Q, QH, P, PH>
         ensures requests { KeepsRequests hub.old hub.new }
     {
         hub.is_in_order();
+        if let Some(added) = hub.receive_response_near(self.node, self.number, self.hint) {
+            return Ok(Some(Response::new(self.node, added.number, added.place)));
+        }
+        self.receive_far(hub)
+    }
+
+    /// The same, on any way.
+    #[inline(never)]
+    fn receive_far<H: Backpressure>(
+        &self,
+        hub: &mut Hub<Q, QH, P, PH, H>,
+    ) -> Result<Option<Response<Q, QH, P, PH>>, ReceiveError> {
         match receive_response(hub, self.node, self.number, self.hint) {
             Received::Handle(number, place) => Ok(Some(Response::new(self.node, number, place))),
             Received::Nothing => Ok(None),

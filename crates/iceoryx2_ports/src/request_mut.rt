@@ -305,12 +305,9 @@ impl<Q: Payload, QH: Words, P: Payload, PH: Words> RequestMut<Q, QH, P, PH> {
             of: _,
         } = self;
         hub.is_in_order();
-        match send_request(hub, node, number, hint) {
-            Requested::To(servers) => Ok(PendingResponse::new(node, number, servers, hint)),
-            Requested::ExceedsMaxActiveRequests => Err(RequestSendError::ExceedsMaxActiveRequests),
-            Requested::UnableToDeliver => {
-                Err(RequestSendError::SendError(SendError::UnableToDeliver))
-            }
+        match hub.send_request_near(number, hint) {
+            Some(servers) => Ok(PendingResponse::new(node, number, servers, hint)),
+            None => send_far(hub, node, number, hint),
         }
     }
 
@@ -333,5 +330,22 @@ impl<Q: Payload, QH: Words, P: Payload, PH: Words> RequestMut<Q, QH, P, PH> {
             of: _,
         } = self;
         release_handle(hub, node, number, Kind::RequestMut, hint);
+    }
+}
+
+/// Sends a loaned request on any way.
+#[inline(never)]
+fn send_far<Q: Payload, QH: Words, P: Payload, PH: Words, H: Backpressure>(
+    hub: &mut Hub<Q, QH, P, PH, H>,
+    node: u64,
+    number: u64,
+    hint: usize,
+) -> Result<PendingResponse<Q, QH, P, PH>, RequestSendError> {
+    match send_request(hub, node, number, hint) {
+        Requested::To(servers) => Ok(PendingResponse::new(node, number, servers, hint)),
+        Requested::ExceedsMaxActiveRequests => Err(RequestSendError::ExceedsMaxActiveRequests),
+        Requested::UnableToDeliver => {
+            Err(RequestSendError::SendError(SendError::UnableToDeliver))
+        }
     }
 }

@@ -296,15 +296,9 @@ impl<Q: Payload, QH: Words, P: Payload, PH: Words> ResponseMut<Q, QH, P, PH> {
             of: _,
         } = self;
         hub.is_in_order();
-        match send_response(hub, node, number, hint) {
-            Responded::Done => {
-                hub.is_in_order();
-                Ok(())
-            }
-            Responded::Undelivered => {
-                hub.is_in_order();
-                Err(SendError::UnableToDeliver)
-            }
+        match hub.send_response_near(number, hint) {
+            Some(()) => Ok(()),
+            None => send_far(hub, node, number, hint),
         }
     }
 
@@ -327,5 +321,19 @@ impl<Q: Payload, QH: Words, P: Payload, PH: Words> ResponseMut<Q, QH, P, PH> {
             of: _,
         } = self;
         release_handle(hub, node, number, Kind::ResponseMut, hint);
+    }
+}
+
+/// Sends a loaned response on any way.
+#[inline(never)]
+fn send_far<Q: Payload, QH: Words, P: Payload, PH: Words, H: Backpressure>(
+    hub: &mut Hub<Q, QH, P, PH, H>,
+    node: u64,
+    number: u64,
+    hint: usize,
+) -> Result<(), SendError> {
+    match send_response(hub, node, number, hint) {
+        Responded::Done => Ok(()),
+        Responded::Undelivered => Err(SendError::UnableToDeliver),
     }
 }

@@ -99,6 +99,18 @@ impl<Q: Payload, QH: Words, P: Payload, PH: Words> Server<Q, QH, P, PH> {
         ensures requests { KeepsRequests hub.old hub.new }
     {
         hub.is_in_order();
+        if let Some(added) = hub.receive_request_near(self.node, self.number, self.place) {
+            return Ok(Some(ActiveRequest::new(self.node, added.number, added.place)));
+        }
+        self.receive_far(hub)
+    }
+
+    /// The same, on any way.
+    #[inline(never)]
+    fn receive_far<H: Backpressure>(
+        &self,
+        hub: &mut Hub<Q, QH, P, PH, H>,
+    ) -> Result<Option<ActiveRequest<Q, QH, P, PH>>, ReceiveError> {
         match receive_request(hub, self.node, self.number, self.place) {
             Received::Handle(number, place) => Ok(Some(ActiveRequest::new(self.node, number, place))),
             Received::Nothing => Ok(None),

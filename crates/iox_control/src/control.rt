@@ -36,7 +36,6 @@ use std::marker::Model;
 pub struct Control {
     pub(crate) settings: Settings,
     pub(crate) calls: u64,
-    pub(crate) next_number: u64,
     pub(crate) ports_made: u64,
     pub(crate) ports: Ports,
     pub(crate) handles: Table,
@@ -66,7 +65,6 @@ impl Control {
         Ok(Control {
             settings,
             calls: 0,
-            next_number: 0,
             ports_made: 0,
             ports: Ports::new(alloc, 0)?,
             handles: Table::new(alloc, 0)?,
@@ -169,7 +167,6 @@ impl Control {
         ensures { self.new ≡ with_handle self.old (handle_state entry) }
     {
         let place = self.handles.add(entry);
-        self.next_number += 1;
         place
     }
 
@@ -219,7 +216,7 @@ impl Control {
         };
         Entry {
             node,
-            number: self.next_number,
+            number: self.handles.next_number(),
             kind,
             at: (at & 0xffff) as u16,
             client_at: (client_at & 0xffff) as u16,

@@ -12,8 +12,10 @@ mod receives;
 mod removals;
 mod settings;
 mod slots;
+mod usual;
 pub mod uses;
 
 pub use control::Control;
 pub use received::Received;
 pub use settings::Settings;
+pub use usual::{Added, LoanNear, Near};

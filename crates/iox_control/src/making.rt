@@ -122,7 +122,7 @@ impl Control {
         requires made { self.old.tables.ports_made + 1 < 2 ^ 64 }
         ensures { self.new ≡ with_number self.old }
     {
-        self.next_number += 1;
+        self.handles.skip_number();
         self.ports_made += 1;
     }
 }

@@ -31,7 +31,7 @@ impl Control {
     pub fn next_number(&self) -> u64
         ensures { result ≡ self.now.tables.next_number }
     {
-        self.next_number
+        self.handles.next_number()
     }
 
     /// How many ports were ever made.

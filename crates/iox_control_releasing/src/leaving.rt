@@ -27,7 +27,7 @@ fn pool_of(ports: &Ports, port: u64, other: usize) -> usize
 /// goes, so it is a call of its own.
 #[cold]
 #[inline(never)]
-fn let_both_go(control: &mut Control, port: u64, place: usize) -> usize
+pub fn let_both_go(control: &mut Control, port: u64, place: usize) -> usize
     requires order { IsControl control.old }
     ensures port { result
         ≡ option_map_or (λ p. p.pool) (port_in control.old.tables.ports port) place }

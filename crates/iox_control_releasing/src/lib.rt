@@ -14,4 +14,5 @@ pub mod uses;
 pub use disconnect::{disconnect_if_unused, drop_pool};
 pub use ending::Ending;
 pub use handle::release;
+pub use leaving::let_both_go;
 pub use port_value::release_port;

@@ -104,6 +104,70 @@ impl Table {
         self.most - self.places.len() + self.free.len()
     }
 
+    /// The number of the next handle.
+    #[inline(always)]
+    pub fn next_number(&self) -> u64 {
+        self.next
+    }
+
+    /// No handle has the next number.
+    pub fn skip_number(&mut self) {
+        self.next += 1;
+    }
+
+    /// Whether a place is vacant that was not always.
+    #[inline(always)]
+    pub fn has_vacant(&self) -> bool {
+        self.free.len() > 0
+    }
+
+    /// The same as to add a handle whose number is the next one, where a place is vacant.
+    #[inline(always)]
+    pub fn add_vacant(&mut self, entry: Entry) -> usize {
+        self.next = entry.number + 1;
+        self.tally.count(entry.port, entry.kind);
+        let last = self.free.len() - 1;
+        let place = self.free[last];
+        self.free.pop();
+        let there = &mut self.places[place];
+        there.node = entry.node;
+        there.number = entry.number;
+        there.kind = entry.kind;
+        there.at = entry.at;
+        there.client_at = entry.client_at;
+        there.rank = entry.rank;
+        there.port = entry.port;
+        there.pool = entry.pool;
+        there.slot = entry.slot;
+        there.client = entry.client;
+        there.connections = entry.connections;
+        self.likely[remainder(entry.number)] = place;
+        place
+    }
+
+    /// The handle in that place goes, which is of that port and kind.
+    #[inline(always)]
+    pub fn remove_at(&mut self, place: usize, port: u64, kind: Kind) {
+        self.tally.discount(port, kind);
+        self.vacate(place);
+    }
+
+    /// The loaned request in that place is a pending response now, with so many connections.
+    #[inline(always)]
+    pub fn become_pending_at(&mut self, place: usize, port: u64, connections: u64) {
+        self.tally.discount(port, Kind::RequestMut);
+        self.tally.count(port, Kind::PendingResponse);
+        let entry = &mut self.places[place];
+        entry.kind = Kind::PendingResponse;
+        entry.connections = connections;
+    }
+
+    /// The handle in that place is of that kind now.
+    #[inline(always)]
+    pub fn set_kind_at(&mut self, place: usize, kind: Kind) {
+        self.places[place].kind = kind;
+    }
+
     /// Makes room for so many handles more.
     pub fn reserve(&mut self, more: usize) -> Result<(), AllocError>
         ensures reserved { OnOk result (self.new

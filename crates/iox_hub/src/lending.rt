@@ -25,6 +25,7 @@ use crate::layouts::has_layout;
 use crate::shape::MessageShape;
 use iox_backpressure::Backpressure;
 use iox_control_request_copies::{Asked, Lent, LoanRefusal, lend_request_of, lend_response_of};
+use iox_control::LoanNear;
 use iox_handles::Entry;
 use iox_hub_ports::info::PortInfo;
 use iox_store::{Payload, Spare, is_length};
@@ -346,5 +347,61 @@ impl<Q: Payload, QH: Words, P: Payload, PH: Words, H: Backpressure> Hub<Q, QH, P
                 .lend_response_in_room(node, number, entry, at, port, elements, uninit, None);
         }
         self.lend_response_growing(node, number, hint, elements, uninit)
+    }
+
+    /// Lends a request on the usual way, or answers `None`.
+    #[inline(always)]
+    pub fn lend_request_near(
+        &mut self,
+        client: u64,
+        at: usize,
+        elements: usize,
+        uninit: bool,
+    ) -> Option<LoanNear> {
+        if !self.control.ports().is_near(client, at) || !uninit {
+            return None;
+        }
+        let port = self.control.ports().info_of(at);
+        if elements as u64 > port.longest
+            || elements as u64 > self.most_of_request
+            || !is_length::<Q>(elements)
+        {
+            return None;
+        }
+        let loan = self
+            .control
+            .lend_request_near(at, port, elements as u64, uninit)?;
+        let store = self.words.requests_mut(loan.pool);
+        store.lend_own(loan.slot as usize, elements, self.request.user_header);
+        Some(loan)
+    }
+
+    /// Lends a response on the usual way, or answers `None`.
+    #[inline(always)]
+    pub fn lend_response_near(
+        &mut self,
+        number: u64,
+        hint: usize,
+        elements: usize,
+        uninit: bool,
+    ) -> Option<LoanNear> {
+        let active = self.control.near(number, hint)?;
+        let at = active.at as usize;
+        if !self.control.ports().is_near(active.port, at) || !uninit {
+            return None;
+        }
+        let port = self.control.ports().info_of(at);
+        if elements as u64 > port.longest
+            || elements as u64 > self.most_of_response
+            || !is_length::<P>(elements)
+        {
+            return None;
+        }
+        let loan = self
+            .control
+            .lend_response_near(active, at, port, elements as u64, uninit)?;
+        let store = self.words.responses_mut(loan.pool);
+        store.lend_own(loan.slot as usize, elements, self.response.user_header);
+        Some(loan)
     }
 }

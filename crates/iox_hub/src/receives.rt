@@ -10,7 +10,7 @@ ghost use Rattle.iox_hub.specs.Keeping.{IsNew, KeepsAll};
 
 use crate::hub::Hub;
 use iox_backpressure::Backpressure;
-use iox_control::Received;
+use iox_control::{Added, Received};
 use iox_store::Payload;
 use iox_words::Words;
 
@@ -47,5 +47,17 @@ impl<Q: Payload, QH: Words, P: Payload, PH: Words, H: Backpressure> Hub<Q, QH, P
         ensures keeps { KeepsAll self.old self.new }
     {
         self.control.receive_response(node, number, hint)
+    }
+
+    /// Receives a request on the usual way, or answers `None`.
+    #[inline(always)]
+    pub fn receive_request_near(&mut self, node: u64, server: u64, at: usize) -> Option<Added> {
+        self.control.receive_request_near(node, server, at)
+    }
+
+    /// Receives a response on the usual way, or answers `None`.
+    #[inline(always)]
+    pub fn receive_response_near(&mut self, node: u64, number: u64, hint: usize) -> Option<Added> {
+        self.control.receive_response_near(node, number, hint)
     }
 }

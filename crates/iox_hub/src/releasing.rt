@@ -108,6 +108,37 @@ impl<Q: Payload, QH: Words, P: Payload, PH: Words, H: Backpressure> Hub<Q, QH, P
         ensures tidy { IsTrue result
             → StaysTidy self.old.control.tables self.new.control.tables }
     {
+        let near = match kind {
+            Kind::Response => self.control.release_response_near(node, number, hint),
+            Kind::ActiveRequest => self.control.release_active_near(node, number, hint),
+            Kind::PendingResponse => self.control.release_pending_near(node, number, hint),
+            _ => None,
+        };
+        match near {
+            Some(near) => {
+                if near.goes {
+                    return self.let_both_go(near.port, near.pool);
+                }
+                true
+            }
+            None => self.release_far(node, number, kind, hint),
+        }
+    }
+
+    /// What may go after a handle went.
+    #[cold]
+    #[inline(never)]
+    fn let_both_go(&mut self, port: u64, pool: usize) -> bool {
+        let entry_pool = pool;
+        let place = iox_control_releasing::let_both_go(&mut self.control, port, entry_pool);
+        self.drop_words(entry_pool);
+        self.drop_words(place);
+        true
+    }
+
+    /// The same, on any way.
+    #[inline(never)]
+    fn release_far(&mut self, node: u64, number: u64, kind: Kind, hint: usize) -> bool {
         let Some(ending) = iox_control_releasing::release(
             &mut self.control,
             node,

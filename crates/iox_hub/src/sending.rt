@@ -96,4 +96,28 @@ impl<Q: Payload, QH: Words, P: Payload, PH: Words, H: Backpressure> Hub<Q, QH, P
         }
         requested
     }
+
+    /// Sends a loaned response on its usual way, or answers `None`.
+    #[inline(always)]
+    pub fn send_response_near(&mut self, number: u64, hint: usize) -> Option<()> {
+        let near = self.control.send_response_near(number, hint)?;
+        if near.goes {
+            self.let_one_go(near.port, near.pool);
+        }
+        Some(())
+    }
+
+    /// What may go after a response was sent.
+    #[cold]
+    #[inline(never)]
+    fn let_one_go(&mut self, port: u64, pool: usize) {
+        iox_control_releasing::disconnect_if_unused(&mut self.control, port);
+        self.drop_words(pool);
+    }
+
+    /// Sends a loaned request on its usual way, or answers `None`.
+    #[inline(always)]
+    pub fn send_request_near(&mut self, number: u64, hint: usize) -> Option<u64> {
+        self.control.send_request_near(number, hint)
+    }
 }

@@ -99,6 +99,48 @@ impl Port {
         self.expired.len()
     }
 
+    /// Whether none leads to it from a port that is gone, and the pipe of that rank is from this
+    /// connected sender.
+    #[inline(always)]
+    pub fn is_from(&self, rank: usize, sender: u64) -> bool {
+        self.expired.len() == 0 && self.incoming.is_from(rank, sender)
+    }
+
+    /// Whether no pipe leads to it from a port that is gone.
+    #[inline(always)]
+    pub fn keeps_none(&self) -> bool {
+        self.expired.len() == 0
+    }
+
+    /// Visits the lane of that number of each connected sender until one gives a message.
+    #[inline(always)]
+    pub fn visit_connected<L: Labels>(
+        &mut self,
+        lane: usize,
+        wanted: Wanted,
+        labels: &L,
+    ) -> Visits {
+        self.incoming.visit_all(lane, wanted, labels)
+    }
+
+    /// The pipe of that rank, from a connected sender.
+    #[inline(always)]
+    pub fn pipe_at(&self, rank: usize) -> &Pipe {
+        self.incoming.at(rank)
+    }
+
+    /// The same, to be changed.
+    #[inline(always)]
+    pub fn pipe_at_mut(&mut self, rank: usize) -> &mut Pipe {
+        self.incoming.at_mut(rank)
+    }
+
+    /// Whether its own value is there.
+    #[inline(always)]
+    pub fn is_held(&self) -> bool {
+        self.info.held
+    }
+
     /// Where pipes from it are likely among those that lead to others.
     #[inline(always)]
     pub fn rank(&self) -> usize {

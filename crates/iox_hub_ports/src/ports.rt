@@ -177,6 +177,27 @@ impl Ports {
         self.ports[place].count_loan();
     }
 
+    /// The port in that place, where one is.
+    #[inline(always)]
+    pub fn port(&self, place: usize) -> &Port {
+        &self.ports[place]
+    }
+
+    /// The same, to be changed.
+    #[inline(always)]
+    pub fn port_mut(&mut self, place: usize) -> &mut Port {
+        &mut self.ports[place]
+    }
+
+    /// The place of the only server, if there is one.
+    #[inline(always)]
+    pub fn only_server(&self) -> Option<usize> {
+        if self.servers.len() == 1 {
+            return Some(self.servers[0]);
+        }
+        None
+    }
+
     /// How many servers there are.
     #[inline(always)]
     pub fn servers_len(&self) -> usize {

@@ -110,6 +110,24 @@ impl Incoming {
         self.rank(sender)
     }
 
+    /// Whether the pipe of that rank is from this sender.
+    #[inline(always)]
+    pub fn is_from(&self, rank: usize, sender: u64) -> bool {
+        rank < self.pipes.len() && self.pipes[rank].sender() == sender
+    }
+
+    /// The pipe of that rank.
+    #[inline(always)]
+    pub fn at(&self, rank: usize) -> &Pipe {
+        &self.pipes[rank]
+    }
+
+    /// The same, to be changed.
+    #[inline(always)]
+    pub fn at_mut(&mut self, rank: usize) -> &mut Pipe {
+        &mut self.pipes[rank]
+    }
+
     /// Takes a step on the pipe from this sender, which is looked for at the hint first.
     #[inline(always)]
     pub fn on_pipe_at<S: PipeStep>(&mut self, sender: u64, hint: usize, step: &S) -> S::Answer {

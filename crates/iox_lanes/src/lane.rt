@@ -121,6 +121,19 @@ impl Lane {
         self.taken.push_reserved(place);
     }
 
+    /// Whether its receiver took that last, of all that it has.
+    #[inline(always)]
+    pub(crate) fn has_last(&self, place: u64) -> bool {
+        let had = self.taken.len();
+        had > 0 && self.taken[had - 1] == place
+    }
+
+    /// Takes what its receiver took last from it.
+    #[inline(always)]
+    pub(crate) fn let_go_last(&mut self) {
+        self.taken.pop();
+    }
+
     /// Takes a message from its receiver, and says whether it had it.
     #[inline(always)]
     pub(crate) fn let_go(&mut self, place: u64) -> bool {

@@ -215,6 +215,31 @@ impl Pipe {
         self.given.pop_of(lane)
     }
 
+    /// Whether the lane is there, and this is what its receiver took last.
+    #[inline(always)]
+    pub fn has_last(&self, lane: usize, place: u64) -> bool {
+        lane < self.lanes.len() && self.lanes[lane].has_last(place)
+    }
+
+    /// Gives what the receiver took last of that lane back.
+    #[inline(always)]
+    pub fn give_back_last(&mut self, lane: usize, place: u64) {
+        self.lanes[lane].let_go_last();
+        self.given.push(Given { lane, place });
+    }
+
+    /// Whether the lane is there, and fewer wait than may.
+    #[inline(always)]
+    pub fn has_room(&self, lane: usize) -> bool {
+        lane < self.lanes.len() && !self.lanes[lane].is_full()
+    }
+
+    /// Puts a message last in line on a lane that has room, and of which nothing is left to get back.
+    #[inline(always)]
+    pub fn push_on(&mut self, lane: usize, place: u64) {
+        self.lanes[lane].push(place);
+    }
+
     /// The lowest lane on which something that was given back is left to get back, if there is one.
     #[inline]
     pub fn lane_to_get(&mut self) -> Option<usize>

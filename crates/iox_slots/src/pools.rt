@@ -306,6 +306,27 @@ impl Pools {
         self.pools[place].take(serial, lane, request, elements)
     }
 
+    /// The same, where nobody has any slot of it, and it has some.
+    #[inline(always)]
+    pub fn take_idle(
+        &mut self,
+        place: usize,
+        serial: u64,
+        lane: u64,
+        request: u64,
+        elements: u64,
+    ) -> Option<u64> {
+        let pool = &mut self.pools[place];
+        let count = pool.free.len();
+        if count == 0 || count != pool.slots.len() {
+            return None;
+        }
+        let slot = pool.free[count - 1];
+        pool.free.pop();
+        pool.slots[slot as usize] = Slot::taken(serial, lane, request, elements);
+        Some(slot)
+    }
+
     /// The same, where nobody has any slot of it.
     #[inline(always)]
     pub fn take_first_of(
