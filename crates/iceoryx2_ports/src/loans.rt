@@ -68,7 +68,10 @@ pub(crate) fn lend_request<Q: Payload, QH: Words, P: Payload, PH: Words, H: Back
     hub.is_in_order();
     match hub.lend_request_near(client, at, elements, uninit) {
         Some(loan) => Ok((loan.number, loan.place)),
-        None => lend_request_far(hub, node, client, at, elements, uninit),
+        None => match lend_request_far(hub, node, client, at, elements, uninit) {
+            Ok(number) => Ok((number, hub.place_of_handle(number))),
+            Err(error) => Err(error),
+        },
     }
 }
 
@@ -81,12 +84,12 @@ fn lend_request_far<Q: Payload, QH: Words, P: Payload, PH: Words, H: Backpressur
     at: usize,
     elements: usize,
     uninit: bool,
-) -> Result<(u64, usize), LoanError> {
+) -> Result<u64, LoanError> {
     hub.is_in_order();
     match iox_hub_laws::lend_request(hub, node, client, at, elements, uninit) {
         Lent::Handle(loan) => {
             hub.is_in_order();
-            Ok((loan.number, loan.place))
+            Ok(loan.number)
         }
         Lent::Refused(LoanRefusal::CallsSpent) => Err(LoanError::CallsSpent),
         Lent::Refused(LoanRefusal::WrongLength) => Err(LoanError::WrongLength),
@@ -133,7 +136,10 @@ pub(crate) fn lend_response<Q: Payload, QH: Words, P: Payload, PH: Words, H: Bac
     hub.is_in_order();
     match hub.lend_response_near(number, hint, elements, uninit) {
         Some(loan) => Ok((loan.number, loan.place)),
-        None => lend_response_far(hub, node, number, hint, elements, uninit),
+        None => match lend_response_far(hub, node, number, hint, elements, uninit) {
+            Ok(number) => Ok((number, hub.place_of_handle(number))),
+            Err(error) => Err(error),
+        },
     }
 }
 
@@ -146,10 +152,10 @@ fn lend_response_far<Q: Payload, QH: Words, P: Payload, PH: Words, H: Backpressu
     hint: usize,
     elements: usize,
     uninit: bool,
-) -> Result<(u64, usize), LoanError> {
+) -> Result<u64, LoanError> {
     hub.is_in_order();
     match iox_hub_laws::lend_response(hub, node, number, hint, elements, uninit) {
-        Lent::Handle(loan) => Ok((loan.number, loan.place)),
+        Lent::Handle(loan) => Ok(loan.number),
         Lent::Refused(LoanRefusal::CallsSpent) => Err(LoanError::CallsSpent),
         Lent::Refused(LoanRefusal::WrongLength) => Err(LoanError::WrongLength),
         Lent::Refused(LoanRefusal::ExceedsMaxLoanSize) => Err(LoanError::ExceedsMaxLoanSize),

@@ -30,7 +30,7 @@ use crate::errors::ReceiveError;
 use crate::headers::request_header;
 use crate::releases::release_handle;
 use crate::response::Response;
-use iox_hub_laws::{Backpressure, Hub, Received, receive_response};
+use iox_hub_laws::{Got, Backpressure, Hub, Received, receive_response};
 use iox_model::kind::Kind;
 use iox_store::Payload;
 use iox_types::RequestHeader;
@@ -111,22 +111,17 @@ impl<Q: Payload, QH: Words, P: Payload, PH: Words> PendingResponse<Q, QH, P, PH>
         ensures requests { KeepsRequests hub.old hub.new }
     {
         hub.is_in_order();
-        if let Some(added) = hub.receive_response_near(self.node, self.number, self.hint) {
-            return Ok(Some(Response::new(self.node, added.number, added.place)));
-        }
-        self.receive_far(hub)
-    }
-
-    /// The same, on any way.
-    #[inline(never)]
-    fn receive_far<H: Backpressure>(
-        &self,
-        hub: &mut Hub<Q, QH, P, PH, H>,
-    ) -> Result<Option<Response<Q, QH, P, PH>>, ReceiveError> {
-        match receive_response(hub, self.node, self.number, self.hint) {
-            Received::Handle(number, place) => Ok(Some(Response::new(self.node, number, place))),
-            Received::Nothing => Ok(None),
-            Received::AtLimit => Err(ReceiveError::ExceedsMaxBorrows),
+        match hub.receive_response_near(self.node, self.number, self.hint) {
+            Got::Handle(number, place) => Ok(Some(Response::new(self.node, number, place))),
+            Got::Nothing => Ok(None),
+            Got::Far => match receive_far(hub, self.node, self.number, self.hint) {
+                Far::Handle(number) => {
+                    let place = hub.place_of_handle(number);
+                    Ok(Some(Response::new(self.node, number, place)))
+                }
+                Far::Nothing => Ok(None),
+                Far::AtLimit => Err(ReceiveError::ExceedsMaxBorrows),
+            },
         }
     }
 
@@ -233,5 +228,28 @@ impl<Q: Payload, QH: Words, P: Payload, PH: Words> PendingResponse<Q, QH, P, PH>
             of: _,
         } = self;
         release_handle(hub, node, number, Kind::PendingResponse, hint);
+    }
+}
+
+/// What a receive on any way came to.
+#[derive(Clone, Copy)]
+enum Far {
+    Handle(u64),
+    Nothing,
+    AtLimit,
+}
+
+/// Receives on any way.
+#[inline(never)]
+fn receive_far<Q: Payload, QH: Words, P: Payload, PH: Words, H: Backpressure>(
+    hub: &mut Hub<Q, QH, P, PH, H>,
+    node: u64,
+    number: u64,
+    hint: usize,
+) -> Far {
+    match receive_response(hub, node, number, hint) {
+        Received::Handle(number, _) => Far::Handle(number),
+        Received::Nothing => Far::Nothing,
+        Received::AtLimit => Far::AtLimit,
     }
 }

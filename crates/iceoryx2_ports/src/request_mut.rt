@@ -198,13 +198,14 @@ impl<E: Words, QH: Words, P: Payload, PH: Words> RequestMutUninit<One<E>, QH, P,
             of,
         } = self;
         request_has_one(hub, node, number);
-        hub.write_one_request(node, number, hint, value);
-        RequestMut {
+        let filled = RequestMut {
             node,
             number,
             hint,
             of,
-        }
+        };
+        hub.write_one_request(node, number, hint, value);
+        filled
     }
 }
 
@@ -305,9 +306,16 @@ impl<Q: Payload, QH: Words, P: Payload, PH: Words> RequestMut<Q, QH, P, PH> {
             of: _,
         } = self;
         hub.is_in_order();
-        match hub.send_request_near(number, hint) {
-            Some(servers) => Ok(PendingResponse::new(node, number, servers, hint)),
+        let requested = match hub.send_request_near(number, hint) {
+            Some(servers) => Requested::To(servers),
             None => send_far(hub, node, number, hint),
+        };
+        match requested {
+            Requested::To(servers) => Ok(PendingResponse::new(node, number, servers, hint)),
+            Requested::ExceedsMaxActiveRequests => Err(RequestSendError::ExceedsMaxActiveRequests),
+            Requested::UnableToDeliver => {
+                Err(RequestSendError::SendError(SendError::UnableToDeliver))
+            }
         }
     }
 
@@ -340,12 +348,6 @@ fn send_far<Q: Payload, QH: Words, P: Payload, PH: Words, H: Backpressure>(
     node: u64,
     number: u64,
     hint: usize,
-) -> Result<PendingResponse<Q, QH, P, PH>, RequestSendError> {
-    match send_request(hub, node, number, hint) {
-        Requested::To(servers) => Ok(PendingResponse::new(node, number, servers, hint)),
-        Requested::ExceedsMaxActiveRequests => Err(RequestSendError::ExceedsMaxActiveRequests),
-        Requested::UnableToDeliver => {
-            Err(RequestSendError::SendError(SendError::UnableToDeliver))
-        }
-    }
+) -> Requested {
+    send_request(hub, node, number, hint)
 }

@@ -198,13 +198,14 @@ impl<Q: Payload, QH: Words, E: Words, PH: Words> ResponseMutUninit<Q, QH, One<E>
             of,
         } = self;
         response_has_one(hub, node, number);
-        hub.write_one_response(node, number, hint, value);
-        ResponseMut {
+        let filled = ResponseMut {
             node,
             number,
             hint,
             of,
-        }
+        };
+        hub.write_one_response(node, number, hint, value);
+        filled
     }
 }
 

@@ -29,7 +29,7 @@ ghost use Rattle.iceoryx2_ports.specs.declared.errors.ReceiveError.TheVariants.{
 use crate::active_request::ActiveRequest;
 use crate::errors::{ConnectionFailure, ReceiveError};
 use crate::releases::release_port;
-use iox_hub_laws::{Backpressure, Hub, Received, receive_request};
+use iox_hub_laws::{Got, Backpressure, Hub, Received, receive_request};
 use iox_model::kind::Kind;
 use iox_store::Payload;
 use iox_types::BackpressureStrategy;
@@ -99,22 +99,17 @@ impl<Q: Payload, QH: Words, P: Payload, PH: Words> Server<Q, QH, P, PH> {
         ensures requests { KeepsRequests hub.old hub.new }
     {
         hub.is_in_order();
-        if let Some(added) = hub.receive_request_near(self.node, self.number, self.place) {
-            return Ok(Some(ActiveRequest::new(self.node, added.number, added.place)));
-        }
-        self.receive_far(hub)
-    }
-
-    /// The same, on any way.
-    #[inline(never)]
-    fn receive_far<H: Backpressure>(
-        &self,
-        hub: &mut Hub<Q, QH, P, PH, H>,
-    ) -> Result<Option<ActiveRequest<Q, QH, P, PH>>, ReceiveError> {
-        match receive_request(hub, self.node, self.number, self.place) {
-            Received::Handle(number, place) => Ok(Some(ActiveRequest::new(self.node, number, place))),
-            Received::Nothing => Ok(None),
-            Received::AtLimit => Err(ReceiveError::ExceedsMaxBorrows),
+        match hub.receive_request_near(self.node, self.number, self.place) {
+            Got::Handle(number, place) => Ok(Some(ActiveRequest::new(self.node, number, place))),
+            Got::Nothing => Ok(None),
+            Got::Far => match receive_far(hub, self.node, self.number, self.place) {
+                Far::Handle(number) => {
+                    let place = hub.place_of_handle(number);
+                    Ok(Some(ActiveRequest::new(self.node, number, place)))
+                }
+                Far::Nothing => Ok(None),
+                Far::AtLimit => Err(ReceiveError::ExceedsMaxBorrows),
+            },
         }
     }
 
@@ -196,5 +191,28 @@ impl<Q: Payload, QH: Words, P: Payload, PH: Words> Server<Q, QH, P, PH> {
             of: _,
         } = self;
         release_port(hub, node, number, Kind::Server);
+    }
+}
+
+/// What a receive on any way came to.
+#[derive(Clone, Copy)]
+enum Far {
+    Handle(u64),
+    Nothing,
+    AtLimit,
+}
+
+/// Receives on any way.
+#[inline(never)]
+fn receive_far<Q: Payload, QH: Words, P: Payload, PH: Words, H: Backpressure>(
+    hub: &mut Hub<Q, QH, P, PH, H>,
+    node: u64,
+    number: u64,
+    hint: usize,
+) -> Far {
+    match receive_request(hub, node, number, hint) {
+        Received::Handle(number, _) => Far::Handle(number),
+        Received::Nothing => Far::Nothing,
+        Received::AtLimit => Far::AtLimit,
     }
 }

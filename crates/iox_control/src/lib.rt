@@ -18,4 +18,4 @@ pub mod uses;
 pub use control::Control;
 pub use received::Received;
 pub use settings::Settings;
-pub use usual::{Added, LoanNear, Near};
+pub use usual::{Got, LoanNear, Near};

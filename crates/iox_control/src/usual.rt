@@ -3,17 +3,19 @@
 
 use crate::control::Control;
 use iox_handles::Entry;
-use iox_hub_ports::info::PortInfo;
-use iox_lanes::incoming::Visits;
-use iox_lanes::wanted::{Label, Wanted};
+use iox_lanes::wanted::Label;
 use iox_model::kind::{Kind, Role};
 use iox_model::way::RequestState;
 
-/// A handle that was added: its number, and its place.
+/// What a receive on its usual way came to.
 #[derive(Clone, Copy, Drop)]
-pub struct Added {
-    pub number: u64,
-    pub place: usize,
+pub enum Got {
+    /// A message was taken: the number of its handle, and its place.
+    Handle(u64, usize),
+    /// Nothing waits.
+    Nothing,
+    /// It is another way.
+    Far,
 }
 
 /// A loan that was made.
@@ -37,7 +39,7 @@ fn names(state: RequestState, request: u64) -> bool {
 impl Control {
     // ---- receives
 
-    /// The message in that slot is handed to the port in that place.
+    /// The oldest message of the lane of the pipe of that rank is handed to the port in that place.
     #[inline(always)]
     fn got_near(
         &mut self,
@@ -46,64 +48,64 @@ impl Control {
         port: u64,
         at: usize,
         rank: usize,
-        pool: usize,
-        slot: u64,
-    ) -> Added {
+        lane: usize,
+    ) -> Got {
+        let pipe = self.ports.port_mut(at).pipe_at_mut(rank);
+        let (pool, slot) = (pipe.pool_of(lane), pipe.oldest(lane));
+        pipe.take_oldest(lane);
         let entry = self.got_entry(node, role, port, at, rank, pool, slot);
         self.pools.hold(pool, slot);
         let place = self.handles.add_vacant(entry);
         self.calls += 1;
-        Added {
-            number: entry.number,
-            place,
-        }
+        Got::Handle(entry.number, place)
     }
 
     /// The server, which is looked for at the hint, receives a request.
     #[inline(always)]
-    pub fn receive_request_near(&mut self, node: u64, server: u64, at: usize) -> Option<Added> {
-        if !self.ports.is_near(server, at)
+    pub fn receive_request_near(&mut self, node: u64, server: u64, at: usize) -> Got {
+        if !self.settings.fire_and_forget
+            || !self.ports.is_near(server, at)
             || !self.ports.port(at).keeps_none()
             || !self.handles.has_vacant()
         {
-            return None;
+            return Got::Far;
         }
-        let wanted = self.wanted_by_server();
-        let visits = self
-            .ports
-            .port_mut(at)
-            .visit_connected(0, wanted, &self.pools);
-        match visits {
-            Visits::Got(_, pool, slot, rank) => {
-                Some(self.got_near(node, Role::Server, server, at, rank, pool, slot))
-            }
-            _ => None,
+        let Some(rank) = self.ports.port(at).first_waiting(0) else {
+            self.calls += 1;
+            return Got::Nothing;
+        };
+        if self.ports.port(at).pipe_at(rank).is_at_limit(0) {
+            return Got::Far;
         }
+        self.got_near(node, Role::Server, server, at, rank, 0)
     }
 
     /// The pending response, which is looked for at the hint, receives a response.
     #[inline(always)]
-    pub fn receive_response_near(&mut self, node: u64, number: u64, hint: usize) -> Option<Added> {
-        let entry = self.handles.near(number, hint)?;
+    pub fn receive_response_near(&mut self, node: u64, number: u64, hint: usize) -> Got {
+        let Some(entry) = self.handles.near(number, hint) else {
+            return Got::Far;
+        };
         let at = entry.at as usize;
         if !self.ports.is_near(entry.port, at)
             || !self.ports.port(at).keeps_none()
             || !self.handles.has_vacant()
         {
-            return None;
+            return Got::Far;
         }
         let label = self.pools.label_of(entry.pool, entry.slot);
-        let visits = self.ports.port_mut(at).visit_connected(
-            label.lane as usize,
-            Wanted::Of(label.request),
-            &self.pools,
-        );
-        match visits {
-            Visits::Got(_, pool, slot, rank) => {
-                Some(self.got_near(node, Role::Client, entry.port, at, rank, pool, slot))
-            }
-            _ => None,
+        let lane = label.lane as usize;
+        let Some(rank) = self.ports.port(at).first_waiting(lane) else {
+            self.calls += 1;
+            return Got::Nothing;
+        };
+        let pipe = self.ports.port(at).pipe_at(rank);
+        if pipe.is_at_limit(lane)
+            || self.pools.label_of(pipe.pool_of(lane), pipe.oldest(lane)).request != label.request
+        {
+            return Got::Far;
         }
+        self.got_near(node, Role::Client, entry.port, at, rank, lane)
     }
 
     // ---- releases
@@ -308,7 +310,7 @@ impl Control {
     pub fn lend_request_near(
         &mut self,
         at: usize,
-        port: PortInfo,
+        client: u64,
         elements: u64,
         uninit: bool,
     ) -> Option<LoanNear> {
@@ -316,12 +318,13 @@ impl Control {
         let rank = self.ports.rank(at);
         let most = self.settings.loaned_requests;
         if self.calls >= 1 << 56
-            || self.handles.at_most(port.number, Kind::RequestMut) >= most
+            || self.handles.at_most(client, Kind::RequestMut) >= most
             || !self.handles.has_vacant()
-            || !self.get_back_near(server, rank, port.number, port.pool)
+            || !self.get_back_near(server, rank, client, self.ports.port(at).pool())
         {
             return None;
         }
+        let port = self.ports.info_of(at);
         let request = port.loans % (1 << 62);
         let slot = self
             .pools
@@ -346,27 +349,29 @@ impl Control {
     #[inline(always)]
     pub fn lend_response_near(
         &mut self,
-        active: Entry,
+        hint: usize,
         at: usize,
-        port: PortInfo,
         elements: u64,
         uninit: bool,
     ) -> Option<LoanNear> {
+        let server = self.ports.port(at).number();
         if self.calls >= 1 << 56
-            || self.handles.at_most(port.number, Kind::ResponseMut) as u64 >= port.loaned_responses
-            || self.settings.active_requests == 0
-            || self.settings.clients == 0
+            || self.handles.at_most(server, Kind::ResponseMut) as u64
+                >= self.ports.port(at).loaned_responses()
             || !self.handles.has_vacant()
         {
             return None;
         }
         let rank = self.ports.rank(at);
+        let pool = self.ports.port(at).pool();
         for other in 0..self.ports.others_len(Role::Server) {
             let place = self.ports.other(Role::Server, other);
-            if !self.get_back_near(place, rank, port.number, port.pool) {
+            if !self.get_back_near(place, rank, server, pool) {
                 return None;
             }
         }
+        let port = self.ports.info_of(at);
+        let active = self.handles.at(hint);
         let Label { lane, request } = self.pools.label_of(active.pool, active.slot);
         let slot = self
             .pools

@@ -104,6 +104,17 @@ impl Table {
         self.most - self.places.len() + self.free.len()
     }
 
+    /// Where the handle of that number is looked for first.
+    pub fn place(&self, number: u64) -> usize {
+        self.place_of(number, usize::MAX).unwrap_or(usize::MAX)
+    }
+
+    /// The handle in that place, where one is.
+    #[inline(always)]
+    pub fn at(&self, place: usize) -> Entry {
+        self.places[place]
+    }
+
     /// The number of the next handle.
     #[inline(always)]
     pub fn next_number(&self) -> u64 {

@@ -361,8 +361,7 @@ impl<Q: Payload, QH: Words, P: Payload, PH: Words, H: Backpressure> Hub<Q, QH, P
         if !self.control.ports().is_near(client, at) || !uninit {
             return None;
         }
-        let port = self.control.ports().info_of(at);
-        if elements as u64 > port.longest
+        if elements as u64 > self.control.ports().port(at).longest()
             || elements as u64 > self.most_of_request
             || !is_length::<Q>(elements)
         {
@@ -370,7 +369,7 @@ impl<Q: Payload, QH: Words, P: Payload, PH: Words, H: Backpressure> Hub<Q, QH, P
         }
         let loan = self
             .control
-            .lend_request_near(at, port, elements as u64, uninit)?;
+            .lend_request_near(at, client, elements as u64, uninit)?;
         let store = self.words.requests_mut(loan.pool);
         store.lend_own(loan.slot as usize, elements, self.request.user_header);
         Some(loan)
@@ -390,8 +389,7 @@ impl<Q: Payload, QH: Words, P: Payload, PH: Words, H: Backpressure> Hub<Q, QH, P
         if !self.control.ports().is_near(active.port, at) || !uninit {
             return None;
         }
-        let port = self.control.ports().info_of(at);
-        if elements as u64 > port.longest
+        if elements as u64 > self.control.ports().port(at).longest()
             || elements as u64 > self.most_of_response
             || !is_length::<P>(elements)
         {
@@ -399,7 +397,7 @@ impl<Q: Payload, QH: Words, P: Payload, PH: Words, H: Backpressure> Hub<Q, QH, P
         }
         let loan = self
             .control
-            .lend_response_near(active, at, port, elements as u64, uninit)?;
+            .lend_response_near(hint, at, elements as u64, uninit)?;
         let store = self.words.responses_mut(loan.pool);
         store.lend_own(loan.slot as usize, elements, self.response.user_header);
         Some(loan)

@@ -50,7 +50,7 @@ pub use hub::Hub;
 pub use iox_backpressure::{
     Always, Backpressure, BackpressureAction, BackpressureInfo, words_tell_answers,
 };
-pub use iox_control::{Received, Settings};
+pub use iox_control::{Got, Received, Settings};
 pub use iox_control_making::NotMade;
 pub use iox_control_questions::{Asked, NotBegun};
 pub use iox_control_request_copies::{

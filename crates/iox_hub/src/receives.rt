@@ -10,7 +10,7 @@ ghost use Rattle.iox_hub.specs.Keeping.{IsNew, KeepsAll};
 
 use crate::hub::Hub;
 use iox_backpressure::Backpressure;
-use iox_control::{Added, Received};
+use iox_control::{Got, Received};
 use iox_store::Payload;
 use iox_words::Words;
 
@@ -49,15 +49,15 @@ impl<Q: Payload, QH: Words, P: Payload, PH: Words, H: Backpressure> Hub<Q, QH, P
         self.control.receive_response(node, number, hint)
     }
 
-    /// Receives a request on the usual way, or answers `None`.
+    /// Receives a request on the usual way, or tells that it is another.
     #[inline(always)]
-    pub fn receive_request_near(&mut self, node: u64, server: u64, at: usize) -> Option<Added> {
+    pub fn receive_request_near(&mut self, node: u64, server: u64, at: usize) -> Got {
         self.control.receive_request_near(node, server, at)
     }
 
-    /// Receives a response on the usual way, or answers `None`.
+    /// Receives a response on the usual way, or tells that it is another.
     #[inline(always)]
-    pub fn receive_response_near(&mut self, node: u64, number: u64, hint: usize) -> Option<Added> {
+    pub fn receive_response_near(&mut self, node: u64, number: u64, hint: usize) -> Got {
         self.control.receive_response_near(node, number, hint)
     }
 }

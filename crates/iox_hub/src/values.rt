@@ -104,4 +104,10 @@ impl<Q: Payload, QH: Words, P: Payload, PH: Words, H: Backpressure> Hub<Q, QH, P
             None => false,
         }
     }
+
+    /// Where the node's handle of that number, which it has, is looked for first.
+    #[inline(never)]
+    pub fn place_of_handle(&self, number: u64) -> usize {
+        self.control.handles().place(number)
+    }
 }

@@ -18,7 +18,7 @@ pub use histories::{
 pub use iox_hub::{
     Always, Answered, Backpressure, BackpressureAction, BackpressureInfo, Copied, Hub, Lent,
     LoanRefusal, MessageHeader, MessageShape, NotMade, Options, Part, PreallocatedRequestsOverride,
-    PreallocatedResponseOverride, Received, Requested, Responded, Settings, Written,
+    Got, PreallocatedResponseOverride, Received, Requested, Responded, Settings, Written,
     default_settings, words_tell_answers,
 };
 pub use limits::{

@@ -112,6 +112,12 @@ impl Port {
         self.expired.len() == 0
     }
 
+    /// The rank of the first connected sender from which something waits on that lane.
+    #[inline(always)]
+    pub fn first_waiting(&self, lane: usize) -> Option<usize> {
+        self.incoming.first_waiting(lane)
+    }
+
     /// Visits the lane of that number of each connected sender until one gives a message.
     #[inline(always)]
     pub fn visit_connected<L: Labels>(
@@ -133,6 +139,24 @@ impl Port {
     #[inline(always)]
     pub fn pipe_at_mut(&mut self, rank: usize) -> &mut Pipe {
         self.incoming.at_mut(rank)
+    }
+
+    /// The place of its pool.
+    #[inline(always)]
+    pub fn pool(&self) -> usize {
+        self.info.pool
+    }
+
+    /// How many loans to one request it may have.
+    #[inline(always)]
+    pub fn loaned_responses(&self) -> u64 {
+        self.info.loaned_responses
+    }
+
+    /// The greatest length of its messages.
+    #[inline(always)]
+    pub fn longest(&self) -> u64 {
+        self.info.longest
     }
 
     /// Whether its own value is there.

@@ -110,6 +110,17 @@ impl Incoming {
         self.rank(sender)
     }
 
+    /// The rank of the first pipe on which something waits on that lane.
+    #[inline(always)]
+    pub fn first_waiting(&self, lane: usize) -> Option<usize> {
+        for rank in 0..self.pipes.len() {
+            if self.pipes[rank].waits_on(lane) {
+                return Some(rank);
+            }
+        }
+        None
+    }
+
     /// Whether the pipe of that rank is from this sender.
     #[inline(always)]
     pub fn is_from(&self, rank: usize, sender: u64) -> bool {

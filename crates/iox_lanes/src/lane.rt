@@ -115,6 +115,21 @@ impl Lane {
         Some(oldest)
     }
 
+    /// The oldest that waits, where one does.
+    #[inline(always)]
+    pub(crate) fn oldest(&self) -> u64 {
+        self.cells[self.first]
+    }
+
+    /// The receiver takes the oldest, where one waits, and it may have one more.
+    #[inline(always)]
+    pub(crate) fn take_oldest(&mut self) {
+        let oldest = self.cells[self.first];
+        self.step();
+        self.count -= 1;
+        self.taken.push_reserved(oldest);
+    }
+
     /// Counts a message that its receiver has.
     #[inline(always)]
     pub(crate) fn hold(&mut self, place: u64) {

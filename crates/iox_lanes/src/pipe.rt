@@ -240,6 +240,37 @@ impl Pipe {
         self.lanes[lane].push(place);
     }
 
+    /// Whether something waits on that lane.
+    #[inline(always)]
+    pub fn waits_on(&self, lane: usize) -> bool {
+        lane < self.lanes.len() && !self.lanes[lane].is_empty()
+    }
+
+    /// Whether the receiver has as many messages of a lane that is there as it may.
+    #[inline(always)]
+    pub fn is_at_limit(&self, lane: usize) -> bool {
+        self.lanes[lane].is_at_limit()
+    }
+
+    /// The pool of the places of a lane that is there.
+    #[inline(always)]
+    pub fn pool_of(&self, lane: usize) -> usize {
+        self.lanes[lane].pool()
+    }
+
+    /// The oldest that waits on a lane where something does.
+    #[inline(always)]
+    pub fn oldest(&self, lane: usize) -> u64 {
+        self.lanes[lane].oldest()
+    }
+
+    /// The receiver takes the oldest of a lane where something waits, and of which it may have one
+    /// more.
+    #[inline(always)]
+    pub fn take_oldest(&mut self, lane: usize) {
+        self.lanes[lane].take_oldest();
+    }
+
     /// The lowest lane on which something that was given back is left to get back, if there is one.
     #[inline]
     pub fn lane_to_get(&mut self) -> Option<usize>
