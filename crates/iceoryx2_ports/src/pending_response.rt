@@ -114,7 +114,7 @@ impl<Q: Payload, QH: Words, P: Payload, PH: Words> PendingResponse<Q, QH, P, PH>
         match hub.receive_response_near(self.node, self.number, self.hint) {
             Got::Handle(number, place) => Ok(Some(Response::new(self.node, number, place))),
             Got::Nothing => Ok(None),
-            Got::Far => match receive_far(hub, self.node, self.number, self.hint) {
+            Got::Far => match self.receive_far(hub) {
                 Far::Handle(number) => {
                     let place = hub.place_of_handle(number);
                     Ok(Some(Response::new(self.node, number, place)))
@@ -239,17 +239,14 @@ enum Far {
     AtLimit,
 }
 
-/// Receives on any way.
-#[inline(never)]
-fn receive_far<Q: Payload, QH: Words, P: Payload, PH: Words, H: Backpressure>(
-    hub: &mut Hub<Q, QH, P, PH, H>,
-    node: u64,
-    number: u64,
-    hint: usize,
-) -> Far {
-    match receive_response(hub, node, number, hint) {
-        Received::Handle(number, _) => Far::Handle(number),
-        Received::Nothing => Far::Nothing,
-        Received::AtLimit => Far::AtLimit,
+impl<Q: Payload, QH: Words, P: Payload, PH: Words> PendingResponse<Q, QH, P, PH> {
+    /// Receives on any way.
+    #[inline(never)]
+    fn receive_far<H: Backpressure>(&self, hub: &mut Hub<Q, QH, P, PH, H>) -> Far {
+        match receive_response(hub, self.node, self.number, self.hint) {
+            Received::Handle(number, _) => Far::Handle(number),
+            Received::Nothing => Far::Nothing,
+            Received::AtLimit => Far::AtLimit,
+        }
     }
 }

@@ -51,7 +51,7 @@ impl Control {
         lane: usize,
     ) -> Got {
         let pipe = self.ports.port_mut(at).pipe_at_mut(rank);
-        let (pool, slot) = (pipe.pool_of(lane), pipe.oldest(lane));
+        let (pool, slot) = (pipe.own_pool(), pipe.oldest(lane));
         pipe.take_oldest(lane);
         let entry = self.got_entry(node, role, port, at, rank, pool, slot);
         self.pools.hold(pool, slot);
@@ -101,7 +101,7 @@ impl Control {
         };
         let pipe = self.ports.port(at).pipe_at(rank);
         if pipe.is_at_limit(lane)
-            || self.pools.label_of(pipe.pool_of(lane), pipe.oldest(lane)).request != label.request
+            || self.pools.label_of(pipe.own_pool(), pipe.oldest(lane)).request != label.request
         {
             return Got::Far;
         }

@@ -12,13 +12,12 @@ use iox_lanes::lane::Lane;
 use iox_lanes::pipe::Pipe;
 
 /// Lets go of all messages on the lane.
-fn let_lane_go(control: &mut Control, lane: Lane)
+fn let_lane_go(control: &mut Control, pool: usize, lane: Lane)
     ensures left { control.new ≡ with_pools control.old control.new.tables.pools }
     ensures fewer { LetsGo control.old.tables.pools control.new.tables.pools
         (λ pool k. lane_count pool k lane) }
 {
     let mut lane = lane;
-    let pool = lane.pool();
     while let Some(slot) = lane.take_off() {
         control.let_go(pool, slot);
     }
@@ -36,7 +35,7 @@ pub fn let_pipe_go(control: &mut Control, pipe: Pipe)
         control.let_go(pool, next.place);
     }
     while let Some(lane) = pipe.take_lane() {
-        let_lane_go(control, lane);
+        let_lane_go(control, pipe.own_pool(), lane);
     }
 }
 

@@ -31,6 +31,8 @@ pub struct Port {
     info: PortInfo,
     // Which of the pipes that lead to others of those of its role are from it, likely.
     rank: usize,
+    // How many senders are connected, where none is kept that is gone; else none.
+    usual: usize,
     expired: Expired,
     incoming: Incoming,
 }
@@ -63,9 +65,23 @@ impl Port {
         Port {
             info,
             rank: 0,
+            usual: 0,
             expired,
             incoming,
         }
+        .counted()
+    }
+
+    /// The same, once its usual senders are counted.
+    fn counted(self) -> Port {
+        let mut port = self;
+        port.count();
+        port
+    }
+
+    /// Counts its usual senders.
+    fn count(&mut self) {
+        self.usual = if self.expired.len() == 0 { self.incoming.len() } else { 0 };
     }
 
     /// What is said of it beside what comes to it.
@@ -103,7 +119,7 @@ impl Port {
     /// connected sender.
     #[inline(always)]
     pub fn is_from(&self, rank: usize, sender: u64) -> bool {
-        self.expired.len() == 0 && self.incoming.is_from(rank, sender)
+        rank < self.usual && self.incoming.at(rank).sender() == sender
     }
 
     /// Whether no pipe leads to it from a port that is gone.
@@ -397,7 +413,9 @@ impl Port {
         ensures room { result ≡ has_room_for self.old.incoming }
         ensures connected { self.new ≡ with_connected self.old pipe }
     {
-        self.incoming.connect(pipe)
+        let connected = self.incoming.connect(pipe);
+        self.count();
+        connected
     }
 
     /// Takes the pipe from this connected sender out, if there is one.
@@ -405,10 +423,12 @@ impl Port {
         ensures pipe { result ≡ pipe_from self.old.incoming.pipes sender }
         ensures disconnected { self.new ≡ without_pipe_from self.old sender }
     {
-        match self.incoming.rank(sender) {
+        let pipe = match self.incoming.rank(sender) {
             Some(rank) => self.incoming.disconnect(rank),
             None => None,
-        }
+        };
+        self.count();
+        pipe
     }
 
     /// This connected sender is gone: the pipe from it is kept, as the last of those from ports
@@ -422,7 +442,9 @@ impl Port {
             None => None,
             Some(pipe) => {
                 if pipe.has_waiting_on_any() {
-                    return self.expired.keep(pipe);
+                    let gone = self.expired.keep(pipe);
+                    self.count();
+                    return gone;
                 }
                 Some(pipe)
             }

@@ -8,13 +8,11 @@ use std::alloc::{AllocError, Global};
 /// It takes memory when it is made, and never again.
 #[derive(Drop)]
 pub struct Lane {
-    pool: usize,
     // What waits, in a ring of cells: the oldest is in the first.
     cells: Vec<u64>,
     first: usize,
     count: usize,
     taken: Vec<u64>,
-    limit: usize,
 }
 
 fn rank_of(places: &[u64], place: u64) -> Option<usize> {
@@ -23,21 +21,13 @@ fn rank_of(places: &[u64], place: u64) -> Option<usize> {
 
 impl Lane {
     /// Makes a lane on which nothing waits. It fails only for want of memory.
-    pub fn new(alloc: Global, pool: usize, buffer: usize, limit: usize) -> Result<Lane, AllocError> {
+    pub fn new(alloc: Global, buffer: usize, limit: usize) -> Result<Lane, AllocError> {
         Ok(Lane {
-            pool,
             cells: vec![in alloc; 0u64; buffer]?,
             first: 0,
             count: 0,
             taken: Vec::with_capacity(alloc, limit)?,
-            limit,
         })
-    }
-
-    /// Which pool its places are of.
-    #[inline(always)]
-    pub fn pool(&self) -> usize {
-        self.pool
     }
 
     /// How many messages wait.
@@ -50,12 +40,6 @@ impl Lane {
     #[inline(always)]
     pub fn taken_len(&self) -> usize {
         self.taken.len()
-    }
-
-    /// How many messages may be on the lane.
-    #[inline(always)]
-    pub fn most(&self) -> usize {
-        self.cells.len() + self.limit
     }
 
     /// Whether nothing waits.
@@ -72,8 +56,8 @@ impl Lane {
 
     /// Whether its receiver has as many messages as it may.
     #[inline(always)]
-    pub fn is_at_limit(&self) -> bool {
-        self.limit <= self.taken.len()
+    pub fn is_at_limit(&self, limit: usize) -> bool {
+        limit <= self.taken.len()
     }
 
     /// Puts a message last in line, where there is room.

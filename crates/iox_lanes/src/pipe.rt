@@ -2,7 +2,7 @@
 
 use crate::given::{Given, GivenBack};
 use crate::lane::Lane;
-use crate::search::{LaneVisit, visit_lane};
+use crate::search::{LaneVisit, Lanes, visit_lane};
 use crate::states::{after_hint, is_named, state_of};
 use crate::wanted::{Labels, Wanted};
 use iox_model::way::RequestState;
@@ -26,6 +26,12 @@ pub struct Next {
 #[derive(Drop)]
 pub struct Pipe {
     sender: u64,
+    // of each lane: whose places they are, how many may wait, how many its receiver may have
+    pool: usize,
+    buffer: usize,
+    limit: usize,
+    // and how many may be on it
+    most: usize,
     lanes: Vec<Lane>,
     states: Vec<RequestState>,
     // what was given back, on all lanes
@@ -35,7 +41,6 @@ pub struct Pipe {
 fn new_lanes(
     alloc: Global,
     count: usize,
-    pool: usize,
     buffer: usize,
     limit: usize,
 ) -> Result<Vec<Lane>, AllocError>
@@ -44,7 +49,7 @@ fn new_lanes(
 {
     let mut lanes = Vec::with_capacity(alloc, count)?;
     for _ in 0..count {
-        lanes.push(Lane::new(alloc, pool, buffer, limit)?)?;
+        lanes.push(Lane::new(alloc, buffer, limit)?)?;
     }
     Ok(lanes)
 }
@@ -80,7 +85,11 @@ impl Pipe {
         };
         Ok(Pipe {
             sender,
-            lanes: new_lanes(alloc, lanes, pool, buffer, limit)?,
+            pool,
+            buffer,
+            limit,
+            most: buffer + limit,
+            lanes: new_lanes(alloc, lanes, buffer, limit)?,
             states: vec![in alloc; RequestState::Closed; states]?,
             given: GivenBack::new(alloc, given)?,
         })
@@ -108,7 +117,7 @@ impl Pipe {
         ensures { result ≡ pool_on self.now lane }
     {
         if lane < self.lanes.len() {
-            return self.lanes[lane].pool();
+            return self.pool;
         }
         0
     }
@@ -172,7 +181,7 @@ impl Pipe {
         if lane < self.lanes.len() {
             let there = &self.lanes[lane];
             let on = there.waiting_len() + there.taken_len() + self.given.count_of(lane);
-            if on < there.most() && !there.is_full() {
+            if on < self.most && there.waiting_len() < self.buffer {
                 self.lanes[lane].push(place);
                 return true;
             }
@@ -249,13 +258,13 @@ impl Pipe {
     /// Whether the receiver has as many messages of a lane that is there as it may.
     #[inline(always)]
     pub fn is_at_limit(&self, lane: usize) -> bool {
-        self.lanes[lane].is_at_limit()
+        self.lanes[lane].is_at_limit(self.limit)
     }
 
-    /// The pool of the places of a lane that is there.
+    /// The pool of the places of all lanes.
     #[inline(always)]
-    pub fn pool_of(&self, lane: usize) -> usize {
-        self.lanes[lane].pool()
+    pub fn own_pool(&self) -> usize {
+        self.pool
     }
 
     /// The oldest that waits on a lane where something does.
@@ -302,7 +311,12 @@ impl Pipe {
     {
         if lane < self.lanes.len() {
             let there = &mut self.lanes[lane];
-            return visit_lane(there, lane, wanted, labels, &self.states, &mut self.given);
+            let of = Lanes {
+                number: lane,
+                pool: self.pool,
+                limit: self.limit,
+            };
+            return visit_lane(there, of, wanted, labels, &self.states, &mut self.given);
         }
         LaneVisit::Nothing
     }

@@ -40,18 +40,26 @@ fn wants<L: Labels>(
     }
 }
 
+/// Which lane it is, of a pipe of such lanes.
+#[derive(Clone, Copy, Drop)]
+pub struct Lanes {
+    pub number: usize,
+    pub pool: usize,
+    pub limit: usize,
+}
+
 /// Takes the oldest message that is wanted, unless the receiver has as many as it may. Those before
 /// it are given back unread.
 #[inline(always)]
 pub fn visit_lane<L: Labels>(
     lane: &mut Lane,
-    number: usize,
+    of: Lanes,
     wanted: Wanted,
     labels: &L,
     states: &[RequestState],
     given: &mut GivenBack,
 ) -> LaneVisit {
-    if lane.is_at_limit() {
+    if lane.is_at_limit(of.limit) {
         if lane.is_empty() {
             return LaneVisit::Nothing;
         }
@@ -61,12 +69,12 @@ pub fn visit_lane<L: Labels>(
         let Some(place) = lane.pull() else {
             return LaneVisit::Nothing;
         };
-        if wants(wanted, states, labels, lane.pool(), place) {
+        if wants(wanted, states, labels, of.pool, place) {
             lane.hold(place);
             return LaneVisit::Got(place);
         }
         given.push(Given {
-            lane: number,
+            lane: of.number,
             place,
         });
     }

@@ -9,7 +9,6 @@ ghost use Rattle.iox_tables.specs.HubLoans.Slots.{put_slot_of};
 ghost use Rattle.iox_tables.specs.HubStates.Tables.{is_free};
 
 use crate::slot::Slot;
-use iox_types::identifiers::UniqueSystemId;
 use std::alloc::{AllocError, Global};
 use std::marker::Model;
 
@@ -23,8 +22,6 @@ pub struct Pool {
     // Where its port is looked for first. A wrong place is only slower.
     pub(crate) at: u32,
     port: u64,
-    node_id: UniqueSystemId,
-    port_id: UniqueSystemId,
     pub(crate) slots: Vec<Slot>,
     // The slots that nobody has.
     pub(crate) free: Vec<u64>,
@@ -64,8 +61,6 @@ impl Pool {
     pub fn new(
         alloc: Global,
         port: u64,
-        node_id: UniqueSystemId,
-        port_id: UniqueSystemId,
         size: usize,
     ) -> Result<Pool, AllocError>
         ensures { IfOk result (λ pool. pool ≡ new_pool port node_id port_id size) }
@@ -74,8 +69,6 @@ impl Pool {
             there: true,
             at: u32::MAX,
             port,
-            node_id,
-            port_id,
             slots: vec![in alloc; Slot::new(); size]?,
             free: numbers(alloc, size)?,
         })
@@ -83,18 +76,10 @@ impl Pool {
 
     /// No pool.
     pub(crate) fn none(alloc: Global) -> Pool {
-        let nobody = UniqueSystemId {
-            process: 0,
-            seconds: 0,
-            nanoseconds: 0,
-            counter: 0,
-        };
         Pool {
             there: false,
             at: u32::MAX,
             port: 0,
-            node_id: nobody,
-            port_id: nobody,
             slots: Vec::new(alloc),
             free: Vec::new(alloc),
         }
@@ -106,22 +91,6 @@ impl Pool {
         ensures { result ≡ self.now.port }
     {
         self.port
-    }
-
-    /// The id of that port's node.
-    #[inline]
-    pub fn node_id(&self) -> UniqueSystemId
-        ensures { result ≡ self.now.node_id }
-    {
-        self.node_id
-    }
-
-    /// The id of that port.
-    #[inline]
-    pub fn port_id(&self) -> UniqueSystemId
-        ensures { result ≡ self.now.port_id }
-    {
-        self.port_id
     }
 
     /// How many slots there are.
@@ -180,7 +149,7 @@ impl Pool {
 
     /// One less has a slot that somebody has.
     #[inline(always)]
-    pub fn leave(&mut self, k: u64)
+    pub fn leave(&mut self, k: u64) -> bool
         requires taken { 0 < (slot_in self.old.slots k).holders }
         ensures left { self.new ≡ with_slot_of let_go self.old k }
     {
@@ -188,7 +157,9 @@ impl Pool {
         slot.holders -= 1;
         if slot.holders == 0 {
             self.free.push_reserved(k);
+            return true;
         }
+        false
     }
 
     /// One less has a slot, and says whether anybody had it. Where nobody did, and where there is

@@ -28,6 +28,8 @@ use std::marker::Model;
 #[derive(Drop)]
 pub struct Pools {
     pools: Vec<Pool>,
+    // Of each place the ids of the node and of the port.
+    ids: Vec<(UniqueSystemId, UniqueSystemId)>,
     alloc: Global,
 }
 
@@ -47,6 +49,7 @@ impl Pools {
     {
         Pools {
             pools: Vec::new(alloc),
+            ids: Vec::new(alloc),
             alloc,
         }
     }
@@ -403,7 +406,7 @@ impl Pools {
         if place < self.pools.len() {
             let pool = &self.pools[place];
             if pool.there {
-                return Some((pool.node_id(), pool.port_id()));
+                return Some(self.ids[place]);
             }
         }
         None
@@ -434,14 +437,18 @@ impl Pools {
             ≡ with_one_more self.old (new_pool port node_id port_id size)) }
         ensures unchanged { OnErr result (self.new ≡ self.old) }
     {
-        let pool = Pool::new(alloc, port, node_id, port_id, size)?;
+        let pool = Pool::new(alloc, port, size)?;
+        let ids = (node_id, port_id);
         match self.vacant() {
             Some(place) => {
                 self.pools[place] = pool;
+                self.ids[place] = ids;
                 Ok(place)
             }
             None => {
+                self.ids.reserve(1)?;
                 self.pools.push(pool)?;
+                self.ids.push_reserved(ids);
                 Ok(self.pools.len() - 1)
             }
         }

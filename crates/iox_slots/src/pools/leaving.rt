@@ -25,12 +25,12 @@ impl Pools {
             lane: pool.slots[slot as usize].lane,
             request: pool.slots[slot as usize].request,
         };
-        pool.leave(slot);
+        let freed = pool.leave(slot);
         Left {
             label,
             owner: pool.port(),
             at: pool.at as usize,
-            idle: pool.free.len() == pool.slots.len(),
+            idle: freed && pool.free.len() == pool.slots.len(),
         }
     }
 }
