@@ -220,6 +220,18 @@ impl<Q: Payload, QH: Words, E: Words, PH: Words> ActiveRequest<Q, QH, One<E>, PH
         ensures unchanged { IfErr result (λ error. error ≢ OutOfMemory → hub.new ≡ hub.old) }
         ensures left { OnErr result (hub.new ≡ with_control hub.old hub.new.control) }
     {
+        match hub.lend_response_near(self.number, self.hint, 1, true) {
+            Some(loan) => Ok(ResponseMutUninit::new(self.node, loan.number, loan.place)),
+            None => self.loan_far(hub),
+        }
+    }
+
+    /// The same, on any way.
+    #[inline(never)]
+    fn loan_far<H: Backpressure>(
+        &self,
+        hub: &mut Hub<Q, QH, One<E>, PH, H>,
+    ) -> Result<ResponseMutUninit<Q, QH, One<E>, PH>, LoanError> {
         match lend_response(hub, self.node, self.number, self.hint, 1, true) {
             Ok((number, place)) => Ok(ResponseMutUninit::new(self.node, number, place)),
             Err(error) => Err(error),

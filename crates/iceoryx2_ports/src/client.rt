@@ -166,6 +166,18 @@ impl<E: Words, QH: Words, P: Payload, PH: Words> Client<One<E>, QH, P, PH> {
         ensures unchanged { IfErr result (λ error. error ≢ OutOfMemory → hub.new ≡ hub.old) }
         ensures left { OnErr result (hub.new ≡ with_control hub.old hub.new.control) }
     {
+        match hub.lend_request_near(self.number, self.place, 1, true) {
+            Some(loan) => Ok(RequestMutUninit::new(self.node, loan.number, loan.place)),
+            None => self.loan_far(hub),
+        }
+    }
+
+    /// The same, on any way.
+    #[inline(never)]
+    fn loan_far<H: Backpressure>(
+        &self,
+        hub: &mut Hub<One<E>, QH, P, PH, H>,
+    ) -> Result<RequestMutUninit<One<E>, QH, P, PH>, LoanError> {
         match lend_request(hub, self.node, self.number, self.place, 1, true) {
             Ok((number, place)) => Ok(RequestMutUninit::new(self.node, number, place)),
             Err(error) => Err(error),

@@ -65,12 +65,14 @@ impl Control {
     pub fn receive_request_near(&mut self, node: u64, server: u64, at: usize) -> Got {
         if !self.settings.fire_and_forget
             || !self.ports.is_near(server, at)
-            || !self.ports.port(at).keeps_none()
             || !self.handles.has_vacant()
         {
             return Got::Far;
         }
         let Some(rank) = self.ports.port(at).first_waiting(0) else {
+            if !self.ports.port(at).keeps_none() {
+                return Got::Far;
+            }
             self.calls += 1;
             return Got::Nothing;
         };
@@ -88,7 +90,6 @@ impl Control {
         };
         let at = entry.at as usize;
         if !self.ports.is_near(entry.port, at)
-            || !self.ports.port(at).keeps_none()
             || !self.handles.has_vacant()
         {
             return Got::Far;
@@ -96,6 +97,9 @@ impl Control {
         let label = self.pools.label_of(entry.pool, entry.slot);
         let lane = label.lane as usize;
         let Some(rank) = self.ports.port(at).first_waiting(lane) else {
+            if !self.ports.port(at).keeps_none() {
+                return Got::Far;
+            }
             self.calls += 1;
             return Got::Nothing;
         };
@@ -274,22 +278,6 @@ impl Control {
 
     // ---- loans
 
-    /// What was given back on that pipe is got back, if the port in that place is the one that it
-    /// leads to.
-    #[inline(always)]
-    fn get_back_near(&mut self, place: usize, rank: usize, sender: u64, pool: usize) -> bool {
-        if !self.ports.port(place).is_from(rank, sender) {
-            return false;
-        }
-        while let Some(next) = self.ports.port_mut(place).pipe_at_mut(rank).get_next() {
-            self.pools.let_go_of(pool, next.place);
-            if !next.more {
-                return true;
-            }
-        }
-        true
-    }
-
     /// The handle of a loan is added.
     #[inline(always)]
     fn hand_out_near(&mut self, entry: Entry, at: usize) -> LoanNear {
@@ -304,8 +292,48 @@ impl Control {
         }
     }
 
-    /// Lends a request of the client in that place, of which this is said, where there is one server,
-    /// and nobody has a message of the client once it got all back.
+    /// Gets back all that ports of the other role gave back to the port in that place, where there
+    /// are several of them, or where it is another way.
+    #[inline(never)]
+    fn get_back_all(&mut self, at: usize) {
+        let (role, number, pool) = {
+            let port = self.ports.port(at);
+            (port.role(), port.number(), port.pool())
+        };
+        let hint = self.ports.rank(at);
+        for rank in 0..self.ports.others_len(role) {
+            let place = self.ports.other(role, rank);
+            while let Some(next) = self.ports.get_next_in(place, number, hint) {
+                self.pools.let_go_of(pool, next.place);
+                if !next.more {
+                    break;
+                }
+            }
+        }
+    }
+
+    /// The same. Where there is one port of the other role, it is done in place.
+    #[inline(always)]
+    fn get_back_to(&mut self, at: usize, role: Role, number: u64) {
+        if self.ports.others_len(role) == 1 {
+            let place = self.ports.other(role, 0);
+            let rank = self.ports.rank(at);
+            if self.ports.port(place).is_from(rank, number) {
+                let pool = self.ports.port(at).pool();
+                while let Some(next) = self.ports.port_mut(place).pipe_at_mut(rank).get_next() {
+                    self.pools.let_go_of(pool, next.place);
+                    if !next.more {
+                        return;
+                    }
+                }
+                return;
+            }
+        }
+        self.get_back_all(at);
+    }
+
+    /// Lends a request of the client in that place, of which this is said, where nobody has a message
+    /// of the client once it got all back.
     #[inline(always)]
     pub fn lend_request_near(
         &mut self,
@@ -314,16 +342,14 @@ impl Control {
         elements: u64,
         uninit: bool,
     ) -> Option<LoanNear> {
-        let server = self.ports.only_server()?;
-        let rank = self.ports.rank(at);
         let most = self.settings.loaned_requests;
         if self.calls >= 1 << 56
             || self.handles.at_most(client, Kind::RequestMut) >= most
             || !self.handles.has_vacant()
-            || !self.get_back_near(server, rank, client, self.ports.port(at).pool())
         {
             return None;
         }
+        self.get_back_to(at, Role::Client, client);
         let port = self.ports.info_of(at);
         let request = port.loans % (1 << 62);
         let slot = self
@@ -335,11 +361,11 @@ impl Control {
             kind: if uninit { Kind::RequestMutUninit } else { Kind::RequestMut },
             at: (at & 0xffff) as u16,
             client_at: (at & 0xffff) as u16,
-            rank: (rank & 0xffff) as u16,
-            port: port.number,
+            rank: (self.ports.rank(at) & 0xffff) as u16,
+            port: client,
             pool: port.pool,
             slot,
-            client: port.number,
+            client,
             connections: 0,
         };
         Some(self.hand_out_near(entry, at))
@@ -351,10 +377,10 @@ impl Control {
         &mut self,
         hint: usize,
         at: usize,
+        server: u64,
         elements: u64,
         uninit: bool,
     ) -> Option<LoanNear> {
-        let server = self.ports.port(at).number();
         if self.calls >= 1 << 56
             || self.handles.at_most(server, Kind::ResponseMut) as u64
                 >= self.ports.port(at).loaned_responses()
@@ -362,14 +388,7 @@ impl Control {
         {
             return None;
         }
-        let rank = self.ports.rank(at);
-        let pool = self.ports.port(at).pool();
-        for other in 0..self.ports.others_len(Role::Server) {
-            let place = self.ports.other(Role::Server, other);
-            if !self.get_back_near(place, rank, server, pool) {
-                return None;
-            }
-        }
+        self.get_back_to(at, Role::Server, server);
         let port = self.ports.info_of(at);
         let active = self.handles.at(hint);
         let Label { lane, request } = self.pools.label_of(active.pool, active.slot);
@@ -383,7 +402,7 @@ impl Control {
             at: (at & 0xffff) as u16,
             client_at: active.client_at,
             rank: active.rank,
-            port: port.number,
+            port: server,
             pool: port.pool,
             slot,
             client: active.client,

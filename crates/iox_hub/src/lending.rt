@@ -397,7 +397,7 @@ impl<Q: Payload, QH: Words, P: Payload, PH: Words, H: Backpressure> Hub<Q, QH, P
         }
         let loan = self
             .control
-            .lend_response_near(hint, at, elements as u64, uninit)?;
+            .lend_response_near(hint, at, active.port, elements as u64, uninit)?;
         let store = self.words.responses_mut(loan.pool);
         store.lend_own(loan.slot as usize, elements, self.response.user_header);
         Some(loan)

@@ -10,17 +10,17 @@ pub struct PortInfo {
     pub number: u64,
     pub node: u64,
     pub role: Role,
+    pub grows: bool,
+    pub strategy: BackpressureStrategy,
+    /// Whether its own value is still there.
+    pub held: bool,
     pub node_id: UniqueSystemId,
     pub id: UniqueSystemId,
     /// The place of its pool, and how many messages that has.
     pub pool: usize,
     pub size: usize,
     pub longest: u64,
-    pub grows: bool,
-    pub strategy: BackpressureStrategy,
     pub loaned_responses: u64,
-    /// Whether its own value is still there.
-    pub held: bool,
     /// How many loans succeeded.
     pub loans: u64,
 }

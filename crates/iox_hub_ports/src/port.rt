@@ -131,7 +131,7 @@ impl Port {
     /// The rank of the first connected sender from which something waits on that lane.
     #[inline(always)]
     pub fn first_waiting(&self, lane: usize) -> Option<usize> {
-        self.incoming.first_waiting(lane)
+        self.incoming.first_waiting(lane, self.usual)
     }
 
     /// Visits the lane of that number of each connected sender until one gives a message.

@@ -112,8 +112,8 @@ impl Incoming {
 
     /// The rank of the first pipe on which something waits on that lane.
     #[inline(always)]
-    pub fn first_waiting(&self, lane: usize) -> Option<usize> {
-        for rank in 0..self.pipes.len() {
+    pub fn first_waiting(&self, lane: usize, most: usize) -> Option<usize> {
+        for rank in 0..most {
             if self.pipes[rank].waits_on(lane) {
                 return Some(rank);
             }
