@@ -145,6 +145,14 @@ impl Pipe {
         false
     }
 
+    /// How many messages wait on that lane.
+    pub fn waiting_len(&self, lane: usize) -> usize {
+        if lane < self.lanes.len() {
+            return self.lanes[lane].waiting_len();
+        }
+        0
+    }
+
     /// How many messages of that lane the receiver has.
     #[inline]
     pub fn taken_len(&self, lane: usize) -> usize

@@ -149,7 +149,7 @@ fn fills(rt: &impl Abort, ports: &mut Ports, place: u64) {
 /// The first server gets what is waiting, and releases it, and the client gets it back.
 fn goes_back(rt: &impl Abort, ports: &mut Ports, place: u64) {
     let visits = ports.visit(2, 0, Wanted::Any, &NoLabel);
-    equal(rt, visits, Visits::Got(1, 0, place));
+    equal(rt, visits, Visits::Got(1, 0, place, 0));
     holds(rt, ports.release(to(2), place));
     equal(rt, ports.lane_to_get(1, 2), Some(0));
     equal(rt, ports.get_back(to(2)), Some(place));
@@ -240,8 +240,8 @@ fn what_waits_from_two_that_are_gone_is_kept(rt: HostRuntime) -> Result<(), Fail
     let mut ports = two_answered(&rt, rt.alloc(), 2)?;
     equal(&rt, expire(&mut ports, 1, 2), None);
     equal(&rt, expire(&mut ports, 1, 3), None);
-    equal(&rt, gets(&mut ports), Visits::Got(2, 5, 10));
-    equal(&rt, gets(&mut ports), Visits::Got(3, 6, 20));
+    equal(&rt, gets(&mut ports), Visits::Got(2, 5, 10, 0));
+    equal(&rt, gets(&mut ports), Visits::Got(3, 6, 20, 1));
     equal(&rt, gets(&mut ports), Visits::Nothing);
     Ok(())
 }
@@ -251,7 +251,7 @@ fn the_older_is_given_up_for_the_younger(rt: HostRuntime) -> Result<(), Fail> {
     let mut ports = two_answered(&rt, rt.alloc(), 1)?;
     equal(&rt, expire(&mut ports, 1, 2), None);
     equal(&rt, expire(&mut ports, 1, 3), Some(2));
-    equal(&rt, gets(&mut ports), Visits::Got(3, 6, 20));
+    equal(&rt, gets(&mut ports), Visits::Got(3, 6, 20, 0));
     equal(&rt, gets(&mut ports), Visits::Nothing);
     Ok(())
 }
@@ -268,9 +268,9 @@ fn without_room_nothing_is_kept(rt: HostRuntime) -> Result<(), Fail> {
 #[test]
 fn what_is_empty_is_not_kept(rt: HostRuntime) -> Result<(), Fail> {
     let mut ports = two_answered(&rt, rt.alloc(), 2)?;
-    equal(&rt, gets(&mut ports), Visits::Got(2, 5, 10));
+    equal(&rt, gets(&mut ports), Visits::Got(2, 5, 10, 0));
     equal(&rt, expire(&mut ports, 1, 3), None);
     equal(&rt, expire(&mut ports, 1, 2), Some(2));
-    equal(&rt, gets(&mut ports), Visits::Got(3, 6, 20));
+    equal(&rt, gets(&mut ports), Visits::Got(3, 6, 20, 0));
     Ok(())
 }

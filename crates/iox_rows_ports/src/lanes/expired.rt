@@ -97,8 +97,8 @@ fn the_oldest_are_visited_first(rt: HostRuntime) -> Result<(), Fail> {
     }
     holds(&rt, !deliver(&mut expired, 2, 7));
     holds(&rt, expired.has_waiting_from_any(0));
-    visits(&rt, &mut expired, Visits::Got(12, 2, 3));
-    visits(&rt, &mut expired, Visits::Got(13, 2, 5));
+    visits(&rt, &mut expired, Visits::Got(12, 2, 3, 0));
+    visits(&rt, &mut expired, Visits::Got(13, 2, 5, 1));
     visits(&rt, &mut expired, Visits::Nothing);
     holds(&rt, deliver(&mut expired, 0, 4));
     visits(&rt, &mut expired, Visits::AtLimit);
@@ -116,7 +116,7 @@ fn gets_back(rt: &impl Abort, expired: &mut Expired, rank: usize, place: u64) {
 fn what_is_given_back_is_on_its_pipe(rt: HostRuntime) -> Result<(), Fail> {
     let mut expired = two_of_three(rt.alloc())?;
     holds(&rt, deliver(&mut expired, 1, 5));
-    visits(&rt, &mut expired, Visits::Got(13, 2, 5));
+    visits(&rt, &mut expired, Visits::Got(13, 2, 5, 1));
     holds(&rt, !expired.on_lane(0, 0, &Release { place: 5 }));
     holds(&rt, expired.on_lane(1, 0, &Release { place: 5 }));
     gets_back(&rt, &mut expired, 1, 5);

@@ -1,7 +1,10 @@
 //! A lane, asked one thing after another. A test is a list of what is asked and of what has to be
 //! answered, since what is known of each answer would stand in the proof of all that come after.
 use crate::expected::equal;
+use super::visits::ByPlace;
 use iox_lanes::pipe::Pipe;
+use iox_lanes::search::LaneVisit;
+use iox_lanes::wanted::Wanted;
 use std::process::Abort;
 use std::test::Fail;
 
@@ -39,34 +42,54 @@ fn place_told(place: Option<u64>) -> Told {
 }
 
 /// What is seen of the lane.
-fn look(lane: &Lane, asked: Asked) -> Told {
+fn look(lane: &Pipe, asked: Asked) -> Told {
     match asked {
-        Asked::Pool => Told::Count(lane.pool()),
-        Asked::IsEmpty => Told::Is(lane.is_empty()),
-        Asked::IsFull => Told::Is(lane.is_full()),
-        Asked::IsAtLimit => Told::Is(lane.is_at_limit()),
-        Asked::Waiting => Told::Count(lane.waiting_len()),
-        Asked::Returned(place) => Told::Count(lane.returned_times(place)),
-        _ => Told::Count(lane.taken_len()),
+        Asked::Pool => Told::Count(lane.pool(0)),
+        Asked::IsEmpty => Told::Is(!lane.has_waiting(0)),
+        Asked::IsFull => Told::Is(lane.is_full(0)),
+        Asked::IsAtLimit => Told::Is(lane.is_at_limit(0)),
+        Asked::Waiting => Told::Count(lane.waiting_len(0)),
+        Asked::Returned(place) => Told::Count(lane.returned_times(0, place)),
+        _ => Told::Count(lane.taken_len(0)),
     }
 }
 
-fn ask(rt: &impl Abort, lane: &mut Lane, asked: Asked) -> Told {
+/// Takes the oldest.
+fn take(lane: &mut Pipe) -> Option<u64> {
+    match lane.visit(0, Wanted::Any, &ByPlace) {
+        LaneVisit::Got(place) => Some(place),
+        _ => None,
+    }
+}
+
+/// Passes over the only one that waits.
+fn pass_over(lane: &mut Pipe) -> Option<u64> {
+    if !lane.has_waiting(0) {
+        return None;
+    }
+    let oldest = lane.oldest(0);
+    match lane.visit(0, Wanted::Of(1000), &ByPlace) {
+        LaneVisit::Nothing => Some(oldest),
+        _ => None,
+    }
+}
+
+fn ask(rt: &impl Abort, lane: &mut Pipe, asked: Asked) -> Told {
     match asked {
-        Asked::Deliver(place) => Told::Is(lane.deliver(place)),
+        Asked::Deliver(place) => Told::Is(lane.deliver(0, place)),
         Asked::Take => {
-            assert!(rt; !lane.is_at_limit());
-            place_told(lane.take())
+            assert!(rt; !lane.is_at_limit(0));
+            place_told(take(lane))
         }
-        Asked::Release(place) => Told::Is(lane.release(place)),
-        Asked::GetBack => place_told(lane.get_back()),
-        Asked::PassOver => place_told(lane.pass_over()),
-        Asked::Evict => place_told(lane.evict()),
+        Asked::Release(place) => Told::Is(lane.release(0, place)),
+        Asked::GetBack => place_told(lane.get_back(0)),
+        Asked::PassOver => place_told(pass_over(lane)),
+        Asked::Evict => place_told(lane.evict(0)),
         _ => look(lane, asked),
     }
 }
 
-fn answers(rt: &impl Abort, lane: &mut Lane, list: &[(Asked, Told)]) {
+fn answers(rt: &impl Abort, lane: &mut Pipe, list: &[(Asked, Told)]) {
     for (asked, told) in list {
         equal(rt, ask(rt, lane, *asked), *told);
     }
@@ -74,7 +97,7 @@ fn answers(rt: &impl Abort, lane: &mut Lane, list: &[(Asked, Told)]) {
 
 #[test]
 fn what_is_delivered_goes_around(rt: HostRuntime) -> Result<(), Fail> {
-    let mut lane = Lane::new(rt.alloc(), 4, 2, 1)?;
+    let mut lane = Pipe::new(rt.alloc(), 11, 4, 1, 2, 1, 1)?;
     answers(
         &rt,
         &mut lane,
@@ -106,7 +129,7 @@ fn what_is_delivered_goes_around(rt: HostRuntime) -> Result<(), Fail> {
 
 #[test]
 fn the_oldest_is_pushed_out(rt: HostRuntime) -> Result<(), Fail> {
-    let mut lane = Lane::new(rt.alloc(), 0, 2, 2)?;
+    let mut lane = Pipe::new(rt.alloc(), 11, 0, 1, 2, 2, 1)?;
     answers(
         &rt,
         &mut lane,
@@ -127,7 +150,7 @@ fn the_oldest_is_pushed_out(rt: HostRuntime) -> Result<(), Fail> {
 
 #[test]
 fn there_is_room_for_each_return(rt: HostRuntime) -> Result<(), Fail> {
-    let mut lane = Lane::new(rt.alloc(), 0, 1, 1)?;
+    let mut lane = Pipe::new(rt.alloc(), 11, 0, 1, 1, 1, 1)?;
     answers(
         &rt,
         &mut lane,

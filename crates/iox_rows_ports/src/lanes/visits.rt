@@ -65,11 +65,11 @@ fn all_senders_are_visited_in_their_order(rt: HostRuntime) -> Result<(), Fail> {
     holds(&rt, !deliver(&mut incoming, 13, 6));
     equal(&rt, is_full(&incoming, 11), Some(true));
     equal(&rt, is_full(&incoming, 13), None);
-    visits(&rt, &mut incoming, Visits::Got(11, 0, 3));
-    visits(&rt, &mut incoming, Visits::Got(12, 1, 5));
+    visits(&rt, &mut incoming, Visits::Got(11, 0, 3, 0));
+    visits(&rt, &mut incoming, Visits::Got(12, 1, 5, 1));
     visits(&rt, &mut incoming, Visits::AtLimit);
     holds(&rt, incoming.on_lane(11, 0, &Release { place: 3 }));
-    visits(&rt, &mut incoming, Visits::Got(11, 0, 4));
+    visits(&rt, &mut incoming, Visits::Got(11, 0, 4, 0));
     gets_back(&rt, &mut incoming, 3);
     holds(&rt, !incoming.has_waiting_from_any(0));
     visits(&rt, &mut incoming, Visits::Nothing);

@@ -58,7 +58,11 @@ fn lender(role: Role) -> Lending {
     };
     Lending {
         port,
+        at: 0,
+        own_rank: 0,
         client: 0,
+        client_at: 0,
+        rank: 0,
         lane: 0,
         request: 0,
     }
