@@ -198,15 +198,14 @@ impl<E: Words, QH: Words, P: Payload, PH: Words> RequestMutUninit<One<E>, QH, P,
             of,
         } = self;
         request_has_one(hub, node, number);
-        if hub.write_one_request(number, hint, value) {
-            return RequestMut {
-                node,
-                number,
-                hint,
-                of,
-            };
-        }
-        write_far(hub, node, number, hint, value)
+        let filled = RequestMut {
+            node,
+            number,
+            hint,
+            of,
+        };
+        hub.write_one_request(node, number, hint, value);
+        filled
     }
 }
 
@@ -351,19 +350,4 @@ fn send_far<Q: Payload, QH: Words, P: Payload, PH: Words, H: Backpressure>(
     hint: usize,
 ) -> Requested {
     send_request(hub, node, number, hint)
-}
-
-/// Fills a loaned request of one element on any way.
-#[inline(never)]
-fn write_far<E: Words, QH: Words, P: Payload, PH: Words, H: Backpressure>(
-    hub: &mut Hub<One<E>, QH, P, PH, H>,
-    node: u64,
-    number: u64,
-    hint: usize,
-    value: E,
-) -> RequestMut<One<E>, QH, P, PH> {
-    let Written::Done(_) = hub.write_request(node, number, hint, &[value]) else {
-        unreachable!();
-    };
-    RequestMut::new(node, number, hint)
 }

@@ -198,15 +198,14 @@ impl<Q: Payload, QH: Words, E: Words, PH: Words> ResponseMutUninit<Q, QH, One<E>
             of,
         } = self;
         response_has_one(hub, node, number);
-        if hub.write_one_response(number, hint, value) {
-            return ResponseMut {
-                node,
-                number,
-                hint,
-                of,
-            };
-        }
-        write_far(hub, node, number, hint, value)
+        let filled = ResponseMut {
+            node,
+            number,
+            hint,
+            of,
+        };
+        hub.write_one_response(node, number, hint, value);
+        filled
     }
 }
 
@@ -338,19 +337,4 @@ fn send_far<Q: Payload, QH: Words, P: Payload, PH: Words, H: Backpressure>(
         Responded::Done => Ok(()),
         Responded::Undelivered => Err(SendError::UnableToDeliver),
     }
-}
-
-/// Fills a loaned response of one element on any way.
-#[inline(never)]
-fn write_far<Q: Payload, QH: Words, E: Words, PH: Words, H: Backpressure>(
-    hub: &mut Hub<Q, QH, One<E>, PH, H>,
-    node: u64,
-    number: u64,
-    hint: usize,
-    value: E,
-) -> ResponseMut<Q, QH, One<E>, PH> {
-    let Written::Done(_) = hub.write_response(node, number, hint, &[value]) else {
-        unreachable!();
-    };
-    ResponseMut::new(node, number, hint)
 }

@@ -87,31 +87,41 @@ impl<Q: Payload, QH: Words, P: Payload, PH: Words, H: Backpressure> Hub<Q, QH, P
         written
     }
 
-    /// Fills a loaned request of one element with that element, whatever was filled, if its handle is
-    /// at the hint, and says whether it is.
+    /// Fills a loaned request of one element with that element, whatever was filled. Its handle is
+    /// looked for at the hint first.
     #[inline(always)]
-    pub fn write_one_request(&mut self, number: u64, hint: usize, value: Q::Element) -> bool {
+    pub fn write_one_request(&mut self, node: u64, number: u64, hint: usize, value: Q::Element) {
         match self.control.near(number, hint) {
             Some(entry) => {
                 self.control.set_kind(number, hint, Kind::RequestMut);
                 self.words.requests_mut(entry.pool).write_payload(entry.slot as usize, value);
-                true
             }
-            None => false,
+            None => self.write_far_request(node, number, value),
         }
     }
 
-    /// Fills a loaned response of one element with that element, whatever was filled, if its handle is
-    /// at the hint, and says whether it is.
+    /// The same, where its handle is not at the hint.
+    #[inline(never)]
+    fn write_far_request(&mut self, node: u64, number: u64, value: Q::Element) {
+        self.write_request(node, number, usize::MAX, &[value]);
+    }
+
+    /// Fills a loaned response of one element with that element, whatever was filled. Its handle is
+    /// looked for at the hint first.
     #[inline(always)]
-    pub fn write_one_response(&mut self, number: u64, hint: usize, value: P::Element) -> bool {
+    pub fn write_one_response(&mut self, node: u64, number: u64, hint: usize, value: P::Element) {
         match self.control.near(number, hint) {
             Some(entry) => {
                 self.control.set_kind(number, hint, Kind::ResponseMut);
                 self.words.responses_mut(entry.pool).write_payload(entry.slot as usize, value);
-                true
             }
-            None => false,
+            None => self.write_far_response(node, number, value),
         }
+    }
+
+    /// The same, where its handle is not at the hint.
+    #[inline(never)]
+    fn write_far_response(&mut self, node: u64, number: u64, value: P::Element) {
+        self.write_response(node, number, usize::MAX, &[value]);
     }
 }
