@@ -263,6 +263,7 @@ impl Control {
     /// The loaned request is a pending response now.
     #[inline(always)]
     pub fn become_pending(&mut self, number: u64, hint: usize, port: u64, connections: u64) {
+        let connections = (connections & 0xffff_ffff) as u32;
         self.handles.become_pending(number, hint, port, connections);
     }
 

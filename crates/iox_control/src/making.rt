@@ -84,7 +84,9 @@ impl Control {
         ensures removed { IsSome result → self.new ≡ with_port_removed self.old number }
         ensures unchanged { result ≡ None → self.new ≡ self.old }
     {
+        let place = self.ports.place_at(number, usize::MAX)?;
         let port = self.ports.remove(number)?;
+        self.handles.ports_moved(place);
         for at in 0..self.ports.len() {
             if let Some(info) = self.ports.at(at) {
                 self.pools.set_at(info.pool, at);

@@ -89,9 +89,7 @@ impl Control {
             return Got::Far;
         };
         let at = entry.at as usize;
-        if !self.ports.is_near(entry.port, at)
-            || !self.handles.has_vacant()
-        {
+        if !self.handles.has_vacant() {
             return Got::Far;
         }
         let label = self.pools.label_of(entry.pool, entry.slot);
@@ -129,9 +127,6 @@ impl Control {
     fn near_of(&self, node: u64, number: u64, hint: usize, kind: Kind) -> Option<Entry> {
         let entry = self.handles.near(number, hint)?;
         if entry.node != node || entry.kind != kind {
-            return None;
-        }
-        if !self.ports.is_near(entry.port, entry.at as usize) {
             return None;
         }
         Some(Entry { kind, ..entry })
@@ -242,7 +237,6 @@ impl Control {
         let entry = self.handles.near(number, hint)?;
         let (at, to) = (entry.at as usize, entry.client_at as usize);
         if !self.settings.response_overflow
-            || !self.ports.is_near(entry.port, at)
             || !self.ports.is_near(entry.client, to)
             || !self.pools.has_one_out(entry.pool)
         {
@@ -359,8 +353,8 @@ impl Control {
             node: port.node,
             number: self.handles.next_number(),
             kind: if uninit { Kind::RequestMutUninit } else { Kind::RequestMut },
-            at: (at & 0xffff) as u16,
-            client_at: (at & 0xffff) as u16,
+            at: (at & 0xffff_ffff) as u32,
+            client_at: (at & 0xffff_ffff) as u32,
             rank: (self.ports.rank(at) & 0xffff) as u16,
             port: client,
             pool: port.pool,
@@ -399,7 +393,7 @@ impl Control {
             node: port.node,
             number: self.handles.next_number(),
             kind: if uninit { Kind::ResponseMutUninit } else { Kind::ResponseMut },
-            at: (at & 0xffff) as u16,
+            at: (at & 0xffff_ffff) as u32,
             client_at: active.client_at,
             rank: active.rank,
             port: server,

@@ -24,7 +24,7 @@ pub struct Lending {
     pub at: usize,
     pub own_rank: usize,
     pub client: u64,
-    pub client_at: u16,
+    pub client_at: u32,
     /// Of the pipes that lead to it, where the client's is likely.
     pub rank: u16,
     pub lane: u64,

@@ -79,7 +79,7 @@ pub fn lend_request_of(
         port,
         at,
         client: port.number,
-        client_at: (at & 0xffff) as u16,
+        client_at: (at & 0xffff_ffff) as u32,
         rank: (own & 0xffff) as u16,
         own_rank: own,
         lane: 0,

@@ -49,7 +49,7 @@ fn loan_entry(control: &Control, lender: &Lending, uninit: bool, slot: u64) -> E
         node: lender.port.node,
         number: control.next_number(),
         kind: loan_kind(lender.port.role, uninit),
-        at: (lender.at & 0xffff) as u16,
+        at: (lender.at & 0xffff_ffff) as u32,
         client_at: lender.client_at,
         rank: lender.rank,
         port: lender.port.number,

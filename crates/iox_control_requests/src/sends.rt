@@ -20,7 +20,6 @@ use crate::deliveries::deliver_to_all;
 use iox_control::Control;
 use iox_handles::Entry;
 use iox_lanes::wanted::Label;
-use iox_model::kind::Kind;
 
 /// Opens the handle's request, whose message has that label, with each server.
 fn open_request(control: &mut Control, entry: Entry, label: Label)
@@ -32,29 +31,6 @@ fn open_request(control: &mut Control, entry: Entry, label: Label)
     ensures order { IsControl control.new }
 {
     control.open_all(entry.port, label.lane, label.request);
-}
-
-/// The handle becomes a pending response with so many connections, and the call is counted.
-fn become_pending(control: &mut Control, entry: Entry, hint: usize, count: u64)
-    requires calls { control.old.tables.calls ≤ 2 ^ 56 }
-    ensures { control.new ≡ with_tables control.old
-        (with_call (with_changed control.old.tables (pending_of (handle_state entry) count))) }
-{
-    let pending = Entry {
-        node: entry.node,
-        number: entry.number,
-        kind: Kind::PendingResponse,
-        at: entry.at,
-        client_at: entry.client_at,
-        rank: entry.rank,
-        port: entry.port,
-        pool: entry.pool,
-        slot: entry.slot,
-        client: entry.client,
-        connections: count,
-    };
-    control.change_handle(pending, hint);
-    control.count_call();
 }
 
 /// Sends a client's loaned request, whose message has that label, once the client got all back, and
@@ -102,6 +78,7 @@ pub fn send_to_all(
 fn send_to_some(control: &mut Control, entry: Entry, label: Label, hint: usize) -> u64 {
     open_request(control, entry, label);
     let count = deliver_to_all(control, entry, false);
-    become_pending(control, entry, hint, count);
+    control.become_pending(entry.number, hint, entry.port, count);
+    control.count_call();
     count
 }

@@ -9,11 +9,11 @@ pub struct Entry {
     pub node: u64,
     pub number: u64,
     pub kind: Kind,
-    /// Where its port is looked for first, and where its client is. A wrong place is only slower.
-    pub at: u16,
-    pub client_at: u16,
-    /// Of the pipes that lead to its port, where the one is likely that its message came on.
+    /// Of the pipes that lead to its port, where the one is likely that its message came on. A wrong
+    /// rank is only slower.
     pub rank: u16,
+    /// Where its port is.
+    pub at: u32,
     /// The port that it belongs to.
     pub port: u64,
     /// The place of the pool, and the slot there.
@@ -21,8 +21,10 @@ pub struct Entry {
     pub slot: u64,
     /// The client of its request.
     pub client: u64,
+    /// Where that is looked for first. A wrong place is only slower.
+    pub client_at: u32,
     /// Of a pending response: how many servers the request was delivered to.
-    pub connections: u64,
+    pub connections: u32,
 }
 
 /// The number of no handle: a place with it is vacant.

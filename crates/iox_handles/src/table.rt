@@ -109,6 +109,19 @@ impl Table {
         self.place_of(number, usize::MAX).unwrap_or(usize::MAX)
     }
 
+    /// The port in that place went, of which there is no handle: those behind it are one place before.
+    pub fn ports_moved(&mut self, place: usize) {
+        for at in 0..self.places.len() {
+            let entry = &mut self.places[at];
+            if entry.at as usize > place {
+                entry.at -= 1;
+            }
+            if entry.client_at as usize > place {
+                entry.client_at -= 1;
+            }
+        }
+    }
+
     /// The handle in that place, where one is.
     #[inline(always)]
     pub fn at(&self, place: usize) -> Entry {
@@ -165,7 +178,7 @@ impl Table {
 
     /// The loaned request in that place is a pending response now, with so many connections.
     #[inline(always)]
-    pub fn become_pending_at(&mut self, place: usize, port: u64, connections: u64) {
+    pub fn become_pending_at(&mut self, place: usize, port: u64, connections: u32) {
         self.tally.discount(port, Kind::RequestMut);
         self.tally.count(port, Kind::PendingResponse);
         let entry = &mut self.places[place];
@@ -265,7 +278,7 @@ impl Table {
     /// The loaned request of that number, which is there, and is of that port, is a pending response
     /// now, with so many connections.
     #[inline(always)]
-    pub fn become_pending(&mut self, number: u64, hint: usize, port: u64, connections: u64) {
+    pub fn become_pending(&mut self, number: u64, hint: usize, port: u64, connections: u32) {
         let place = self.known_place(number, hint);
         self.tally.discount(port, Kind::RequestMut);
         self.tally.count(port, Kind::PendingResponse);

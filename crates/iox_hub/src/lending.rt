@@ -386,7 +386,7 @@ impl<Q: Payload, QH: Words, P: Payload, PH: Words, H: Backpressure> Hub<Q, QH, P
     ) -> Option<LoanNear> {
         let active = self.control.near(number, hint)?;
         let at = active.at as usize;
-        if !self.control.ports().is_near(active.port, at) || !uninit {
+        if !uninit {
             return None;
         }
         if elements as u64 > self.control.ports().port(at).longest()
