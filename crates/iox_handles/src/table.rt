@@ -321,17 +321,12 @@ impl Table {
         place_in(&self.places, number, &self.likely)
     }
 
-    /// The handle in that place goes.
-    #[inline(always)]
-    pub(crate) fn leave(&mut self, place: usize) {
-        self.places[place].kind = Kind::Client;
-        self.vacate(place);
-    }
-
-    /// The number of the handle in that place goes.
+    /// The handle in that place goes. What is vacant is of no handle's kind, so that no test of a
+    /// kind passes it.
     #[inline(always)]
     pub(crate) fn vacate(&mut self, place: usize) {
         self.places[place].number = NOBODY;
+        self.places[place].kind = Kind::Client;
         self.free.push_reserved(place);
     }
 

@@ -107,7 +107,14 @@ impl LaneStep for Push {
 
     #[inline(always)]
     fn step(&self, pipe: &mut Pipe, lane: usize) -> Option<u64> {
-        pipe.push(lane, self.place)
+        let place = self.place;
+        if pipe.is_full(lane) {
+            let oldest = pipe.evict(lane);
+            pipe.deliver(lane, place);
+            return oldest;
+        }
+        pipe.deliver(lane, place);
+        None
     }
 }
 
