@@ -5,11 +5,11 @@ ghost use Rattle.iceoryx2_ports.specs.Hubs.{HasValue};
 ghost use Rattle.iceoryx2_ports.specs.Kind.TheVariants as kinds;
 ghost use Rattle.iceoryx2_ports.specs.Waiting.{NothingWaits, server_of};
 
-use crate::exchange::{NODE, settings};
+use crate::exchange::{NODE, SETTINGS};
 use crate::expected::equal;
 use iceoryx2_ports::{
-    BackpressureStrategy, Client, Hub, MessageShape, One, PortFactoryClient, PortFactoryServer,
-    Server, Words, ZeroCopySend,
+    Client, Hub, MessageShape, One, PortFactoryClient, PortFactoryServer, Server, Words,
+    ZeroCopySend,
 };
 use std::alloc::{AllocError, Global};
 use std::test::Fail;
@@ -105,12 +105,7 @@ type Listener = Server<One<Reading>, (), One<u64>, ()>;
 fn readings(alloc: Global) -> Result<Readings, AllocError> {
     let request = MessageShape::of_requests(None, ());
     let response = MessageShape::of_responses(None, ());
-    Hub::new(
-        alloc,
-        settings(true, BackpressureStrategy::DiscardData),
-        request,
-        response,
-    )
+    Hub::new(alloc, SETTINGS, request, response)
 }
 
 /// A client tells a reading. A server for which nothing waited reads just that, if it receives
@@ -158,15 +153,18 @@ fn exchanges(alloc: Global, hub: &mut Readings, reading: Reading) -> Option<Read
     told
 }
 
+/// The same of a new hub.
+fn arrives(alloc: Global, reading: Reading) -> Result<Option<Reading>, AllocError> {
+    let mut hub = readings(alloc)?;
+    Ok(exchanges(alloc, &mut hub, reading))
+}
+
 #[test]
 fn a_reading_arrives(rt: HostRuntime) -> Result<(), Fail> {
-    let alloc = rt.alloc();
-    let mut hub = readings(alloc)?;
     let reading = Reading {
         sensor: 1 << 63,
         level: 7,
     };
-    let told = exchanges(alloc, &mut hub, reading);
-    equal(&rt, told, Some(reading));
+    equal(&rt, arrives(rt.alloc(), reading)?, Some(reading));
     Ok(())
 }

@@ -1,4 +1,5 @@
 //! Tests of `iceoryx2_wire`. Each plays a list of what is asked, and of what it has to be answered.
+//! Only `plays_with` owns a service that is asked so.
 mod asking;
 mod creating;
 mod ending;
@@ -14,13 +15,16 @@ mod running;
 mod starts;
 
 use crate::expected::equal;
-use iceoryx2_wire::{AttributeVerificationError, Many, Opener, Refusal, Reply, Service, Settings};
+use iceoryx2_wire::{
+    AttributeVerificationError, Backpressure, BackpressureStrategy, Many, Opener, Refusal, Reply,
+    Service, Settings,
+};
 use std::alloc::{AllocError, Global};
 use std::process::Abort;
 use std::test::Fail;
 
-/// Requests and responses of numbers.
-type TheService = Service<Many<u64>, (), Many<u64>, ()>;
+/// Requests and responses of numbers. Where nothing else is said, ports have no handlers.
+type TheService<H = ()> = Service<Many<u64>, (), Many<u64>, (), H>;
 
 type TheRefusal<'a> = Refusal<AttributeVerificationError<'a>>;
 
@@ -28,9 +32,9 @@ type TheReply<'a> = Reply<Vec<u64>, AttributeVerificationError<'a>>;
 
 /// What is asked. Of a port's or a handle's node and number, the node comes first.
 #[derive(Clone, Copy)]
-enum Ask<'a> {
-    /// A node with the id N 0 0 0 opens the service.
-    Open(u32, &'a Opener),
+enum Ask<H = ()> {
+    /// A node with the id N 0 0 0 opens the service, as the opener of that place in `OPENERS`.
+    Open(u32, usize),
     Leave(u64),
     Die(u64),
     Cleanup(u64),
@@ -40,6 +44,9 @@ enum Ask<'a> {
     /// A node makes a port.
     Client(u64),
     Server(u64),
+    /// The same, with this strategy and this handler, if any.
+    MadeClient(u64, Option<BackpressureStrategy>, Option<H>),
+    MadeServer(u64, Option<BackpressureStrategy>, Option<H>),
     Loan(u64, u64),
     /// A loan is filled with this number.
     Write(u64, u64, u64),
@@ -70,7 +77,42 @@ enum Told<'a> {
     Words(&'a [u64]),
     Answer(bool),
     Listed(&'a [u64]),
-    Refused(TheRefusal<'a>),
+    Refused(Refusal<()>),
+    /// It is refused, since the service lacks this pair or this key.
+    NoPair(&'a str, &'a str),
+    NoKey(&'a str),
+}
+
+/// The refusal, if a row wants it. Any other one is that of attributes, which no row wants.
+fn plain(refusal: TheRefusal<'_>) -> Refusal<()> {
+    match refusal {
+        Refusal::UnknownNode => Refusal::UnknownNode,
+        Refusal::NodeIsDead => Refusal::NodeIsDead,
+        Refusal::NodeIsAlive => Refusal::NodeIsAlive,
+        Refusal::UnableToDeliver => Refusal::UnableToDeliver,
+        Refusal::MarkedForDestruction => Refusal::MarkedForDestruction,
+        Refusal::InvalidNodeId => Refusal::InvalidNodeId,
+        Refusal::NodeIdInUse => Refusal::NodeIdInUse,
+        Refusal::IncompatibleRequestTypes => Refusal::IncompatibleRequestTypes,
+        Refusal::IncompatibleResponseTypes => Refusal::IncompatibleResponseTypes,
+        Refusal::LimitTooLarge => Refusal::LimitTooLarge,
+        Refusal::ExceedsMaxNumberOfNodes => Refusal::ExceedsMaxNumberOfNodes,
+        Refusal::HasPorts => Refusal::HasPorts,
+        _ => Refusal::IncompatibleAttributes(()),
+    }
+}
+
+/// The same as it is told; a pair or a key by its text.
+fn refused<'a>(refusal: &TheRefusal<'a>) -> Told<'a> {
+    match refusal {
+        Refusal::IncompatibleAttributes(
+            AttributeVerificationError::IncompatibleAttribute(key, value),
+        ) => Told::NoPair(key.as_str(), value.as_str()),
+        Refusal::IncompatibleAttributes(AttributeVerificationError::NonExistingKey(key)) => {
+            Told::NoKey(key.as_str())
+        }
+        _ => Told::Refused(plain(*refusal)),
+    }
 }
 
 /// The reply, with its list lent.
@@ -86,119 +128,183 @@ fn lent<'a>(reply: &'a TheReply<'a>) -> Told<'a> {
         Reply::Words(words) => Told::Words(words.as_slice()),
         Reply::Answer(answer) => Told::Answer(*answer),
         Reply::Listed(numbers) => Told::Listed(numbers.as_slice()),
-        Reply::Refused(refusal) => Told::Refused(*refusal),
+        Reply::Refused(refusal) => refused(refusal),
     }
 }
 
 /// What is asked, and what is told.
-type Row<'a> = (Ask<'a>, Told<'a>);
+type Row<'a, H = ()> = (Ask<H>, Told<'a>);
 
-/// How a service is asked: by its calls, or by `run`.
+/// What is so behind some rows.
+#[derive(Clone, Copy)]
+enum Then<'a> {
+    Any,
+    Open,
+    Closed,
+    /// Nodes of these ids N 0 0 0 are registered, and no others.
+    Registered(&'a [u32]),
+    /// The service is open, and tells these ids of nodes, clients and servers.
+    Tells(listing::AllSeen),
+}
+
+/// Rows, and what is so behind them.
+type Part<'a, H = ()> = (&'a [Row<'a, H>], Then<'a>);
+
+/// How a service is asked: by its calls, by `try_serve`, or by `run`.
 #[derive(Clone, Copy)]
 enum Way {
     Called,
+    Tried,
     Ran,
 }
 
 /// Ends the test where a reply is not the wanted one.
-fn tells(rt: &impl Abort, reply: &TheReply<'_>, wanted: &Told<'_>) {
+fn tells(rt: &impl Abort, reply: &TheReply<'_>, wanted: Told<'_>) {
     let told = lent(reply);
-    assert_eq!(rt; told, *wanted);
+    assert_eq!(rt; told, wanted);
 }
 
-/// Asks by the calls, and ends the test where an answer is not the wanted one.
-fn calls(
-    rt: &impl Abort,
-    alloc: Global,
-    service: &mut TheService,
-    script: &[Row<'_>],
-) -> Result<(), AllocError> {
-    for (ask, wanted) in script {
-        let reply = asking::called(service, alloc, *ask)?;
-        tells(rt, &reply, wanted);
-        registered::as_many_as_listed(rt, alloc, service)?;
-    }
-    Ok(())
+/// The same of a reply that is let go then.
+fn is_told(rt: &impl Abort, reply: TheReply<'_>, wanted: Told<'_>) {
+    tells(rt, &reply, wanted);
 }
 
 /// Ends the test where replies are not the wanted ones.
 fn are(rt: &impl Abort, replies: &[TheReply<'_>], wanted: &[Told<'_>]) {
     equal(rt, replies.len(), wanted.len());
     for (reply, told) in replies.iter().zip(wanted.iter()) {
-        tells(rt, reply, told);
+        tells(rt, reply, *told);
     }
 }
 
 /// Ends the test where replies are not those of a script.
-fn are_of(rt: &impl Abort, replies: &[TheReply<'_>], script: &[Row<'_>]) {
+fn are_of<H: Backpressure>(rt: &impl Abort, replies: &[TheReply<'_>], script: &[Row<'_, H>]) {
     equal(rt, replies.len(), script.len());
     for (reply, (_, wanted)) in replies.iter().zip(script.iter()) {
-        tells(rt, reply, wanted);
+        tells(rt, reply, *wanted);
     }
+}
+
+/// Asks one after another, and ends the test where an answer is not the wanted one.
+fn calls<H: Backpressure>(
+    rt: &impl Abort,
+    alloc: Global,
+    service: &mut TheService<H>,
+    openers: &[Opener],
+    way: Way,
+    script: &[Row<'_, H>],
+) -> Result<(), AllocError> {
+    for (ask, wanted) in script {
+        let reply = asking::asked(service, alloc, openers, way, *ask)?;
+        is_told(rt, reply, *wanted);
+        registered::as_many_as_listed(rt, alloc, service)?;
+    }
+    Ok(())
 }
 
 /// The same by one `run`.
-fn runs(
+fn runs<H: Backpressure>(
     rt: &impl Abort,
     alloc: Global,
-    service: &mut TheService,
-    script: &[Row<'_>],
+    service: &mut TheService<H>,
+    openers: &[Opener],
+    script: &[Row<'_, H>],
 ) -> Result<(), AllocError> {
-    let replies = asking::ran(service, alloc, asking::commands(alloc, script)?)?;
+    let replies = asking::ran(service, alloc, openers, script)?;
     are_of(rt, &replies, script);
-    registered::as_many_as_listed(rt, alloc, service)
+    Ok(())
 }
 
 /// The same in this way.
-fn goes(
+fn goes<H: Backpressure>(
     rt: &impl Abort,
     alloc: Global,
-    service: &mut TheService,
+    service: &mut TheService<H>,
+    openers: &[Opener],
     way: Way,
-    script: &[Row<'_>],
+    script: &[Row<'_, H>],
 ) -> Result<(), AllocError> {
     match way {
-        Way::Called => calls(rt, alloc, service, script),
-        Way::Ran => runs(rt, alloc, service, script),
+        Way::Ran => {
+            runs(rt, alloc, service, openers, script)?;
+            registered::as_many_as_listed(rt, alloc, service)
+        }
+        _ => calls(rt, alloc, service, openers, way, script),
     }
 }
 
-/// The same. Then the service is closed, or is not.
-fn goes_until(
-    rt: &impl Abort,
-    alloc: Global,
-    service: &mut TheService,
-    way: Way,
-    script: &[Row<'_>],
-    is_closed: bool,
-) -> Result<(), Fail> {
-    goes(rt, alloc, service, way, script)?;
-    equal(rt, service.is_closed(), is_closed);
-    Ok(())
+/// Ends the test where this is not so.
+fn is_so<H: Backpressure>(rt: &impl Abort, service: &TheService<H>, then: Then<'_>) {
+    match then {
+        Then::Any => {}
+        Then::Open => equal(rt, service.is_closed(), false),
+        Then::Closed => equal(rt, service.is_closed(), true),
+        Then::Registered(wanted) => registered::are_registered(rt, service, wanted),
+        Then::Tells(wanted) => listing::are_told(rt, service, wanted),
+    }
 }
 
-/// The same of a new service with these settings and the attributes (a, 1) and (b, 2), whose node 0
-/// has id 1 0 0 0. It answers whether the service is closed in the end.
-fn ends(
+/// The same part by part. It answers whether the service is closed in the end.
+fn goes_on<H: Backpressure>(
     rt: &impl Abort,
     alloc: Global,
-    settings: Settings,
+    service: &mut TheService<H>,
+    openers: &[Opener],
     way: Way,
-    script: &[Row<'_>],
+    parts: &[Part<'_, H>],
 ) -> Result<bool, Fail> {
-    let mut service = starts::first(alloc, settings)?;
-    goes(rt, alloc, &mut service, way, script)?;
+    for (script, then) in parts {
+        goes(rt, alloc, service, openers, way, script)?;
+        is_so(rt, service, *then);
+    }
     Ok(service.is_closed())
 }
 
-/// The same in each way. They end alike.
-fn plays(
+/// The same of a new service with these settings and the attributes (a, 1) and (b, 2), whose node 0
+/// has id 1 0 0 0.
+fn plays_with<H: Backpressure>(
     rt: &impl Abort,
     alloc: Global,
     settings: Settings,
-    script: &[Row<'_>],
+    openers: &[Opener],
+    way: Way,
+    parts: &[Part<'_, H>],
+) -> Result<bool, Fail> {
+    let mut service = starts::first(alloc, settings)?;
+    goes_on(rt, alloc, &mut service, openers, way, parts)
+}
+
+/// The same by calls, and by `run`. They end alike.
+fn plays_both<H: Backpressure>(
+    rt: &impl Abort,
+    alloc: Global,
+    settings: Settings,
+    openers: &[Opener],
+    parts: &[Part<'_, H>],
 ) -> Result<(), Fail> {
-    let closed = ends(rt, alloc, settings, Way::Called, script)?;
-    equal(rt, ends(rt, alloc, settings, Way::Ran, script)?, closed);
+    let called = plays_with(rt, alloc, settings, openers, Way::Called, parts)?;
+    let ran = plays_with(rt, alloc, settings, openers, Way::Ran, parts)?;
+    equal(rt, ran, called);
     Ok(())
+}
+
+/// The same with all openers.
+fn plays_parts<H: Backpressure>(
+    rt: &impl Abort,
+    alloc: Global,
+    settings: Settings,
+    parts: &[Part<'_, H>],
+) -> Result<(), Fail> {
+    let openers = openers::openers(alloc)?;
+    plays_both(rt, alloc, settings, &openers, parts)
+}
+
+/// The same of one list.
+fn plays<H: Backpressure>(
+    rt: &impl Abort,
+    alloc: Global,
+    settings: Settings,
+    script: &[Row<'_, H>],
+) -> Result<(), Fail> {
+    plays_parts(rt, alloc, settings, &[(script, Then::Any)])
 }

@@ -1,29 +1,33 @@
-//! How a service is asked: by its calls, or by a command of `run`.
+//! How a service is asked: by its calls, by `try_serve`, or by commands of `run`.
 use super::starts::id;
-use super::{Ask, Row, TheRefusal, TheReply, TheService};
+use super::{Ask, Row, TheRefusal, TheReply, TheService, Way};
 use iceoryx2_wire::{
-    Command, Elements, Opener, PortCommand, PortOptions, Reply, UniqueNodeId, UniqueSystemId,
+    Backpressure, BackpressureStrategy, Command, Elements, Opener, PortCommand, PortOptions, Reply,
+    UniqueNodeId, UniqueSystemId,
 };
 use std::alloc::{AllocError, Global};
 
-/// A command; ports have no handlers.
-pub(super) type TheCommand<'a> = Command<Elements<u64, u64>, (), &'a Opener>;
+/// A command.
+pub(super) type TheCommand<'a, H> = Command<Elements<u64, u64>, H, &'a Opener>;
 
-type AtPort = PortCommand<Elements<u64, u64>, ()>;
-
-const OPTIONS: PortOptions<()> = PortOptions {
-    max_slice_len: 1,
-    pool: None,
-    strategy: None,
-    allocation: None,
-    loaned_responses: None,
-    handler: None,
-};
+type AtPort<H> = PortCommand<Elements<u64, u64>, H>;
 
 /// A node makes a port. The command gives another id, since the service gives the node's own.
-fn made(node: u64, client: bool) -> Option<AtPort> {
+fn made<H: Backpressure>(
+    node: u64,
+    client: bool,
+    strategy: Option<BackpressureStrategy>,
+    handler: Option<H>,
+) -> Option<AtPort<H>> {
     let id = UniqueNodeId::new(id(99)).ok()?;
-    let options = OPTIONS;
+    let options = PortOptions {
+        max_slice_len: 1,
+        pool: None,
+        strategy,
+        allocation: None,
+        loaned_responses: None,
+        handler,
+    };
     if client {
         return Some(PortCommand::Client { node, id, options });
     }
@@ -31,7 +35,7 @@ fn made(node: u64, client: bool) -> Option<AtPort> {
 }
 
 /// A number is written to a loan, or sent as a copy.
-fn carried(alloc: Global, ask: Ask<'_>) -> Result<Option<AtPort>, AllocError> {
+fn carried<H: Backpressure>(alloc: Global, ask: Ask<H>) -> Result<Option<AtPort<H>>, AllocError> {
     Ok(match ask {
         Ask::Write(node, number, value) => Some(PortCommand::Write {
             node,
@@ -53,10 +57,12 @@ fn carried(alloc: Global, ask: Ask<'_>) -> Result<Option<AtPort>, AllocError> {
 }
 
 /// A port is made, or what carries no number is asked of a port or a handle.
-fn at_port(ask: Ask<'_>) -> Option<AtPort> {
+fn at_port<H: Backpressure>(ask: Ask<H>) -> Option<AtPort<H>> {
     Some(match ask {
-        Ask::Client(node) => return made(node, true),
-        Ask::Server(node) => return made(node, false),
+        Ask::Client(node) => return made(node, true, None, None),
+        Ask::Server(node) => return made(node, false, None, None),
+        Ask::MadeClient(node, strategy, handler) => return made(node, true, strategy, handler),
+        Ask::MadeServer(node, strategy, handler) => return made(node, false, strategy, handler),
         Ask::Loan(node, number) => PortCommand::Loan {
             node,
             number,
@@ -75,18 +81,23 @@ fn at_port(ask: Ask<'_>) -> Option<AtPort> {
     })
 }
 
-/// The command that asks this.
-fn command(alloc: Global, ask: Ask<'_>) -> Result<TheCommand<'_>, AllocError> {
-    if let Some(command) = at_port(ask) {
-        return Ok(Command::Port(command));
+/// The opener of that place.
+fn opener(openers: &[Opener], place: usize) -> Result<&Opener, AllocError> {
+    match openers.get(place) {
+        Some(opener) => Ok(opener),
+        None => Err(AllocError),
     }
-    if let Some(command) = carried(alloc, ask)? {
-        return Ok(Command::Port(command));
-    }
+}
+
+/// What is asked of the service's nodes, or what lists.
+fn of_nodes<H: Backpressure>(
+    openers: &[Opener],
+    ask: Ask<H>,
+) -> Result<TheCommand<'_, H>, AllocError> {
     Ok(match ask {
-        Ask::Open(n, opener) => Command::Join {
+        Ask::Open(n, place) => Command::Join {
             id: id(n),
-            asked: opener,
+            asked: opener(openers, place)?,
         },
         Ask::Leave(node) => Command::Leave { node },
         Ask::Die(node) => Command::DeclareDead { node },
@@ -95,6 +106,21 @@ fn command(alloc: Global, ask: Ask<'_>) -> Result<TheCommand<'_>, AllocError> {
         Ask::Servers => Command::ListServers,
         _ => Command::ListNodes,
     })
+}
+
+/// The command that asks this.
+fn command<H: Backpressure>(
+    alloc: Global,
+    openers: &[Opener],
+    ask: Ask<H>,
+) -> Result<TheCommand<'_, H>, AllocError> {
+    if let Some(command) = at_port(ask) {
+        return Ok(Command::Port(command));
+    }
+    if let Some(command) = carried(alloc, ask)? {
+        return Ok(Command::Port(command));
+    }
+    of_nodes(openers, ask)
 }
 
 /// The reply to an open.
@@ -113,45 +139,62 @@ fn done(answer: Result<(), TheRefusal<'static>>) -> TheReply<'static> {
     }
 }
 
-fn opens<'a>(service: &mut TheService, id: UniqueSystemId, opener: &'a Opener) -> TheReply<'a> {
+fn opens<'a, H: Backpressure>(
+    service: &mut TheService<H>,
+    id: UniqueSystemId,
+    opener: &'a Opener,
+) -> TheReply<'a> {
     opened(service.open(&opener.types, &opener.verifier, id))
 }
 
-fn leaves(service: &mut TheService, node: u64) -> TheReply<'static> {
+fn leaves<H: Backpressure>(service: &mut TheService<H>, node: u64) -> TheReply<'static> {
     done(service.leave(node))
 }
 
-fn dies(service: &mut TheService, node: u64) -> TheReply<'static> {
+fn dies<H: Backpressure>(service: &mut TheService<H>, node: u64) -> TheReply<'static> {
     done(service.declare_dead(node))
 }
 
-fn is_cleaned_up(service: &mut TheService, node: u64) -> TheReply<'static> {
+fn is_cleaned_up<H: Backpressure>(service: &mut TheService<H>, node: u64) -> TheReply<'static> {
     done(service.cleanup(node))
 }
 
-fn calls_port(service: &mut TheService, alloc: Global, command: AtPort) -> TheReply<'static> {
+fn calls_port<H: Backpressure>(
+    service: &mut TheService<H>,
+    alloc: Global,
+    command: AtPort<H>,
+) -> TheReply<'static> {
     service.port(alloc, command)
 }
 
-pub(super) fn nodes(service: &TheService, alloc: Global) -> Result<Vec<u64>, AllocError> {
+pub(super) fn nodes<H: Backpressure>(
+    service: &TheService<H>,
+    alloc: Global,
+) -> Result<Vec<u64>, AllocError> {
     service.list_nodes(alloc)
 }
 
-fn clients(service: &TheService, alloc: Global) -> Result<Vec<u64>, AllocError> {
+fn clients<H: Backpressure>(
+    service: &TheService<H>,
+    alloc: Global,
+) -> Result<Vec<u64>, AllocError> {
     service.list_clients(alloc)
 }
 
-fn servers(service: &TheService, alloc: Global) -> Result<Vec<u64>, AllocError> {
+fn servers<H: Backpressure>(
+    service: &TheService<H>,
+    alloc: Global,
+) -> Result<Vec<u64>, AllocError> {
     service.list_servers(alloc)
 }
 
 /// Asks by the calls.
-pub(super) fn called<'a>(
-    service: &mut TheService,
+fn called<'a, H: Backpressure>(
+    service: &mut TheService<H>,
     alloc: Global,
-    ask: Ask<'a>,
+    command: TheCommand<'a, H>,
 ) -> Result<TheReply<'a>, AllocError> {
-    Ok(match command(alloc, ask)? {
+    Ok(match command {
         Command::Join { id, asked } => opens(service, id, asked),
         Command::Port(command) => calls_port(service, alloc, command),
         Command::Leave { node } => leaves(service, node),
@@ -163,25 +206,86 @@ pub(super) fn called<'a>(
     })
 }
 
-/// The commands that ask this.
-pub(super) fn commands<'a>(
+/// Asks by `try_serve`.
+fn tried<'a, H: Backpressure>(
+    service: &mut TheService<H>,
     alloc: Global,
-    script: &[Row<'a>],
-) -> Result<Vec<TheCommand<'a>>, AllocError> {
-    let mut commands = Vec::new(alloc);
-    for (ask, _) in script {
-        commands.push(command(alloc, *ask)?)?;
+    command: TheCommand<'a, H>,
+) -> Result<TheReply<'a>, AllocError> {
+    service.try_serve(alloc, command)
+}
+
+/// Asks this by itself: by `try_serve`, or by the calls.
+pub(super) fn asked<'a, H: Backpressure>(
+    service: &mut TheService<H>,
+    alloc: Global,
+    openers: &'a [Opener],
+    way: Way,
+    ask: Ask<H>,
+) -> Result<TheReply<'a>, AllocError> {
+    let command = command(alloc, openers, ask)?;
+    match way {
+        Way::Tried => tried(service, alloc, command),
+        _ => called(service, alloc, command),
     }
+}
+
+/// The command that asks this stands behind the others.
+fn adds<'a, H: Backpressure>(
+    alloc: Global,
+    openers: &'a [Opener],
+    ask: Ask<H>,
+    commands: &mut Vec<TheCommand<'a, H>>,
+) -> Result<(), AllocError> {
+    let command = command(alloc, openers, ask)?;
+    commands.push(command)?;
+    Ok(())
+}
+
+/// The same of each row.
+fn adds_all<'a, H: Backpressure>(
+    alloc: Global,
+    openers: &'a [Opener],
+    script: &[Row<'_, H>],
+    commands: &mut Vec<TheCommand<'a, H>>,
+) -> Result<(), AllocError> {
+    for (ask, _) in script {
+        adds(alloc, openers, *ask, commands)?;
+    }
+    Ok(())
+}
+
+/// The commands that ask this.
+fn commands<'a, H: Backpressure>(
+    alloc: Global,
+    openers: &'a [Opener],
+    script: &[Row<'_, H>],
+) -> Result<Vec<TheCommand<'a, H>>, AllocError> {
+    let mut commands = Vec::new(alloc);
+    adds_all(alloc, openers, script, &mut commands)?;
     Ok(commands)
 }
 
-/// The replies to a run of these commands.
-pub(super) fn ran<'a>(
-    service: &mut TheService,
+/// The replies to a run of these stand behind the others.
+pub(super) fn runs<'a, H: Backpressure>(
+    service: &mut TheService<H>,
     alloc: Global,
-    commands: Vec<TheCommand<'a>>,
+    openers: &'a [Opener],
+    script: &[Row<'_, H>],
+    replies: &mut Vec<TheReply<'a>>,
+) -> Result<(), AllocError> {
+    let commands = commands(alloc, openers, script)?;
+    service.run(alloc, commands, replies)
+}
+
+/// The replies to a run of these.
+pub(super) fn ran<'a, H: Backpressure>(
+    service: &mut TheService<H>,
+    alloc: Global,
+    openers: &'a [Opener],
+    script: &[Row<'_, H>],
 ) -> Result<Vec<TheReply<'a>>, AllocError> {
     let mut replies = Vec::new(alloc);
-    service.run(alloc, commands, &mut replies)?;
+    runs(service, alloc, openers, script, &mut replies)?;
     Ok(replies)
 }

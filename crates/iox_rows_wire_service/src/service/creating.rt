@@ -1,8 +1,8 @@
 //! Services that are made, and those that may not be.
 use super::asking::nodes;
 use super::openers::types;
-use super::starts::{SETTINGS, described, description, id, identity, new, with_nodes};
-use super::{TheRefusal, TheService};
+use super::starts::{SETTINGS, attributes, described, id, identity, new, with_nodes};
+use super::{TheService, plain};
 use crate::expected::{equal, holds};
 use iceoryx2_wire::{
     MessageTypes, Refusal, ServiceDescription, Settings, TypeDetail, TypeVariant, UniqueSystemId,
@@ -11,52 +11,77 @@ use std::alloc::{AllocError, Global};
 use std::process::Abort;
 use std::test::Fail;
 
+/// The description of a service of these types.
+fn description(types: MessageTypes) -> Result<ServiceDescription, Fail> {
+    let attributes = attributes()?;
+    Ok(ServiceDescription { types, attributes })
+}
+
 /// Why no service is made that is described as one of these types, if none is.
 fn refusal(
     alloc: Global,
     settings: Settings,
     types: MessageTypes,
     id: UniqueSystemId,
-) -> Result<Option<TheRefusal<'static>>, Fail> {
-    let attributes = description()?.attributes;
-    let description = ServiceDescription { types, attributes };
-    Ok(new(alloc, settings, identity()?, description, id).err())
+) -> Result<Option<Refusal<()>>, Fail> {
+    let identity = identity()?;
+    let description = description(types)?;
+    match new::<()>(alloc, settings, identity, description, id) {
+        Ok(_) => Ok(None),
+        Err(refusal) => Ok(Some(plain(refusal))),
+    }
 }
 
-/// Settings, whether requests and responses are of bytes, the process of a creator, and why no such
-/// service is made, if none is.
-type Made = (Settings, (bool, bool), u32, Option<TheRefusal<'static>>);
+/// How many nodes there may be, whether requests and responses are of bytes, the process of a
+/// creator, and why no such service is made, if none is.
+type Made = (u64, (bool, bool), u32, Option<Refusal<()>>);
 
 /// Ends the test where a service is refused for another reason, or is made.
+fn is_refused(rt: &impl Abort, alloc: Global, made: &Made) -> Result<(), Fail> {
+    let (nodes, (requests, responses), process, wanted) = *made;
+    let types = types(requests, responses)?;
+    let refused = refusal(alloc, with_nodes(nodes), types, id(process))?;
+    equal(rt, refused, wanted);
+    Ok(())
+}
+
+/// The same of each.
 fn are_refused(rt: &impl Abort, alloc: Global, list: &[Made]) -> Result<(), Fail> {
-    for (settings, (requests, responses), process, wanted) in list {
-        let types = types(*requests, *responses)?;
-        let refused = refusal(alloc, *settings, types, id(*process))?;
-        equal(rt, refused, *wanted);
+    for made in list {
+        is_refused(rt, alloc, made)?;
     }
     Ok(())
 }
 
+/// More nodes than there may be.
+const LARGE: u64 = 1 << 24;
+
+const MADE: &[Made] = &[
+    (LARGE, (true, true), 0, Some(Refusal::InvalidNodeId)),
+    (
+        LARGE,
+        (true, true),
+        1,
+        Some(Refusal::IncompatibleRequestTypes),
+    ),
+    (
+        LARGE,
+        (false, true),
+        1,
+        Some(Refusal::IncompatibleResponseTypes),
+    ),
+    (LARGE, (false, false), 1, Some(Refusal::LimitTooLarge)),
+    (20, (false, false), 1, None),
+];
+
 #[test]
 fn the_first_test_of_a_creator_that_fails_is_told(rt: HostRuntime) -> Result<(), Fail> {
-    let large = with_nodes(1 << 24);
-    let invalid = Some(Refusal::InvalidNodeId);
-    let request = Some(Refusal::IncompatibleRequestTypes);
-    let response = Some(Refusal::IncompatibleResponseTypes);
-    let limit = Some(Refusal::LimitTooLarge);
-    let list = [
-        (large, (true, true), 0, invalid),
-        (large, (true, true), 1, request),
-        (large, (false, true), 1, response),
-        (large, (false, false), 1, limit),
-        (SETTINGS, (false, false), 1, None),
-    ];
-    are_refused(&rt, rt.alloc(), &list)
+    are_refused(&rt, rt.alloc(), MADE)
 }
 
 /// The service's own types, but numbers of requests are aligned so.
 fn aligned(alignment: usize) -> Result<MessageTypes, Fail> {
-    let mut types = TheService::own_types()?;
+    let mut types = TheService::<()>::own_types()?;
     types.request.payload = TypeDetail::from_parts(TypeVariant::Dynamic, "u64", 8, alignment)?;
     Ok(types)
 }
@@ -66,7 +91,7 @@ fn is_aligned(
     rt: &impl Abort,
     alloc: Global,
     alignment: usize,
-    wanted: Option<TheRefusal<'static>>,
+    wanted: Option<Refusal<()>>,
 ) -> Result<(), Fail> {
     let refused = refusal(alloc, SETTINGS, aligned(alignment)?, id(1))?;
     equal(rt, refused, wanted);
@@ -111,18 +136,17 @@ fn has_first_node(rt: &impl Abort, alloc: Global, service: &TheService) -> Resul
     Ok(())
 }
 
-/// A service of these types.
-fn of_types(alloc: Global, types: MessageTypes) -> Result<TheService, Fail> {
-    let attributes = description()?.attributes;
-    described(alloc, SETTINGS, ServiceDescription { types, attributes })
+/// All of that, of a service whose numbers of requests are aligned to 16.
+fn says(rt: &impl Abort, alloc: Global, service: &TheService) -> Result<(), Fail> {
+    is_named(rt, service);
+    has_types(rt, service, &aligned(16)?);
+    has_first_node(rt, alloc, service)?;
+    shows(rt, alloc, service)?;
+    Ok(())
 }
 
 #[test]
 fn a_service_says_what_its_creator_gave(rt: HostRuntime) -> Result<(), Fail> {
-    let service = of_types(rt.alloc(), aligned(16)?)?;
-    is_named(&rt, &service);
-    has_types(&rt, &service, &aligned(16)?);
-    has_first_node(&rt, rt.alloc(), &service)?;
-    shows(&rt, rt.alloc(), &service)?;
-    Ok(())
+    let service = described(rt.alloc(), SETTINGS, aligned(16)?)?;
+    says(&rt, rt.alloc(), &service)
 }

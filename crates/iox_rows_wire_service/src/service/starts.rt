@@ -1,8 +1,9 @@
 //! Services to begin with.
 use super::{TheRefusal, TheService};
 use iceoryx2_wire::{
-    AllocationStrategy, AttributeKey, AttributeSpecifier, AttributeValue, BackpressureStrategy,
-    Defaults, ServiceDescription, ServiceIdentity, ServiceName, Settings, UniqueSystemId,
+    AllocationStrategy, AttributeKey, AttributeSpecifier, AttributeValue, Backpressure,
+    BackpressureStrategy, Defaults, MessageTypes, ServiceDescription, ServiceIdentity, ServiceName,
+    Settings, UniqueSystemId,
 };
 use std::alloc::Global;
 use std::test::Fail;
@@ -43,17 +44,24 @@ pub(super) fn id(process: u32) -> UniqueSystemId {
     }
 }
 
-/// The service's own types, and the attributes (a, 1) and (b, 2).
-pub(super) fn description() -> Result<ServiceDescription, Fail> {
+/// The attribute is defined.
+fn define(attributes: &mut AttributeSpecifier, key: &str, value: &str) -> Result<(), Fail> {
+    let (key, value) = (AttributeKey::new(key)?, AttributeValue::new(value)?);
+    attributes.try_define(&key, &value)?;
+    Ok(())
+}
+
+/// The attributes (a, 1) and (b, 2) are defined.
+fn define_both(attributes: &mut AttributeSpecifier) -> Result<(), Fail> {
+    define(attributes, "a", "1")?;
+    define(attributes, "b", "2")
+}
+
+/// These attributes.
+pub(super) fn attributes() -> Result<AttributeSpecifier, Fail> {
     let mut attributes = AttributeSpecifier::new();
-    for (key, value) in [("a", "1"), ("b", "2")] {
-        let (key, value) = (AttributeKey::new(key)?, AttributeValue::new(value)?);
-        attributes.try_define(&key, &value)?;
-    }
-    Ok(ServiceDescription {
-        types: TheService::own_types()?,
-        attributes,
-    })
+    define_both(&mut attributes)?;
+    Ok(attributes)
 }
 
 /// What a message holds at first.
@@ -69,13 +77,13 @@ pub(super) fn identity() -> Result<ServiceIdentity, Fail> {
 }
 
 /// A service with that description, or why it is refused.
-pub(super) fn new(
+pub(super) fn new<H: Backpressure>(
     alloc: Global,
     settings: Settings,
     identity: ServiceIdentity,
     description: ServiceDescription,
     id: UniqueSystemId,
-) -> Result<TheService, TheRefusal<'static>> {
+) -> Result<TheService<H>, TheRefusal<'static>> {
     TheService::create(
         alloc,
         settings,
@@ -87,19 +95,25 @@ pub(super) fn new(
     )
 }
 
-/// A service with this description, whose first node has the id 1 0 0 0.
-pub(super) fn described(
+/// A service of these types and these attributes, whose first node has the id 1 0 0 0.
+pub(super) fn described<H: Backpressure>(
     alloc: Global,
     settings: Settings,
-    description: ServiceDescription,
-) -> Result<TheService, Fail> {
-    match new(alloc, settings, identity()?, description, id(1)) {
+    types: MessageTypes,
+) -> Result<TheService<H>, Fail> {
+    let identity = identity()?;
+    let attributes = attributes()?;
+    let description = ServiceDescription { types, attributes };
+    match new(alloc, settings, identity, description, id(1)) {
         Ok(service) => Ok(service),
         Err(_) => Err(Fail::new("refused")),
     }
 }
 
-/// The same with the service's own types, and the attributes (a, 1) and (b, 2).
-pub(super) fn first(alloc: Global, settings: Settings) -> Result<TheService, Fail> {
-    described(alloc, settings, description()?)
+/// The same with the service's own types.
+pub(super) fn first<H: Backpressure>(
+    alloc: Global,
+    settings: Settings,
+) -> Result<TheService<H>, Fail> {
+    described(alloc, settings, TheService::<()>::own_types()?)
 }
