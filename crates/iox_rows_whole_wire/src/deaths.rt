@@ -112,7 +112,7 @@ fn turns(rt: &impl Abort, game: &mut Game, count: u32) -> Result<(), AllocError>
 }
 
 /// Two nodes die, or fewer, and what is left continues. Says how many died.
-fn goes_on(rt: &impl Abort, game: &mut Game) -> Result<usize, AllocError> {
+fn goes_on(rt: &impl Abort, game: &mut Game) -> Result<usize, Fail> {
     game.has_ports()?;
     game.deadly = Some(200);
     turns(rt, game, 700)?;
@@ -129,8 +129,7 @@ fn goes_on(rt: &impl Abort, game: &mut Game) -> Result<usize, AllocError> {
 /// The same on a new wire of that service.
 fn plays(rt: &(impl Abort + AllocGlobal), service: &Service, seed: u64) -> Result<usize, Fail> {
     let mut game = Game::new(rt.alloc(), *service, seed)?;
-    let deaths = goes_on(rt, &mut game)?;
-    Ok(deaths)
+    goes_on(rt, &mut game)
 }
 
 /// Ends the test where nodes are answered what they may not be, as others die in their calls.

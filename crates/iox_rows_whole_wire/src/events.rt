@@ -3,7 +3,7 @@ use super::on::{OVERFLOWING_ONES, opened};
 use super::play::{Act, Ask, plays};
 use super::told::Told;
 use crate::expected::{equal, holds};
-use iox_wire::{Event, Way, WireEvent};
+use iox_wire::{Event, Way, Wire, WireEvent};
 use std::process::Abort;
 use std::test::Fail;
 
@@ -181,14 +181,18 @@ struct Recording<'a> {
     wanted: &'a [WireEvent],
 }
 
-/// A new wire has recorded nothing, and plays the tables. Then it recorded these events, and no
-/// other.
+/// The wire has recorded nothing, and plays the tables. Then it recorded these events, and no other.
+fn goes(rt: &impl Abort, wire: &mut Wire, recording: &Recording<'_>) {
+    holds(rt, wire.events().is_empty());
+    plays(rt, wire, recording.name, recording.before);
+    plays(rt, wire, recording.name, recording.table);
+    equal(rt, wire.events(), recording.wanted);
+}
+
+/// The same on a new wire.
 fn records(rt: &(impl Abort + AllocGlobal), recording: &Recording<'_>) -> Result<(), Fail> {
     let mut wire = opened(rt.alloc(), *OVERFLOWING_ONES)?;
-    holds(rt, wire.events().is_empty());
-    plays(rt, &mut wire, recording.name, recording.before);
-    plays(rt, &mut wire, recording.name, recording.table);
-    equal(rt, wire.events(), recording.wanted);
+    goes(rt, &mut wire, recording);
     Ok(())
 }
 

@@ -333,7 +333,7 @@ impl Game {
 }
 
 /// Ends the test where nodes are answered what they may not be.
-fn play(rt: &impl Abort, game: &mut Game) -> Result<(), AllocError> {
+fn play(rt: &impl Abort, game: &mut Game) -> Result<(), Fail> {
     game.has_ports()?;
     for turn in 0..20_000 {
         game.turn(rt)?;
@@ -349,8 +349,7 @@ fn play(rt: &impl Abort, game: &mut Game) -> Result<(), AllocError> {
 /// The same on a new wire of that service.
 fn play_by(rt: &(impl Abort + AllocGlobal), service: &Service, chance: u64) -> Result<(), Fail> {
     let mut game = Game::new(rt.alloc(), *service, chance)?;
-    play(rt, &mut game)?;
-    Ok(())
+    play(rt, &mut game)
 }
 
 /// The same by four chances.

@@ -2,6 +2,7 @@
 use super::play::{Act, plays};
 use super::settings::{NO_FIRE_AND_FORGET, NO_OVERFLOW, OVERFLOW, Service};
 use super::{four, settings, units, wide};
+use crate::expected::holds;
 use iox_wire::Wire;
 use std::alloc::Global;
 use std::process::Abort;
@@ -58,11 +59,17 @@ pub(super) struct Play<'a> {
     pub(super) table: &'a [Act],
 }
 
-/// Plays that.
+/// Plays that on a wire, which has no finished calls before.
+fn goes(rt: &impl Abort, wire: &mut Wire, play: &Play<'_>) {
+    holds(rt, wire.replies().is_empty());
+    plays(rt, wire, play.name, play.before);
+    plays(rt, wire, play.name, play.table);
+}
+
+/// The same on a new wire.
 fn plays_on(rt: &(impl Abort + AllocGlobal), play: &Play<'_>) -> Result<(), Fail> {
     let mut wire = opened(rt.alloc(), *play.on)?;
-    plays(rt, &mut wire, play.name, play.before);
-    plays(rt, &mut wire, play.name, play.table);
+    goes(rt, &mut wire, play);
     Ok(())
 }
 

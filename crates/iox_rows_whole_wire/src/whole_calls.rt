@@ -58,7 +58,7 @@ fn may_die(wire: &mut Wire, chance: &mut Chance, dead: &mut [bool; 3]) {
 }
 
 /// A game of 400 turns. After each it may be that a node dies.
-fn goes(rt: &impl Abort, wire: &mut Wire, lists: &mut Lists, seed: u64) -> Result<(), AllocError> {
+fn goes(rt: &impl Abort, wire: &mut Wire, lists: &mut Lists, seed: u64) -> Result<(), Fail> {
     lists.begin()?;
     let mut chance = Chance::new(seed);
     let mut dead = [false; 3];
@@ -77,8 +77,7 @@ fn goes(rt: &impl Abort, wire: &mut Wire, lists: &mut Lists, seed: u64) -> Resul
 fn plays(rt: &(impl Abort + AllocGlobal), service: &Service, seed: u64) -> Result<(), Fail> {
     let mut wire = four::open(rt.alloc(), *service)?;
     let mut lists = Lists::new(rt.alloc(), *service);
-    goes(rt, &mut wire, &mut lists, seed)?;
-    Ok(())
+    goes(rt, &mut wire, &mut lists, seed)
 }
 
 /// Ends the test where a wire of that service answers another thing than the lists say.
