@@ -105,6 +105,11 @@ fn each_is_shown_by_its_name(rt: HostRuntime) -> Result<(), Fail> {
         (WireNewError::UnknownNode, "WireNewError::UnknownNode"),
         (WireNewError::NumberTaken, "WireNewError::NumberTaken"),
         (WireNewError::NumbersSpent, "WireNewError::NumbersSpent"),
+        (WireNewError::WrongHeader, "WireNewError::WrongHeader"),
+        (
+            WireNewError::UnsuitableAlignment,
+            "WireNewError::UnsuitableAlignment",
+        ),
     ];
     are_shown(&rt, ROWS)
 }

@@ -45,15 +45,15 @@ fn turn(
 }
 
 /// It may be that a node dies now.
-fn may_die(wire: &mut Wire, chance: &mut Chance, dead: &mut [bool; 3]) {
+fn may_die(rt: &impl Abort, wire: &mut Wire, chance: &mut Chance, dead: &mut [bool; 3]) {
     if chance.below(300) != 0 {
         return;
     }
     let node = chance.below(3);
-    if wire.declare_dead(node as u64).is_ok() {
-        if let Some(place) = dead.get_mut(node) {
-            *place = true;
-        }
+    let was = dead.get(node).copied().unwrap_or(true);
+    equal(rt, wire.declare_dead(node as u64).is_ok(), !was);
+    if let Some(place) = dead.get_mut(node) {
+        *place = true;
     }
 }
 
@@ -67,7 +67,7 @@ fn goes(rt: &impl Abort, wire: &mut Wire, lists: &mut Lists, seed: u64) -> Resul
         if turn(rt, wire, lists, &mut chance, &dead)? {
             made = made.saturating_add(1);
         }
-        may_die(wire, &mut chance, &mut dead);
+        may_die(rt, wire, &mut chance, &mut dead);
     }
     holds(rt, made > 100);
     Ok(())

@@ -4,7 +4,9 @@ use super::play::Act;
 use super::settings::{NO_OVERFLOW, OVERFLOW, Service, plan, terms};
 use super::told::Told;
 use crate::expected::equal;
-use iox_wire::{WirePlan, WireRefusal, have_layouts, is_plan, is_whole};
+use iox_model::kind::Role;
+use iox_types::{MessageTypeDetails, TypeDetail, TypeVariant};
+use iox_wire::{WireNewError, WirePlan, WireRefusal, have_layouts, is_plan, is_whole, new_refusal};
 use iox_wire_lenders::WireTerms;
 use std::process::Abort;
 use std::test::Fail;
@@ -43,6 +45,14 @@ const BEGIN_IS_REFUSED_BY_WHAT_IT_NAMES: Play<'static> = Play {
     ],
 };
 
+/// A part of a message.
+#[derive(Clone, Copy)]
+enum Part {
+    Header,
+    UserHeader,
+    Payload,
+}
+
 /// What is changed of a plan and its terms.
 #[derive(Clone, Copy)]
 enum Change {
@@ -58,8 +68,13 @@ enum Change {
     /// So do those of requests.
     ActiveRequests,
     RequestOverflow,
-    /// Requests have so many elements at most, for which a slot has so many words.
-    Longest(usize, usize),
+    /// Messages of the port of that number have so many elements at most, for which a slot has so
+    /// many words.
+    Longest(u64, usize, usize),
+    /// That part of the messages of that role has so many bytes, and is aligned so.
+    Part(Role, Part, usize, usize),
+    /// The first handles have that number.
+    FirstNumber(u64),
 }
 
 /// A change, or what holds of a plan and its terms.
@@ -69,6 +84,8 @@ enum Row {
     IsPlan(bool),
     IsWhole(bool),
     HaveLayouts(bool),
+    /// It is a plan, and no wire is made of it for that reason, or for none.
+    Refuses(Option<WireNewError>),
 }
 
 /// No port of that plan has a slot.
@@ -85,18 +102,28 @@ fn clear_numbers(plan: &mut WirePlan) {
     }
 }
 
-/// Requests of that plan have so many elements at most, for which a slot has so many words.
-fn lengthen(plan: &mut WirePlan, longest: usize, slot_words: usize) {
+/// Messages of the port of that number have so many elements at most, for which a slot has so many
+/// words.
+fn lengthen(plan: &mut WirePlan, number: u64, longest: usize, slot_words: usize) {
     for port in &mut plan.ports {
-        if port.number == 0 {
+        if port.number == number {
             port.longest = longest;
             port.slot_words = slot_words;
         }
     }
 }
 
+/// That part of the messages becomes this.
+fn put(details: &mut MessageTypeDetails, part: Part, detail: TypeDetail) {
+    match part {
+        Part::Header => details.header = detail,
+        Part::UserHeader => details.user_header = detail,
+        Part::Payload => details.payload = detail,
+    }
+}
+
 /// Changes that.
-fn changes(plan: &mut WirePlan, terms: &mut WireTerms, change: Change) {
+fn changes(plan: &mut WirePlan, terms: &mut WireTerms, change: Change) -> Result<(), Fail> {
     match change {
         Change::Pools => clear_pools(plan),
         Change::Numbers => clear_numbers(plan),
@@ -107,8 +134,19 @@ fn changes(plan: &mut WirePlan, terms: &mut WireTerms, change: Change) {
         Change::ResponseOverflow => plan.limits.response_overflow = false,
         Change::ActiveRequests => plan.limits.active_requests = 0,
         Change::RequestOverflow => plan.limits.request_overflow = false,
-        Change::Longest(longest, slot_words) => lengthen(plan, longest, slot_words),
+        Change::Longest(number, longest, slot_words) => {
+            lengthen(plan, number, longest, slot_words);
+        }
+        Change::Part(role, part, size, alignment) => {
+            let detail = TypeDetail::from_parts(TypeVariant::FixedSize, "P", size, alignment)?;
+            match role {
+                Role::Client => put(&mut plan.request, part, detail),
+                Role::Server => put(&mut plan.response, part, detail),
+            }
+        }
+        Change::FirstNumber(number) => terms.first_number = number,
     }
+    Ok(())
 }
 
 /// Whether the row says what is so of them.
@@ -118,6 +156,7 @@ fn tells(plan: &WirePlan, terms: &WireTerms, row: Row) -> bool {
         Row::IsPlan(wanted) => is_plan(plan) == wanted,
         Row::IsWhole(wanted) => is_whole(plan, terms) == wanted,
         Row::HaveLayouts(wanted) => have_layouts(plan) == wanted,
+        Row::Refuses(wanted) => is_plan(plan) && new_refusal(plan, terms, &[0, 1]) == wanted,
     }
 }
 
@@ -130,10 +169,15 @@ struct PlanRows<'a> {
 }
 
 /// Ends the test where a row does not tell what is so.
-fn tell(rt: &impl Abort, plan: &mut WirePlan, terms: &mut WireTerms, of: &PlanRows<'_>) {
+fn tell(
+    rt: &impl Abort,
+    plan: &mut WirePlan,
+    terms: &mut WireTerms,
+    of: &PlanRows<'_>,
+) -> Result<(), Fail> {
     for (place, row) in of.rows.iter().enumerate() {
         if let Row::Changes(change) = *row {
-            changes(plan, terms, change);
+            changes(plan, terms, change)?;
         }
         equal(
             rt,
@@ -141,14 +185,14 @@ fn tell(rt: &impl Abort, plan: &mut WirePlan, terms: &mut WireTerms, of: &PlanRo
             (of.name, place, true),
         );
     }
+    Ok(())
 }
 
 /// The same of a new plan.
 fn of_its_plan(rt: &(impl Abort + AllocGlobal), of: &PlanRows<'_>) -> Result<(), Fail> {
     let mut terms = terms(rt.alloc(), of.service)?;
     let mut plan = plan(rt.alloc(), of.service)?;
-    tell(rt, &mut plan, &mut terms, of);
-    Ok(())
+    tell(rt, &mut plan, &mut terms, of)
 }
 
 /// The same of each of these.
@@ -211,14 +255,93 @@ const REQUEST_OF_2_TO_THE_63_BYTES_HAS_NO_LAYOUT: PlanRows<'static> = PlanRows {
     rows: &[
         Row::HaveLayouts(true),
         // an element is a word, and 9 words are in front of it
-        Row::Changes(Change::Longest((1 << 60) - 10, (1 << 60) - 1)),
+        Row::Changes(Change::Longest(0, (1 << 60) - 10, (1 << 60) - 1)),
         Row::IsPlan(true),
         Row::HaveLayouts(true),
-        Row::Changes(Change::Longest((1 << 60) - 9, 1 << 60)),
+        Row::Changes(Change::Longest(0, (1 << 60) - 9, 1 << 60)),
         Row::IsPlan(true),
         Row::HaveLayouts(false),
     ],
 };
+
+const WRONG_HEADER: Option<WireNewError> = Some(WireNewError::WrongHeader);
+
+const UNSUITABLE_ALIGNMENT: Option<WireNewError> = Some(WireNewError::UnsuitableAlignment);
+
+/// All else that a caller can test of the plan is well. Numbers are told before a header.
+const MESSAGES_OF_ANOTHER_HEADER_ARE_REFUSED: PlanRows<'static> = PlanRows {
+    name: "messages_of_another_header_are_refused",
+    service: NO_OVERFLOW,
+    rows: &[
+        Row::Refuses(None),
+        // a word more than a request's
+        Row::Changes(Change::Part(Role::Client, Part::Header, 64, 8)),
+        Row::Changes(Change::Longest(0, 1, 11)),
+        Row::IsWhole(true),
+        Row::HaveLayouts(true),
+        Row::Refuses(WRONG_HEADER),
+        // a request with a response's
+        Row::Changes(Change::Part(Role::Client, Part::Header, 48, 8)),
+        Row::Changes(Change::Longest(0, 1, 9)),
+        Row::Refuses(WRONG_HEADER),
+        Row::Changes(Change::FirstNumber(1)),
+        Row::Refuses(Some(WireNewError::NumberTaken)),
+        Row::Changes(Change::FirstNumber(2)),
+        // none of another name is asked for
+        Row::Changes(Change::Part(Role::Client, Part::Header, 56, 8)),
+        Row::Changes(Change::Longest(0, 1, 10)),
+        Row::Refuses(None),
+        // a response with a request's
+        Row::Changes(Change::Part(Role::Server, Part::Header, 56, 8)),
+        Row::Changes(Change::Longest(1, 1, 10)),
+        Row::IsWhole(true),
+        Row::HaveLayouts(true),
+        Row::Refuses(WRONG_HEADER),
+        Row::Changes(Change::Part(Role::Server, Part::Header, 48, 8)),
+        Row::Changes(Change::Longest(1, 1, 9)),
+        Row::Refuses(None),
+    ],
+};
+
+/// Slots have the same words for it. A header is told before an alignment.
+const PARTS_THAT_ARE_ALIGNED_TO_4_BYTES_ARE_REFUSED: PlanRows<'static> = PlanRows {
+    name: "parts_that_are_aligned_to_4_bytes_are_refused",
+    service: NO_OVERFLOW,
+    rows: &[
+        Row::Changes(Change::Part(Role::Client, Part::Payload, 8, 4)),
+        Row::IsWhole(true),
+        Row::HaveLayouts(true),
+        Row::Refuses(UNSUITABLE_ALIGNMENT),
+        Row::Changes(Change::Part(Role::Client, Part::Payload, 8, 8)),
+        Row::Changes(Change::Part(Role::Client, Part::UserHeader, 0, 4)),
+        Row::Refuses(UNSUITABLE_ALIGNMENT),
+        Row::Changes(Change::Part(Role::Client, Part::UserHeader, 0, 8)),
+        Row::Changes(Change::Part(Role::Client, Part::Header, 56, 4)),
+        Row::Refuses(UNSUITABLE_ALIGNMENT),
+        Row::Changes(Change::Part(Role::Client, Part::Header, 56, 8)),
+        Row::Refuses(None),
+        Row::Changes(Change::Part(Role::Server, Part::Header, 48, 4)),
+        Row::Refuses(UNSUITABLE_ALIGNMENT),
+        Row::Changes(Change::Part(Role::Server, Part::Header, 48, 8)),
+        Row::Changes(Change::Part(Role::Server, Part::UserHeader, 0, 4)),
+        Row::Refuses(UNSUITABLE_ALIGNMENT),
+        Row::Changes(Change::Part(Role::Server, Part::UserHeader, 0, 8)),
+        Row::Changes(Change::Part(Role::Server, Part::Payload, 8, 4)),
+        Row::Refuses(UNSUITABLE_ALIGNMENT),
+        Row::Changes(Change::Part(Role::Server, Part::Header, 40, 8)),
+        Row::Changes(Change::Longest(1, 1, 8)),
+        Row::Refuses(WRONG_HEADER),
+    ],
+};
+
+#[test]
+fn plans_whose_messages_do_not_suit_are_refused(rt: HostRuntime) -> Result<(), Fail> {
+    const PLANS: &[PlanRows<'static>] = &[
+        MESSAGES_OF_ANOTHER_HEADER_ARE_REFUSED,
+        PARTS_THAT_ARE_ALIGNED_TO_4_BYTES_ARE_REFUSED,
+    ];
+    of_their_plans(&rt, PLANS)
+}
 
 #[test]
 fn plans_and_terms_are_whole_or_not(rt: HostRuntime) -> Result<(), Fail> {

@@ -12,6 +12,7 @@ pub mod Keeping
 pub mod OwnCalls
 pub mod Roomy
 pub mod HandleRooms
+pub mod SuitLemmas
 pub mod NewRefusals
 pub mod MayLend
 pub mod WireSteps

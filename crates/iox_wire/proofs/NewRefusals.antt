@@ -1,5 +1,5 @@
 -- What is known of a plan and its terms where no refusal is told: words and numbers are few, and so are the ways that a
--- call visits, and nodes and ports are named well.
+-- call visits, nodes and ports are named well, and messages suit the wire.
 use Rattle.std.specs.Prelude.{zero, suc, nat_le, nat_lt, not, ◌||◌, IsSomeAnd, slice_get, OnOk, Result, Ok, Err}
 use Rattle.std.specs.Option.{IsSome}
 use Rattle.std.specs.List.{All, list_any, sum_by}
@@ -9,7 +9,8 @@ use Rattle.std.proofs.lemmas.List.Elements.{All-cons, All-nil}
 use Rattle.std.proofs.lemmas.List.Sums.{sum_by-cons}
 use Rattle.std.proofs.lemmas.Nat.{mul-le}
 use Rattle.std.proofs.lemmas.Option.{none-some, slice_get-get_or}
-use Rattle.iox_model.specs.Maps.{AreDistinct, has_number}
+use Rattle.iox_laws.proofs.WeaveLaws.WholeLemmas.{or_else-none}
+use Rattle.iox_model.specs.Maps.{AreDistinct, has_number, or_else}
 use Rattle.iox_model.specs.declared.kind.Role.{Role}
 use Rattle.iox_model.specs.declared.kind.Role.TheVariants.{Client, Server}
 use Rattle.iox_model.specs.Settings.{has_layout, shape_of}
@@ -29,23 +30,36 @@ use Rattle.iox_word_places.specs.PortSums.{client_words, region_words}
 use Rattle.iox_wire_weaves.proofs.Planned.{each_planned}
 use Rattle.iox_word_places.proofs.PairLemmas.{one_of}
 use Rattle.iox_word_places.proofs.PlanLemmas.{number_is, there, total_by_each}
-use Rattle.iox_wire.specs.NewRefusals.{AreNamed, HaveLayouts, has_late_port, has_lost_port, has_twice, naming_refusal, new_refusal}
+use Rattle.iox_wire.specs.NewRefusals.{AreNamed, HaveLayouts, SuitsWire, has_late_port, has_lost_port, has_twice, message_refusal, naming_refusal, new_refusal}
 use Rattle.iox_wire.specs.declared.new_error.WireNewError.{WireNewError}
 use Rattle.iox_wire.specs.declared.new_error.WireNewError.TheVariants.{DuplicateNode, NumberTaken, NumbersSpent, TooManyWords, UnknownNode}
+use Rattle.iox_wire.proofs.SuitLemmas.{suits_if}
 
 -- ---- no refusal
 
 pub few_of_both : (plan : WirePlan) (terms : WireTerms) (nodes : List ℕ) → new_refusal plan terms nodes ≡ None
     → (total_words (sizes_of plan) < 2 ^ 63) × (terms.first_number < 2 ^ 63)
 few_of_both plan terms nodes =
-    by_case (total_words (sizes_of plan)) terms.first_number (naming_refusal plan terms nodes) (nat_lt (total_words (sizes_of plan)) (2 ^ 63))
-    (nat_lt terms.first_number (2 ^ 63)) refl refl
+    by_case (total_words (sizes_of plan)) terms.first_number (or_else (naming_refusal plan terms nodes) (message_refusal plan))
+    (nat_lt (total_words (sizes_of plan)) (2 ^ 63)) (nat_lt terms.first_number (2 ^ 63)) refl refl
   where
-    by_case : (words first : ℕ) (named : Option WireNewError) (a b : Bool) → nat_lt words (2 ^ 63) ≡ a → nat_lt first (2 ^ 63) ≡ b
-        → (if a then (if b then named else Some NumbersSpent) else Some TooManyWords) ≡ None → (words < 2 ^ 63) × (first < 2 ^ 63)
-    by_case words first named true true few low told = (ltb-true words (2 ^ 63) few, ltb-true first (2 ^ 63) low)
-    by_case words first named true false few high told = absurd (none-some NumbersSpent (sym told))
-    by_case words first named false b many is told = absurd (none-some TooManyWords (sym told))
+    by_case : (words first : ℕ) (rest : Option WireNewError) (a b : Bool) → nat_lt words (2 ^ 63) ≡ a → nat_lt first (2 ^ 63) ≡ b
+        → (if a then (if b then rest else Some NumbersSpent) else Some TooManyWords) ≡ None → (words < 2 ^ 63) × (first < 2 ^ 63)
+    by_case words first rest true true few low told = (ltb-true words (2 ^ 63) few, ltb-true first (2 ^ 63) low)
+    by_case words first rest true false few high told = absurd (none-some NumbersSpent (sym told))
+    by_case words first rest false b many is told = absurd (none-some TooManyWords (sym told))
+
+-- and none is told of names and of messages
+rest_is_well : (plan : WirePlan) (terms : WireTerms) (nodes : List ℕ) → new_refusal plan terms nodes ≡ None
+    → (naming_refusal plan terms nodes ≡ None) × (message_refusal plan ≡ None)
+rest_is_well plan terms nodes told =
+    or_else-none (naming_refusal plan terms nodes) (message_refusal plan)
+    (by_case (or_else (naming_refusal plan terms nodes) (message_refusal plan)) (nat_lt (total_words (sizes_of plan)) (2 ^ 63)) (nat_lt terms.first_number (2 ^ 63)) told)
+  where
+    by_case : (rest : Option WireNewError) (a b : Bool) → (if a then (if b then rest else Some NumbersSpent) else Some TooManyWords) ≡ None → rest ≡ None
+    by_case rest true true none = none
+    by_case rest true false none = absurd (none-some NumbersSpent (sym none))
+    by_case rest false b none = absurd (none-some TooManyWords (sym none))
 
 -- ---- nodes and ports
 
@@ -88,14 +102,11 @@ named_if plan terms nodes = by_case (has_twice nodes) (has_lost_port plan nodes)
 
 -- where no refusal is told, nodes and ports are named well
 pub are_named : (plan : WirePlan) (terms : WireTerms) (nodes : List ℕ) → new_refusal plan terms nodes ≡ None → AreNamed plan terms nodes
-are_named plan terms nodes told =
-    named_if plan terms nodes
-    (by_case (naming_refusal plan terms nodes) (nat_lt (total_words (sizes_of plan)) (2 ^ 63)) (nat_lt terms.first_number (2 ^ 63)) told)
-  where
-    by_case : (named : Option WireNewError) (a b : Bool) → (if a then (if b then named else Some NumbersSpent) else Some TooManyWords) ≡ None → named ≡ None
-    by_case named true true none = none
-    by_case named true false none = absurd (none-some NumbersSpent (sym none))
-    by_case named false b none = absurd (none-some TooManyWords (sym none))
+are_named plan terms nodes told = named_if plan terms nodes (rest_is_well plan terms nodes told).0
+
+-- and messages suit the wire
+pub suits_wire : (plan : WirePlan) (terms : WireTerms) (nodes : List ℕ) → new_refusal plan terms nodes ≡ None → SuitsWire plan
+suits_wire plan terms nodes told = suits_if plan (rest_is_well plan terms nodes told).1
 
 pub on_ok : {X E A B : Type 0} (result : Result X E) → (A → B) → OnOk result A → OnOk result B
 on_ok (Ok x) leads so = leads so

@@ -1,15 +1,19 @@
 -- Why no wire is made of a plan, its terms and a list of nodes, and whether messages have layouts.
-use Rattle.std.specs.Prelude.{◌≡◌, ℕ, ◌<◌, ◌^◌, nat_le, nat_lt, Bool, false, true, not, ◌||◌, List, [], ◌∷◌, length, Option, Some, None, IsSomeAnd, slice_get, if◌then◌else◌, codes}
+use Rattle.std.specs.Prelude.{◌≡◌, ℕ, ◌*◌, ◌<◌, ◌≤◌, ◌^◌, nat_le, nat_lt, Bool, false, true, not, ◌||◌, ◌==◌, List, [], ◌∷◌, length, Option, Some, None, IsSomeAnd, slice_get, if◌then◌else◌, codes}
 use Rattle.std.specs.List.{All, list_any}
 use Rattle.std.specs.Option.{IsSome}
-use Rattle.iox_model.specs.Maps.{AreDistinct, has_number}
+use Rattle.iox_model.specs.Maps.{AreDistinct, has_number, or_else}
+use Rattle.iox_model.specs.declared.kind.Role.{Role}
+use Rattle.iox_model.specs.declared.kind.Role.TheVariants.{Client, Server}
 use Rattle.iox_word_map.specs.WordMaps.{total_words}
 use Rattle.iox_types.specs.Layouts.{message_layout}
+use Rattle.iox_types.specs.declared.message_type_details.MessageTypeDetails.{MessageTypeDetails}
 use Rattle.iox_wire_weaves.specs.Plans.{details_of, sizes_of}
+use Rattle.iox_wire_weaves.specs.Stored.{header_length}
 use Rattle.iox_wire_weaves.specs.WirePlan.{WirePlan}
 use Rattle.iox_wire_weaves.specs.WireTerms.{WireTerms}
 use Rattle.iox_wire.specs.declared.new_error.WireNewError.{WireNewError}
-use Rattle.iox_wire.specs.declared.new_error.WireNewError.TheVariants.{DuplicateNode, NumberTaken, NumbersSpent, TooManyWords, UnknownNode, WantOfMemory}
+use Rattle.iox_wire.specs.declared.new_error.WireNewError.TheVariants.{DuplicateNode, NumberTaken, NumbersSpent, TooManyWords, UnknownNode, UnsuitableAlignment, WantOfMemory, WrongHeader}
 
 -- ---- which nodes and numbers there are
 
@@ -39,14 +43,45 @@ naming_refusal plan terms nodes =
     else (if has_lost_port plan nodes then Some UnknownNode
     else (if has_late_port plan terms.first_number then Some NumberTaken else None))
 
+-- ---- which messages suit a wire
+
+-- Each part is aligned to a word at least.
+pub record AreAlignedToWords (details : MessageTypeDetails) : Type 0 where
+  pub header : 8 ≤ details.header.alignment
+  pub user_header : 8 ≤ details.user_header.alignment
+  pub payload : 8 ≤ details.payload.alignment
+
+-- The headers of requests and of responses are as long as the wire's own, and each part of a message is aligned to a
+-- word at least.
+pub record SuitsWire (plan : WirePlan) : Type 0 where
+  pub headers : (role : Role) → (details_of plan role).header.size ≡ 8 * header_length role
+  pub aligned : (role : Role) → AreAlignedToWords (details_of plan role)
+
+-- whether the messages of that role have a header of another size
+abbrev pub has_wrong_header : WirePlan → Role → Bool
+has_wrong_header plan role = not ((details_of plan role).header.size == 8 * header_length role)
+
+-- whether a part of such messages is aligned to less than a word
+abbrev pub is_unsuitable : MessageTypeDetails → Bool
+is_unsuitable details =
+    nat_lt details.header.alignment 8
+    || (nat_lt details.user_header.alignment 8 || nat_lt details.payload.alignment 8)
+
+-- why messages do not suit, the first reason that applies
+abbrev pub message_refusal : WirePlan → Option WireNewError
+message_refusal plan =
+    if has_wrong_header plan Client || has_wrong_header plan Server then Some WrongHeader
+    else (if is_unsuitable plan.request || is_unsuitable plan.response then Some UnsuitableAlignment else None)
+
 -- ---- a wire
 
 -- Whatever memory there is, no wire is made that has 2^63 words or more, none that would number its handles
--- from 2^63 on or later, and none whose nodes and ports are not named so.
+-- from 2^63 on or later, none whose nodes and ports are not named so, and none whose messages do not suit.
 abbrev pub new_refusal : WirePlan → WireTerms → List ℕ → Option WireNewError
 new_refusal plan terms nodes =
     if nat_lt (total_words (sizes_of plan)) (2 ^ 63)
-    then (if nat_lt terms.first_number (2 ^ 63) then naming_refusal plan terms nodes else Some NumbersSpent)
+    then (if nat_lt terms.first_number (2 ^ 63)
+    then or_else (naming_refusal plan terms nodes) (message_refusal plan) else Some NumbersSpent)
     else Some TooManyWords
 
 -- ---- layouts
@@ -68,4 +103,6 @@ new_error_text NumbersSpent = codes "WireNewError::NumbersSpent"
 new_error_text DuplicateNode = codes "WireNewError::DuplicateNode"
 new_error_text UnknownNode = codes "WireNewError::UnknownNode"
 new_error_text NumberTaken = codes "WireNewError::NumberTaken"
+new_error_text WrongHeader = codes "WireNewError::WrongHeader"
+new_error_text UnsuitableAlignment = codes "WireNewError::UnsuitableAlignment"
 new_error_text WantOfMemory = codes "WireNewError::WantOfMemory"

@@ -17,6 +17,7 @@ mod reading;
 mod schedule;
 mod spans;
 mod stored_call;
+mod suiting;
 mod told;
 pub mod uses;
 mod wire;

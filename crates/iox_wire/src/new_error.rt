@@ -20,6 +20,11 @@ pub enum WireNewError {
     UnknownNode,
     /// A port of the plan has the number of the first handle, or a later one.
     NumberTaken,
+    /// The header of a request or of a response has another size than the wire's own: 7 words for
+    /// a request, and 6 for a response.
+    WrongHeader,
+    /// A part of a message is aligned to less than a word, 8 bytes.
+    UnsuitableAlignment,
     WantOfMemory,
 }
 
@@ -35,6 +40,8 @@ impl fmt::Display for WireNewError {
             WireNewError::DuplicateNode => "WireNewError::DuplicateNode",
             WireNewError::UnknownNode => "WireNewError::UnknownNode",
             WireNewError::NumberTaken => "WireNewError::NumberTaken",
+            WireNewError::WrongHeader => "WireNewError::WrongHeader",
+            WireNewError::UnsuitableAlignment => "WireNewError::UnsuitableAlignment",
             WireNewError::WantOfMemory => "WireNewError::WantOfMemory",
         })
     }

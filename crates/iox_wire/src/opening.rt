@@ -17,6 +17,7 @@ use crate::handle_room::handle_room;
 use crate::member::Member;
 use crate::naming::naming_refusal;
 use crate::new_error::WireNewError;
+use crate::suiting::message_refusal;
 use iox_model::kind::Role;
 use iox_wire_openings::open_node;
 use iox_wire_weaves::{StoredNode, WirePlan, WireTerms};
@@ -199,7 +200,8 @@ pub fn have_layouts(plan: &WirePlan) -> bool
 
 /// Why no wire is made of the plan, the terms and these nodes, whatever memory there is. The first
 /// that applies is told: too many words, that numbers are spent, a node that is listed twice, a
-/// port of none of the nodes, and a port that has the number of a handle.
+/// port of none of the nodes, a port that has the number of a handle, a header that is not the
+/// wire's own, and a part of a message that is aligned to less than a word.
 pub fn new_refusal(plan: &WirePlan, terms: &WireTerms, nodes: &[u64]) -> Option<WireNewError>
     requires { AreDistinct (port_numbers plan.now) }
     ensures { result ≡ new_refusal plan.now terms.now nodes.now }
@@ -213,5 +215,8 @@ pub fn new_refusal(plan: &WirePlan, terms: &WireTerms, nodes: &[u64]) -> Option<
     if terms.first_number >= MOST_NUMBERS {
         return Some(WireNewError::NumbersSpent);
     }
-    naming_refusal(plan, terms, nodes)
+    if let Some(refusal) = naming_refusal(plan, terms, nodes) {
+        return Some(refusal);
+    }
+    message_refusal(plan)
 }

@@ -11,7 +11,7 @@ ghost use Rattle.iox_model.specs.States.{State};
 ghost use Rattle.iox_wire_weaves.specs.Plans.{IsPlan};
 ghost use Rattle.iox_word_map.specs.WordMaps.{total_words};
 ghost use Rattle.iox_wire_weaves.specs.Plans.{sizes_of};
-ghost use Rattle.iox_wire.specs.NewRefusals.{AreNamed, new_refusal};
+ghost use Rattle.iox_wire.specs.NewRefusals.{AreNamed, SuitsWire, new_refusal};
 ghost use Rattle.iox_wire.specs.declared.new_error.WireNewError.TheVariants as new_errors;
 ghost use Rattle.iox_wire_weaves.specs.Tables.{Setting};
 ghost use Rattle.iox_wire_weaves.specs.declared.refusal.WireRefusal.TheVariants as refusals;
@@ -35,7 +35,7 @@ ghost use Rattle.iox_wire.specs.Replies.{finished_of};
 use crate::entry::WireEntry;
 use crate::finished::FinishedCall;
 use crate::new_error::WireNewError;
-use crate::opening::have_layouts;
+use crate::opening::{have_layouts, new_refusal};
 use crate::told::{ToldCall, ToldReply};
 use crate::wire::Wire;
 use iox_steps::Progress;
@@ -126,6 +126,21 @@ pub fn wire_that_is_not_named(
     Wire::new(alloc, plan, terms, nodes)
 }
 
+/// So are messages that do not suit a wire.
+pub fn wire_that_messages_do_not_suit(
+    alloc: Global,
+    plan: WirePlan,
+    terms: WireTerms,
+    nodes: &[u64],
+) -> Result<Wire, WireNewError>
+    requires plan { IsPlan plan }
+    requires whole { AreWhole plan terms }
+    requires unsuited { SuitsWire plan → ⊥ }
+    ensures always { OnOk result ⊥ }
+{
+    Wire::new(alloc, plan, terms, nodes)
+}
+
 /// Where a wire may open with a plan, each message has a layout.
 pub fn messages_have_layouts(plan: &WirePlan, terms: &WireTerms, nodes: &[u64]) -> bool
     requires plan { IsPlan plan.now }
@@ -133,6 +148,20 @@ pub fn messages_have_layouts(plan: &WirePlan, terms: &WireTerms, nodes: &[u64]) 
     ensures { IsTrue result }
 {
     have_layouts(plan)
+}
+
+/// And no wire is refused for its messages.
+pub fn refusal_where_a_wire_may_open(
+    plan: &WirePlan,
+    terms: &WireTerms,
+    nodes: &[u64],
+) -> Option<WireNewError>
+    requires plan { IsPlan plan.now }
+    requires opens { (p : Setting) × (s : State) × WireOpensOn plan.now terms.now nodes.now p s }
+    ensures header { result ≡ Some new_errors.WrongHeader → ⊥ }
+    ensures alignment { result ≡ Some new_errors.UnsuitableAlignment → ⊥ }
+{
+    new_refusal(plan, terms, nodes)
 }
 
 /// A living node dies: no refusal is left, and what the wire showed continues by that.

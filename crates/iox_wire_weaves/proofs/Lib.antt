@@ -15,6 +15,7 @@ pub mod HandleSums
 pub mod CallsSaid
 pub mod ReadsWithin
 pub mod Opened
+pub mod KeptSlots
 pub mod LivingDesks
 pub mod CountsTold
 -- what the crates above cite of those below

@@ -24,10 +24,9 @@ use Rattle.iox_wire_locals.specs.Known.{free_slots}
 use Rattle.iox_wire_locals.specs.Tables.{Setting}
 use Rattle.iox_wire_laws.specs.WireHolding.Aside.{shown_at}
 use Rattle.iox_wire_laws.specs.WireHolding.SlotsKnown.{IsPortOfSeat}
-use Rattle.iox_wire_laws.specs.WireKeeping.PoolSlots.{PoolFits, used_serial}
+use Rattle.iox_wire_laws.specs.WireKeeping.PoolSlots.{used_serial}
 use Rattle.iox_wire_laws.specs.WireKeeping.Records.{record_of, recorded_of, serials_on, slots_on}
 use Rattle.iox_wire_laws.specs.WireKeeping.UsedSlots.{PortFits, slots_used}
-use Rattle.iox_wire_laws.proofs.WireKeeping.SlotsFitted.{slots_are_fit}
 use Rattle.iox_wire_laws.proofs.WireSlots.Counting.{free_and_kept_are_the_pool}
 use Rattle.iox_wire_pools.specs.Uses.{UsesAreCounted}
 use Rattle.iox_wire_pools.proofs.FoundUses.{on_way}
@@ -37,6 +36,7 @@ use Rattle.iox_wire_needs.specs.Runs.{Run}
 use Rattle.iox_wire_needs.specs.Stands.{Player, seats_of}
 use Rattle.iox_wire_needs.specs.WireStands.{WireStands}
 use Rattle.iox_wire_weaves.specs.PortCounts.{TellsCounts, kept_count, outstanding_count, sends_on}
+use Rattle.iox_wire_weaves.proofs.KeptSlots.{pools_fit_what_is_kept}
 
 -- ---- lists
 
@@ -106,9 +106,6 @@ module _ (p : Setting) (words : List ℕ) (players : ℕ → Player) (r : Run) (
     fits : PortFits held s y port
     fits = stands.slots.ports port home
 
-    pool : PoolFits held y port (p.port port).pool
-    pool = stands.slots.pools port home
-
     pub used : UsesAreCounted y port (p.port port).pool
     used = stands.uses port home
 
@@ -121,7 +118,7 @@ module _ (p : Setting) (words : List ℕ) (players : ℕ → Player) (r : Run) (
     together : length (free_slots y port) + length (kept_in r.last port) ≡ (p.port port).pool
     together =
         free_and_kept_are_the_pool (p.port port).pool (used_serial held y port) (free_slots y port) (kept_in r.last port)
-        (slots_are_fit p held r.last y port (p.port port).pool counts (wire.stands.shows.doing n living) fits pool)
+        (pools_fit_what_is_kept p words players r n port wire living home)
 
     pub kept_is : kept_at used.desk ≡ length (kept_in r.last port)
     kept_is = rest (length used.desk.uses) (length used.desk.free) (length (kept_in r.last port)) (ap length (sym free_is)) together used.counts.words

@@ -1,8 +1,8 @@
 -- In reading order: how many messages ports keep and have outstanding; which calls are under way, when
 -- nodes died, and how many words of calls a wire keeps; what a wire is and when it shows a run of the
 -- machine; which node has a port, and which events are recorded; what a step and a death do to a wire, and
--- the begin of a call; the laws that it keeps showing a run; how many handles a node has at most; and that
--- desks tell how many messages ports keep and have outstanding.
+-- the begin of a call; the laws that it keeps showing a run; how many handles a node has at most; which
+-- slots have what a port keeps; and that desks tell how many messages ports keep and have outstanding.
 pub mod PortCounts
 pub mod Replies
 pub mod Wires
@@ -12,6 +12,7 @@ pub mod Steps
 pub mod Asking
 pub mod Laws
 pub mod HandleBounds
+pub mod KeptSlots
 pub mod CountLaws
 -- what the crates above cite of those below
 pub use Rattle.iox_wire_needs.specs.Copying

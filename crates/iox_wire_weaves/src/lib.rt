@@ -5,6 +5,7 @@
 ghost use Rattle.iox_wire_weaves.specs.CountLaws.{KeptIsTold, OutstandingIsTold};
 ghost use Rattle.iox_wire_weaves.specs.Events.{SlotsTellEvents};
 ghost use Rattle.iox_wire_weaves.specs.HandleBounds.{NodesHaveFewHandles};
+ghost use Rattle.iox_wire_weaves.specs.KeptSlots.{PoolsFitWhatIsKept};
 ghost use Rattle.iox_wire_weaves.specs.Laws.{BeginsShow, CallsAreSaid, DeathsShow, RefusalsAreShown};
 ghost use Rattle.iox_wire_weaves.specs.Laws.{HandlesStand, ReadsAreWithin};
 ghost use Rattle.iox_wire_weaves.specs.Laws.{NodesAreKnown, StepsAreSafe, StepsShow, WiresOpen};
@@ -66,6 +67,12 @@ pub fn handles_stand()
 /// A living node has no more handles than its ports may have together, wherever it is in its call.
 pub fn nodes_have_few_handles()
     ensures { NodesHaveFewHandles }
+{}
+
+/// The messages that a living node's port keeps are those in its slots in use, and all other slots
+/// of its pool are free.
+pub fn pools_fit_what_is_kept()
+    ensures { PoolsFitWhatIsKept }
 {}
 
 /// A read tells no more words than a message takes in its slot.
