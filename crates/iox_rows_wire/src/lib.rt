@@ -2,13 +2,7 @@
 #![tactic(auto)]
 
 #[cfg(test)]
-mod calls_on_words;
-#[cfg(test)]
 mod layouts;
-#[cfg(test)]
-mod node_calls;
-#[cfg(test)]
-mod seat_calls;
 #[cfg(test)]
 mod seat_loans;
 #[cfg(test)]

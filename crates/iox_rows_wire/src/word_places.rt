@@ -9,7 +9,7 @@ use iox_word_map::MessagePart;
 use std::alloc::Global;
 use std::test::Fail;
 
-pub(crate) const CLIENT: PlanPort = PlanPort {
+const CLIENT: PlanPort = PlanPort {
     number: 0,
     node: 0,
     role: Role::Client,
@@ -18,7 +18,7 @@ pub(crate) const CLIENT: PlanPort = PlanPort {
     slot_words: 10,
 };
 
-pub(crate) const SERVER: PlanPort = PlanPort {
+const SERVER: PlanPort = PlanPort {
     number: 1,
     node: 1,
     role: Role::Server,
@@ -28,10 +28,9 @@ pub(crate) const SERVER: PlanPort = PlanPort {
 };
 
 /// A client and a server where each setting is 1: requests of 10 words, responses of 9.
-pub(crate) fn all_ones(alloc: Global, waiting: usize) -> Result<WirePlan, Fail>
+fn all_ones(alloc: Global, waiting: usize) -> Result<WirePlan, Fail>
     ensures plan { IfOk result (λ plan. IsPlan plan) }
     ensures ports { IfOk result (λ plan. plan.ports.items ≡ CLIENT ∷ SERVER ∷ []) }
-    ensures header { IfOk result (λ plan. plan.request.header.size ≡ 56) }
 {
     let request = MessageTypeDetails::from::<RequestHeader, (), u64>(TypeVariant::FixedSize)?;
     let response = MessageTypeDetails::from::<ResponseHeader, (), u64>(TypeVariant::FixedSize)?;

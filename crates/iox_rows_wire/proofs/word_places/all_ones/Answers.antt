@@ -72,6 +72,3 @@ returns-clause-plan c =
       payload_size = ap (λ d. d.size) r.payload;
       payload_alignment = ap (λ d. d.alignment) r.payload;
     })
-
-pub returns-clause-header : goal.returns-clause-header
-returns-clause-header c = ap (λ d. d.size) c.in_ok-request.ensures.header
