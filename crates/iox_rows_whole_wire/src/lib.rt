@@ -68,8 +68,6 @@ mod units;
 #[cfg(test)]
 mod unnamed;
 #[cfg(test)]
-mod unsuited;
-#[cfg(test)]
 mod whole_calls;
 #[cfg(test)]
 mod wide;

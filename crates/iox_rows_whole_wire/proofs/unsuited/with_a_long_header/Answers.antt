@@ -1,8 +1,0 @@
-use Rattle.std.proofs.Common.{ap, arith}
-use Rattle.iox_model.specs.declared.kind.Role.TheVariants.{Client}
-use Rattle.iox_wire.proofs.NewRefusals.{suits_wire}
-use Rattle.iox_rows_whole_wire.proofs.unsuited.with_a_long_header.Goals as goal
-
-pub new-requires-clause-opens : goal.new-requires-clause-opens
-new-requires-clause-opens c none =
-    absurd (let suits = suits_wire _ _ _ none in let size = suits.headers Client in let long = ap (λ d. d.size) c.in_ok-from_parts.ensures.made in omega (arith, size, long))
