@@ -13,3 +13,4 @@ pub mod RoomLemmas
 pub mod FittingLemmas
 pub mod RemovalLemmas
 pub mod KindLemmas
+pub mod HeldLemmas

@@ -1,8 +1,8 @@
 //! The release of a handle.
-ghost use Rattle.std.specs.Prelude.{◌≡◌, IfSome, None, Some, false, option_map, true};
+ghost use Rattle.std.specs.Prelude.{◌≡◌, ◌<◌, IfSome, None, Some, false, option_map, true};
 ghost use Rattle.std.specs.Option.{option_and_then, option_map_or};
 ghost use Rattle.iox_tables.specs.HubStates.States.{Given, state_shown};
-ghost use Rattle.iox_tables.specs.HubStates.Tables.{PortState, labels_of, owner_of, port_in};
+ghost use Rattle.iox_tables.specs.HubStates.Tables.{PortState, labels_of, owner_of, port_in, slot_at};
 ghost use Rattle.iox_tables.specs.HubStates.Wirings.{handle_in};
 ghost use Rattle.iox_tables.specs.HubMaking.Disconnections.{with_released};
 ghost use Rattle.iox_model.specs.WholeCalls.{IsWholeCall};
@@ -70,6 +70,7 @@ fn give_up(control: &mut Control, entry: Entry, label: Label, owner: u64)
 /// pool.
 #[inline(always)]
 fn end_removed(control: &mut Control, entry: Entry) -> bool
+    requires { 0 < (slot_at control.old.tables.pools entry.pool entry.slot).holders }
     ensures left { control.new ≡ with_pools (with_tables control.old
         (given_up_as entry.kind control.old.tables (handle_state entry)))
         (with_slot let_go control.old.tables.pools entry.pool entry.slot) }
@@ -78,7 +79,7 @@ fn end_removed(control: &mut Control, entry: Entry) -> bool
         (port_in control.old.tables.ports entry.port) false ≡ true }
 {
     let left = control.leave_slot(entry.pool, entry.slot);
-    let goes = may_go(control.ports(), entry.port, left.idle);
+    let goes = may_go(control.ports(), entry.port, entry.at as usize, left.idle);
     give_up(control, entry, left.label, left.owner);
     goes
 }

@@ -44,6 +44,7 @@ fn become_pending(control: &mut Control, entry: Entry, hint: usize, count: u64)
         node: entry.node,
         number: entry.number,
         kind: Kind::PendingResponse,
+        at: entry.at,
         port: entry.port,
         pool: entry.pool,
         slot: entry.slot,

@@ -75,7 +75,7 @@ pub fn offer_response(
         → IsWholeCall (state_shown x control.old.tables) node (Send number)
         (reply_of_send result) (state_shown x t) }
 {
-    let label = control.label(entry.pool, entry.slot);
+    let label = control.label_of(entry.pool, entry.slot);
     let alone = has_one_out(control, entry.pool);
     let way = Way {
         sender: entry.port,

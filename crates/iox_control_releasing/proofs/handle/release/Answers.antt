@@ -1,9 +1,10 @@
-use Rattle.std.specs.Prelude.{◌≡◌, IfSome, false, refl, true}
+use Rattle.std.specs.Prelude.{◌≡◌, ◌<◌, IfSome, false, refl, true}
 use Rattle.std.specs.Option.{option_map_or}
 use Rattle.std.proofs.Common.{ap, subst, sym}
-use Rattle.iox_tables.specs.HubStates.Tables.{HubTables, port_in}
+use Rattle.iox_tables.specs.HubStates.Tables.{HubTables, port_in, slot_at}
 use Rattle.iox_control.specs.Controls.{ControlState}
 use Rattle.iox_control.specs.Entries.{handle_state}
+use Rattle.iox_control.proofs.HeldLemmas.{handle_holds}
 use Rattle.iox_control_releasing.specs.Goings.{ArePoolsThere}
 use Rattle.iox_control_releasing.proofs.Ended.{ended}
 use Rattle.iox_control_releasing.proofs.Kept.{kept_end}
@@ -13,6 +14,12 @@ use Rattle.iox_control_releasing.proofs.Tidy.{release_tidies}
 use Rattle.iox_control_releasing.proofs.HeldStays.{still_used}
 use Rattle.iox_control_releasing.proofs.Upped.{found_itself, named_if_found, released_left, then_left, then_room}
 use Rattle.iox_control_releasing.proofs.handle.release.Goals as goal
+
+pub end_removed-goes-requires : goal.end_removed-goes-requires
+end_removed-goes-requires c =
+    subst (λ (d : ControlState). 0 < (slot_at d.tables.pools c.in_ok-entry.entry.pool c.in_ok-entry.entry.slot).holders) (sym (c.in_ok-entry.ensures.dropped refl))
+    (handle_holds c.args.control.now.tables c.requires.order.order c.args.node c.args.number (handle_state c.in_ok-entry.entry)
+    (sym (found_itself c.args.kind _ c.in_ok-entry.entry c.in_ok-entry.ensures.found)))
 
 pub leave-place-requires-clause-order : goal.leave-place-requires-clause-order
 leave-place-requires-clause-order c =
