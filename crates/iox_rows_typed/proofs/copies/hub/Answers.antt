@@ -1,5 +1,5 @@
 use Rattle.std.specs.Prelude.{refl}
-use Rattle.iox_rows_typed.proofs.copies.numbers.Goals as goal
+use Rattle.iox_rows_typed.proofs.copies.hub.Goals as goal
 
 pub new-requires-clause-request : goal.new-requires-clause-request
 new-requires-clause-request c = record { header = (3, refl); user = (3, refl); element = (3, refl) }
