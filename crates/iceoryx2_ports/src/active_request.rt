@@ -56,14 +56,14 @@ pub struct ActiveRequest<Q, QH, P, PH> {
 
 impl<Q: Payload, QH: Words, P: Payload, PH: Words> ActiveRequest<Q, QH, P, PH> {
     /// The node's active request of that number.
-    pub(crate) fn new(node: u64, number: u64) -> Self
+    pub(crate) fn new(node: u64, number: u64, hint: usize) -> Self
         ensures node { result.node ≡ node }
         ensures number { result.number ≡ number }
     {
         ActiveRequest {
             node,
             number,
-            hint: usize::MAX,
+            hint,
             of: PhantomData,
         }
     }
@@ -163,6 +163,7 @@ impl<Q: Payload, QH: Words, P: Payload, PH: Words> ActiveRequest<Q, QH, P, PH> {
     }
 
     /// Whether the hub still has it.
+    #[inline(always)]
     pub fn exists<H: Backpressure>(&self, hub: &Hub<Q, QH, P, PH, H>) -> bool
         ensures { IsTrue result
             ↔ HasValue hub.now self.now.node self.now.number kinds.ActiveRequest }
@@ -220,7 +221,7 @@ impl<Q: Payload, QH: Words, E: Words, PH: Words> ActiveRequest<Q, QH, One<E>, PH
         ensures left { OnErr result (hub.new ≡ with_control hub.old hub.new.control) }
     {
         match lend_response(hub, self.node, self.number, self.hint, 1, true) {
-            Ok(number) => Ok(ResponseMutUninit::new(self.node, number)),
+            Ok(number) => Ok(ResponseMutUninit::new(self.node, number, hub.last_place())),
             Err(error) => Err(error),
         }
     }
@@ -259,7 +260,7 @@ impl<Q: Payload, QH: Words, E: Words, PH: Words> ActiveRequest<Q, QH, One<E>, PH
         ensures left { OnErr result (hub.new ≡ with_control hub.old hub.new.control) }
     {
         match lend_response(hub, self.node, self.number, self.hint, 1, false) {
-            Ok(number) => Ok(ResponseMut::new(self.node, number)),
+            Ok(number) => Ok(ResponseMut::new(self.node, number, hub.last_place())),
             Err(error) => Err(error),
         }
     }
@@ -300,7 +301,7 @@ impl<Q: Payload, QH: Words, E: Words, PH: Words> ActiveRequest<Q, QH, Many<E>, P
         ensures left { OnErr result (hub.new ≡ with_control hub.old hub.new.control) }
     {
         match lend_response(hub, self.node, self.number, self.hint, elements, true) {
-            Ok(number) => Ok(ResponseMutUninit::new(self.node, number)),
+            Ok(number) => Ok(ResponseMutUninit::new(self.node, number, hub.last_place())),
             Err(error) => Err(error),
         }
     }
@@ -340,7 +341,7 @@ impl<Q: Payload, QH: Words, E: Words, PH: Words> ActiveRequest<Q, QH, Many<E>, P
         ensures left { OnErr result (hub.new ≡ with_control hub.old hub.new.control) }
     {
         match lend_response(hub, self.node, self.number, self.hint, elements, false) {
-            Ok(number) => Ok(ResponseMut::new(self.node, number)),
+            Ok(number) => Ok(ResponseMut::new(self.node, number, hub.last_place())),
             Err(error) => Err(error),
         }
     }

@@ -46,18 +46,21 @@ mod send_copy;
 pub struct Client<Q, QH, P, PH> {
     node: u64,
     number: u64,
+    // Where the hub looks for it first. A wrong place is only slower.
+    place: usize,
     of: PhantomData<(Q, QH, P, PH)>,
 }
 
 impl<Q: Payload, QH: Words, P: Payload, PH: Words> Client<Q, QH, P, PH> {
     /// The node's client of that number.
-    pub(crate) fn new(node: u64, number: u64) -> Self
+    pub(crate) fn new(node: u64, number: u64, place: usize) -> Self
         ensures node { result.node ≡ node }
         ensures number { result.number ≡ number }
     {
         Client {
             node,
             number,
+            place,
             of: PhantomData,
         }
     }
@@ -108,10 +111,11 @@ impl<Q: Payload, QH: Words, P: Payload, PH: Words> Client<Q, QH, P, PH> {
     }
 
     /// Whether the hub still has it.
+    #[inline(always)]
     pub fn exists<H: Backpressure>(&self, hub: &Hub<Q, QH, P, PH, H>) -> bool
         ensures { IsTrue result ↔ HasValue hub.now self.now.node self.now.number kinds.Client }
     {
-        hub.has(self.node, self.number, Kind::Client, 0)
+        hub.has(self.node, self.number, Kind::Client, self.place)
     }
 
     /// Gives it up. Where the hub no longer has it, nothing changes.
@@ -121,6 +125,7 @@ impl<Q: Payload, QH: Words, P: Payload, PH: Words> Client<Q, QH, P, PH> {
         let Client {
             node,
             number,
+            place: _,
             of: _,
         } = self;
         release_port(hub, node, number, Kind::Client);
@@ -161,8 +166,8 @@ impl<E: Words, QH: Words, P: Payload, PH: Words> Client<One<E>, QH, P, PH> {
         ensures unchanged { IfErr result (λ error. error ≢ OutOfMemory → hub.new ≡ hub.old) }
         ensures left { OnErr result (hub.new ≡ with_control hub.old hub.new.control) }
     {
-        match lend_request(hub, self.node, self.number, 1, true) {
-            Ok(number) => Ok(RequestMutUninit::new(self.node, number)),
+        match lend_request(hub, self.node, self.number, self.place, 1, true) {
+            Ok(number) => Ok(RequestMutUninit::new(self.node, number, hub.last_place())),
             Err(error) => Err(error),
         }
     }
@@ -201,8 +206,8 @@ impl<E: Words, QH: Words, P: Payload, PH: Words> Client<One<E>, QH, P, PH> {
         ensures unchanged { IfErr result (λ error. error ≢ OutOfMemory → hub.new ≡ hub.old) }
         ensures left { OnErr result (hub.new ≡ with_control hub.old hub.new.control) }
     {
-        match lend_request(hub, self.node, self.number, 1, false) {
-            Ok(number) => Ok(RequestMut::new(self.node, number)),
+        match lend_request(hub, self.node, self.number, self.place, 1, false) {
+            Ok(number) => Ok(RequestMut::new(self.node, number, hub.last_place())),
             Err(error) => Err(error),
         }
     }
@@ -243,8 +248,8 @@ impl<E: Words, QH: Words, P: Payload, PH: Words> Client<Many<E>, QH, P, PH> {
         ensures unchanged { IfErr result (λ error. error ≢ OutOfMemory → hub.new ≡ hub.old) }
         ensures left { OnErr result (hub.new ≡ with_control hub.old hub.new.control) }
     {
-        match lend_request(hub, self.node, self.number, elements, true) {
-            Ok(number) => Ok(RequestMutUninit::new(self.node, number)),
+        match lend_request(hub, self.node, self.number, self.place, elements, true) {
+            Ok(number) => Ok(RequestMutUninit::new(self.node, number, hub.last_place())),
             Err(error) => Err(error),
         }
     }
@@ -284,8 +289,8 @@ impl<E: Words, QH: Words, P: Payload, PH: Words> Client<Many<E>, QH, P, PH> {
         ensures unchanged { IfErr result (λ error. error ≢ OutOfMemory → hub.new ≡ hub.old) }
         ensures left { OnErr result (hub.new ≡ with_control hub.old hub.new.control) }
     {
-        match lend_request(hub, self.node, self.number, elements, false) {
-            Ok(number) => Ok(RequestMut::new(self.node, number)),
+        match lend_request(hub, self.node, self.number, self.place, elements, false) {
+            Ok(number) => Ok(RequestMut::new(self.node, number, hub.last_place())),
             Err(error) => Err(error),
         }
     }

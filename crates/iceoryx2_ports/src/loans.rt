@@ -37,6 +37,7 @@ pub(crate) fn lend_request<Q: Payload, QH: Words, P: Payload, PH: Words, H: Back
     hub: &mut Hub<Q, QH, P, PH, H>,
     node: u64,
     client: u64,
+    place: usize,
     elements: usize,
     uninit: bool,
 ) -> Result<u64, LoanError>
@@ -65,7 +66,7 @@ pub(crate) fn lend_request<Q: Payload, QH: Words, P: Payload, PH: Words, H: Back
     ensures left { OnErr result (hub.new ≡ with_control hub.old hub.new.control) }
 {
     hub.is_in_order();
-    match iox_hub_laws::lend_request(hub, node, client, elements, uninit) {
+    match iox_hub_laws::lend_request(hub, node, client, place, elements, uninit) {
         Lent::Handle(loan) => {
             hub.is_in_order();
             Ok(loan.number)

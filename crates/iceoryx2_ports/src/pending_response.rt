@@ -51,7 +51,7 @@ pub struct PendingResponse<Q, QH, P, PH> {
 
 impl<Q: Payload, QH: Words, P: Payload, PH: Words> PendingResponse<Q, QH, P, PH> {
     /// The node's pending response of that number, whose request went to so many servers.
-    pub(crate) fn new(node: u64, number: u64, servers: u64) -> Self
+    pub(crate) fn new(node: u64, number: u64, hint: usize, servers: u64) -> Self
         ensures node { result.node ≡ node }
         ensures number { result.number ≡ number }
         ensures servers { result.servers ≡ servers }
@@ -59,7 +59,7 @@ impl<Q: Payload, QH: Words, P: Payload, PH: Words> PendingResponse<Q, QH, P, PH>
         PendingResponse {
             node,
             number,
-            hint: usize::MAX,
+            hint,
             servers,
             of: PhantomData,
         }
@@ -112,7 +112,9 @@ impl<Q: Payload, QH: Words, P: Payload, PH: Words> PendingResponse<Q, QH, P, PH>
     {
         hub.is_in_order();
         match receive_response(hub, self.node, self.number, self.hint) {
-            Received::Handle(number) => Ok(Some(Response::new(self.node, number))),
+            Received::Handle(number) => {
+                Ok(Some(Response::new(self.node, number, hub.last_place())))
+            }
             Received::Nothing => Ok(None),
             Received::AtLimit => Err(ReceiveError::ExceedsMaxBorrows),
         }
@@ -200,6 +202,7 @@ impl<Q: Payload, QH: Words, P: Payload, PH: Words> PendingResponse<Q, QH, P, PH>
     }
 
     /// Whether the hub still has it.
+    #[inline(always)]
     pub fn exists<H: Backpressure>(&self, hub: &Hub<Q, QH, P, PH, H>) -> bool
         ensures { IsTrue result
             ↔ HasValue hub.now self.now.node self.now.number kinds.PendingResponse }

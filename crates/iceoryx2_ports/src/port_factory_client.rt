@@ -172,7 +172,7 @@ impl<Q: Payload, QH: Words, P: Payload, PH: Words, H: Backpressure> PortFactoryC
         ) {
             Ok(number) => {
                 hub.is_in_order();
-                Ok(Client::new(self.node, number))
+                Ok(Client::new(self.node, number, hub.place_of(number)))
             }
             Err(NotMade::PortTag) => Err(ClientCreateError::UnableToCreatePortTag),
             Err(NotMade::DataSegment) => Err(ClientCreateError::UnableToCreateDataSegment),

@@ -179,7 +179,7 @@ impl<Q: Payload, QH: Words, P: Payload, PH: Words, H: Backpressure> PortFactoryS
             self.options,
             self.handler,
         ) {
-            Ok(number) => Ok(Server::new(self.node, number)),
+            Ok(number) => Ok(Server::new(self.node, number, hub.place_of(number))),
             Err(NotMade::PortTag) => Err(ServerCreateError::UnableToCreatePortTag),
             Err(NotMade::DataSegment) => Err(ServerCreateError::UnableToCreateDataSegment),
             Err(NotMade::TooManyPorts) => Err(ServerCreateError::ExceedsMaxSupportedServers),

@@ -35,14 +35,14 @@ pub struct Response<Q, QH, P, PH> {
 
 impl<Q: Payload, QH: Words, P: Payload, PH: Words> Response<Q, QH, P, PH> {
     /// The node's response of that number.
-    pub(crate) fn new(node: u64, number: u64) -> Self
+    pub(crate) fn new(node: u64, number: u64, hint: usize) -> Self
         ensures node { result.node ≡ node }
         ensures number { result.number ≡ number }
     {
         Response {
             node,
             number,
-            hint: usize::MAX,
+            hint,
             of: PhantomData,
         }
     }
@@ -116,6 +116,7 @@ impl<Q: Payload, QH: Words, P: Payload, PH: Words> Response<Q, QH, P, PH> {
     }
 
     /// Whether the hub still has it.
+    #[inline(always)]
     pub fn exists<H: Backpressure>(&self, hub: &Hub<Q, QH, P, PH, H>) -> bool
         ensures { IsTrue result ↔ HasValue hub.now self.now.node self.now.number kinds.Response }
     {

@@ -64,14 +64,14 @@ pub struct ResponseMut<Q, QH, P, PH> {
 
 impl<Q: Payload, QH: Words, P: Payload, PH: Words> ResponseMutUninit<Q, QH, P, PH> {
     /// The node's unfilled response of that number.
-    pub(crate) fn new(node: u64, number: u64) -> Self
+    pub(crate) fn new(node: u64, number: u64, hint: usize) -> Self
         ensures node { result.node ≡ node }
         ensures number { result.number ≡ number }
     {
         ResponseMutUninit {
             node,
             number,
-            hint: usize::MAX,
+            hint,
             of: PhantomData,
         }
     }
@@ -144,6 +144,7 @@ impl<Q: Payload, QH: Words, P: Payload, PH: Words> ResponseMutUninit<Q, QH, P, P
     }
 
     /// Whether the hub still has it.
+    #[inline(always)]
     pub fn exists<H: Backpressure>(&self, hub: &Hub<Q, QH, P, PH, H>) -> bool
         ensures { IsTrue result
             ↔ HasValue hub.now self.now.node self.now.number kinds.ResponseMutUninit }
@@ -197,9 +198,7 @@ impl<Q: Payload, QH: Words, E: Words, PH: Words> ResponseMutUninit<Q, QH, One<E>
             of,
         } = self;
         response_has_one(hub, node, number);
-        let Written::Done(_) = hub.write_response(node, number, hint, &[value]) else {
-            unreachable!();
-        };
+        hub.write_one_response(node, number, hint, value);
         ResponseMut {
             node,
             number,
@@ -211,14 +210,14 @@ impl<Q: Payload, QH: Words, E: Words, PH: Words> ResponseMutUninit<Q, QH, One<E>
 
 impl<Q: Payload, QH: Words, P: Payload, PH: Words> ResponseMut<Q, QH, P, PH> {
     /// The node's filled response of that number.
-    pub(crate) fn new(node: u64, number: u64) -> Self
+    pub(crate) fn new(node: u64, number: u64, hint: usize) -> Self
         ensures node { result.node ≡ node }
         ensures number { result.number ≡ number }
     {
         ResponseMut {
             node,
             number,
-            hint: usize::MAX,
+            hint,
             of: PhantomData,
         }
     }
@@ -310,6 +309,7 @@ impl<Q: Payload, QH: Words, P: Payload, PH: Words> ResponseMut<Q, QH, P, PH> {
     }
 
     /// Whether the hub still has it.
+    #[inline(always)]
     pub fn exists<H: Backpressure>(&self, hub: &Hub<Q, QH, P, PH, H>) -> bool
         ensures { IsTrue result ↔ HasValue hub.now self.now.node self.now.number kinds.ResponseMut }
     {

@@ -41,18 +41,21 @@ use std::marker::PhantomData;
 pub struct Server<Q, QH, P, PH> {
     node: u64,
     number: u64,
+    // Where the hub looks for it first. A wrong place is only slower.
+    place: usize,
     of: PhantomData<(Q, QH, P, PH)>,
 }
 
 impl<Q: Payload, QH: Words, P: Payload, PH: Words> Server<Q, QH, P, PH> {
     /// The node's server of that number.
-    pub(crate) fn new(node: u64, number: u64) -> Self
+    pub(crate) fn new(node: u64, number: u64, place: usize) -> Self
         ensures node { result.node ≡ node }
         ensures number { result.number ≡ number }
     {
         Server {
             node,
             number,
+            place,
             of: PhantomData,
         }
     }
@@ -96,8 +99,10 @@ impl<Q: Payload, QH: Words, P: Payload, PH: Words> Server<Q, QH, P, PH> {
         ensures requests { KeepsRequests hub.old hub.new }
     {
         hub.is_in_order();
-        match receive_request(hub, self.node, self.number) {
-            Received::Handle(number) => Ok(Some(ActiveRequest::new(self.node, number))),
+        match receive_request(hub, self.node, self.number, self.place) {
+            Received::Handle(number) => {
+                Ok(Some(ActiveRequest::new(self.node, number, hub.last_place())))
+            }
             Received::Nothing => Ok(None),
             Received::AtLimit => Err(ReceiveError::ExceedsMaxBorrows),
         }
@@ -163,10 +168,11 @@ impl<Q: Payload, QH: Words, P: Payload, PH: Words> Server<Q, QH, P, PH> {
     }
 
     /// Whether the hub still has it.
+    #[inline(always)]
     pub fn exists<H: Backpressure>(&self, hub: &Hub<Q, QH, P, PH, H>) -> bool
         ensures { IsTrue result ↔ HasValue hub.now self.now.node self.now.number kinds.Server }
     {
-        hub.has(self.node, self.number, Kind::Server, 0)
+        hub.has(self.node, self.number, Kind::Server, self.place)
     }
 
     /// Gives it up. Where the hub no longer has it, nothing changes.
@@ -176,6 +182,7 @@ impl<Q: Payload, QH: Words, P: Payload, PH: Words> Server<Q, QH, P, PH> {
         let Server {
             node,
             number,
+            place: _,
             of: _,
         } = self;
         release_port(hub, node, number, Kind::Server);

@@ -1,8 +1,9 @@
 -- What is found, dropped and changed in the table of handles by number only is so by node and number.
-use Rattle.std.specs.Prelude.{◌≡◌, ℕ, Bool, true, false, not, ◌&&◌, ◌||◌, ◌==◌, if◌then◌else◌, List, [], ◌∷◌, ◌++◌, map, filter, find, Option, Some, None, refl}
+use Rattle.std.specs.Prelude.{◌≡◌, ℕ, Bool, true, false, not, ◌&&◌, ◌||◌, ◌==◌, if◌then◌else◌, List, [], ◌∷◌, ◌++◌, map, filter, find, Option, Some, None, is_some, refl}
 use Rattle.std.specs.List.{list_any}
 use Rattle.std.specs.Option.{option_and_then, option_map}
 use Rattle.std.proofs.Common.{sym, ap, subst, ◌∙◌, true≢false, eqb-true, eq-eqb}
+use Rattle.std.proofs.lemmas.Bool.{false≢true}
 use Rattle.std.proofs.lemmas.Option.{none-some, same_Some}
 use Rattle.iox_handles.specs.declared.entry.Entry.{Entry}
 use Rattle.iox_model.specs.Maps.{has_number, AreDistinct}
@@ -247,3 +248,22 @@ node_numbers (h ∷ hs) node = by_case (h.node == node) (node_numbers hs node)
         ≡ map (λ (g : HandleState). g.number) (if b then handle_state h ∷ filter (λ g. g.node == node) (map handle_state hs) else filter (λ g. g.node == node) (map handle_state hs))
     by_case true same = ap (λ ns. h.number ∷ ns) same
     by_case false same = same
+
+-- ---- a handle that the node has
+
+-- a handle of that number is in the table
+pub known_at : (t : Contents) (node n : ℕ) → is_some (handle_in (handles_of t) node n) ≡ true → is_some (handle_at t n) ≡ true
+known_at t node n has = by_case (handle_at t n) refl
+  where
+    by_case : (o : Option Entry) → handle_at t n ≡ o → is_some o ≡ true
+    by_case None e = absurd (false≢true (ap (λ (q : Option HandleState). is_some q) (entry_none t node n (sym e)) ∙ has))
+    by_case (Some h) e = refl
+
+-- and it is the node's
+pub known_of : (t : Contents) (node n : ℕ) (e : Entry) → IsSound t → Some e ≡ handle_at t n → is_some (handle_in (handles_of t) node n) ≡ true
+    → Some (handle_state e) ≡ handle_in (handles_of t) node n
+known_of t node n e sound at has = by_case (e.node == node) refl
+  where
+    by_case : (b : Bool) → (e.node == node) ≡ b → Some (handle_state e) ≡ handle_in (handles_of t) node n
+    by_case true is = entry_some t node n e at (eqb-true e.node node is)
+    by_case false is = absurd (false≢true (ap (λ (q : Option HandleState). is_some q) (sym (none_of_node t node n e sound (sym at) is)) ∙ has))

@@ -13,3 +13,7 @@ pub mod RoomLemmas
 pub mod FittingLemmas
 pub mod RemovalLemmas
 pub mod KindLemmas
+pub mod HeldLemmas
+pub mod InPlaceLemmas
+mod Closings
+pub mod Swaps

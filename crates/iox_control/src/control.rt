@@ -1,12 +1,12 @@
 //! The tables of a hub.
-ghost use Rattle.std.specs.Prelude.{◌≡◌, ◌+◌, ◌-◌, ◌<◌, ◌^◌, IfOk, false, map};
+ghost use Rattle.std.specs.Prelude.{◌≡◌, ◌+◌, ◌-◌, ◌<◌, ◌^◌, IfOk, IfSome, Some, false, is_some, map, true};
 ghost use Rattle.iox_control.specs.Settings.{settings_of};
 ghost use Rattle.iox_hub_ports.specs.HubStates.States.{Given, limits_of, state_shown};
 ghost use Rattle.iox_model.specs.Runs.{at_rest, raised, untouched};
 ghost use Rattle.iox_model.specs.Settings.{Limits};
 ghost use Rattle.iox_hub_ports.specs.HubStates.Ends.{with_call};
 ghost use Rattle.iox_hub_ports.specs.HubStates.Receives.{got_handle, visits_at, wanted_by_server, with_visited};
-ghost use Rattle.iox_hub_ports.specs.HubStates.Tables.{labels_of, port_in, slot_at};
+ghost use Rattle.iox_hub_ports.specs.HubStates.Tables.{labels_of, pool_at, port_in, slot_at};
 ghost use Rattle.iox_hub_ports.specs.HubStates.Asks.{waits_for};
 ghost use Rattle.iox_hub_ports.specs.HubStates.Changes.{with_states};
 ghost use Rattle.iox_hub_ports.specs.HubStates.Wirings.{numbers_of_role};
@@ -14,13 +14,13 @@ ghost use Rattle.iox_model.specs.Messages.{hinted_for, response_way};
 ghost use Rattle.iox_model.specs.declared.kind.Role.TheVariants.{Server};
 ghost use Rattle.iox_hub_ports.specs.HubStates.Wirings.{handle_in};
 ghost use Rattle.std.specs.Option.{option_map, option_map_or};
-ghost use Rattle.iox_slots.specs.Pools.{with_slot};
+ghost use Rattle.iox_slots.specs.Pools.{has_slot, with_slot};
 ghost use Rattle.iox_slots.specs.Slots.{held};
 ghost use Rattle.iox_control.specs.Controls.{ControlState, HaveBuffers, IsControl, new_control, with_got, with_handle, with_tables};
 ghost use Rattle.iox_control.specs.Entries.{handle_state};
 
 use crate::settings::Settings;
-use iox_handles::{Entry, Table};
+use iox_handles::{Entry, Table, kept_place};
 use iox_hub_ports::ports::Ports;
 use iox_lanes::incoming::Visits;
 use iox_lanes::wanted::{Label, Labels, Wanted};
@@ -39,6 +39,8 @@ pub struct Control {
     pub(crate) ports_made: u64,
     pub(crate) ports: Ports,
     pub(crate) handles: Table,
+    // Where the handle that came last is.
+    pub(crate) last_place: usize,
     pub(crate) pools: Pools,
 }
 
@@ -69,11 +71,13 @@ impl Control {
             ports_made: 0,
             ports: Ports::new(alloc, 0)?,
             handles: Table::new(alloc, 0)?,
+            last_place: 0,
             pools: Pools::new(alloc),
         })
     }
 
     /// The node's handle of that number, which is looked for at the hint first.
+    #[inline(always)]
     pub fn entry(&self, node: u64, number: u64, hint: usize) -> Option<Entry>
         ensures { option_map handle_state result ≡ handle_in self.now.tables.handles node number }
     {
@@ -84,12 +88,43 @@ impl Control {
         None
     }
 
+    /// The node's handle of that number, which it has. It is looked for at the hint first.
+    #[inline(always)]
+    pub fn known(&self, _node: u64, number: u64, hint: usize) -> Entry
+        requires { is_some (handle_in self.now.tables.handles _node number) ≡ true }
+        ensures { Some (handle_state result) ≡ handle_in self.now.tables.handles _node number }
+    {
+        self.handles.known(number, hint)
+    }
+
+    /// The node's handle of that number, if it is at the hint.
+    #[inline(always)]
+    pub fn near(&self, node: u64, number: u64, hint: usize) -> Option<Entry>
+        ensures { IfSome result (λ entry. Some (handle_state entry)
+            ≡ handle_in self.now.tables.handles node number) }
+    {
+        let entry = self.handles.near(number, hint)?;
+        if entry.node != node {
+            return None;
+        }
+        Some(entry)
+    }
+
     /// The label of the message in that slot.
     #[inline]
     pub fn label(&self, pool: usize, slot: u64) -> Label
         ensures { result ≡ labels_of self.now.tables.pools pool slot }
     {
         self.pools.label(pool, slot)
+    }
+
+    /// The label of the message in a slot that is there.
+    #[inline(always)]
+    pub fn label_of(&self, pool: usize, slot: u64) -> Label
+        requires { has_slot self.now.tables.pools pool slot ≡ true }
+        ensures { result ≡ labels_of self.now.tables.pools pool slot }
+    {
+        self.pools.label_of(pool, slot)
     }
 
     /// Whether something waits for the port on that lane, from some sender.
@@ -110,14 +145,15 @@ impl Control {
         self.ports.hint_all(client, label.lane, label.request);
     }
 
-    /// Visits that lane of each sender to the port, until one gives a message.
+    /// Visits that lane of each sender to the port, until one gives a message. The port is looked
+    /// for at the hint first.
     #[inline(always)]
-    pub fn visit(&mut self, port: u64, lane: u64, wanted: Wanted) -> Visits
+    pub fn visit(&mut self, port: u64, at: usize, lane: u64, wanted: Wanted) -> Visits
         ensures visits { result ≡ visits_at self.old.tables port lane wanted }
         ensures visited { self.new ≡ with_tables self.old
             (with_visited self.old.tables port lane wanted) }
     {
-        self.ports.visit(port, lane, wanted, &self.pools)
+        self.ports.visit_near(port, at, lane, wanted, &self.pools)
     }
 
     /// Counts one call more.
@@ -137,7 +173,7 @@ impl Control {
         requires count { entry.number + 1 < 2 ^ 64 }
         ensures { self.new ≡ with_handle self.old (handle_state entry) }
     {
-        self.handles.add(entry);
+        self.last_place = self.handles.add(entry);
         self.next_number += 1;
     }
 
@@ -163,18 +199,30 @@ impl Control {
         self.pools.hold(pool, slot);
     }
 
-    /// The handle of the message in that slot for a port of that role, with the next number.
-    pub fn got_entry(&self, node: u64, role: Role, port: u64, pool: usize, slot: u64) -> Entry
+    /// The handle of the message in that slot for a port of that role, with the next number. The
+    /// port is looked for at the hint first. The pool is there.
+    #[inline(always)]
+    pub fn got_entry(
+        &self,
+        node: u64,
+        role: Role,
+        port: u64,
+        at: usize,
+        pool: usize,
+        slot: u64,
+    ) -> Entry
+        requires { is_some (pool_at self.now.tables.pools pool) ≡ true }
         ensures { handle_state result ≡ got_handle self.now.tables node role port pool slot }
     {
         let (kind, client) = match role {
             Role::Client => (Kind::Response, port),
-            Role::Server => (Kind::ActiveRequest, self.pools.owner(pool)),
+            Role::Server => (Kind::ActiveRequest, self.pools.owner_of(pool)),
         };
         Entry {
             node,
             number: self.next_number,
             kind,
+            at: kept_place(at),
             port,
             pool,
             slot,
@@ -184,9 +232,17 @@ impl Control {
     }
 
     /// Hands the message in that slot to a port of that role: it has a handle, and the call is
-    /// counted.
+    /// counted. The port is looked for at the hint first.
     #[inline(always)]
-    pub fn got(&mut self, node: u64, role: Role, port: u64, pool: usize, slot: u64) -> u64
+    pub fn got(
+        &mut self,
+        node: u64,
+        role: Role,
+        port: u64,
+        at: usize,
+        pool: usize,
+        slot: u64,
+    ) -> u64
         requires room { 0 < self.old.room }
         requires number { self.old.tables.next_number + 1 < 2 ^ 64 }
         requires calls { self.old.tables.calls + 1 < 2 ^ 64 }
@@ -195,7 +251,7 @@ impl Control {
         ensures number { result ≡ self.old.tables.next_number }
         ensures got { self.new ≡ with_got self.old node role port pool slot }
     {
-        let entry = self.got_entry(node, role, port, pool, slot);
+        let entry = self.got_entry(node, role, port, at, pool, slot);
         self.hold(pool, slot);
         self.add_handle(entry);
         self.count_call();

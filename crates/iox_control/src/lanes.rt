@@ -155,13 +155,14 @@ impl Control {
 
     // ---- a port
 
-    /// Counts one loan more of the port.
-    pub fn count_loan(&mut self, port: u64)
+    /// Counts one loan more of the port, which is looked for at the hint first.
+    #[inline(always)]
+    pub fn count_loan(&mut self, port: u64, at: usize)
         requires { option_map_or (λ p. p.loans) (port_in self.old.tables.ports port) 0
             < 2 ^ 64 - 1 }
         ensures { self.new ≡ with_tables self.old (with_loan self.old.tables port) }
     {
-        self.ports.count_loan(port);
+        self.ports.count_loan_near(port, at);
     }
 
     /// The own value of the port is gone.

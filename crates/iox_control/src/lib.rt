@@ -3,6 +3,7 @@
 
 mod control;
 mod fitting;
+mod in_places;
 mod lanes;
 mod making;
 mod parts;

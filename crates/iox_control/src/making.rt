@@ -13,9 +13,22 @@ ghost use Rattle.iox_control.specs.Controls.{with_number, with_pools, with_port_
 
 use crate::control::Control;
 use iox_hub_ports::port::Port;
+use iox_hub_ports::ports::Ports;
 use iox_lanes::pipe::Pipe;
+use iox_slots::Pools;
 use iox_types::identifiers::UniqueSystemId;
 use std::alloc::{AllocError, Global};
+
+/// Each port's pool is told where the port is.
+fn tell_places(ports: &Ports, pools: &mut Pools)
+    ensures { pools.new ≡ pools.old }
+{
+    for at in 0..ports.len() {
+        if let Some(port) = ports.at(at) {
+            pools.set_at(port.pool, at);
+        }
+    }
+}
 
 impl Control {
     // ---- room
@@ -55,7 +68,9 @@ impl Control {
             (with_one_more self.old.tables.pools (new_pool port node_id port_id size))) }
         ensures unchanged { OnErr result (self.new ≡ self.old) }
     {
-        self.pools.add(alloc, port, node_id, port_id, size)
+        let place = self.pools.add(alloc, port, node_id, port_id, size)?;
+        self.pools.set_at(place, self.ports.len());
+        Ok(place)
     }
 
     /// Removes the pool in this place, if there is one.
@@ -82,7 +97,9 @@ impl Control {
         ensures removed { IsSome result → self.new ≡ with_port_removed self.old number }
         ensures unchanged { result ≡ None → self.new ≡ self.old }
     {
-        self.ports.remove(number)
+        let port = self.ports.remove(number)?;
+        tell_places(&self.ports, &mut self.pools);
+        Some(port)
     }
 
     /// One more pipe leads to the port of that number. It says whether there was room.

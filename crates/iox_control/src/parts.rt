@@ -34,6 +34,18 @@ impl Control {
         self.next_number
     }
 
+    /// Where the handle that came last is: it may be looked for there first.
+    #[inline(always)]
+    pub fn last_place(&self) -> usize {
+        self.last_place
+    }
+
+    /// A better hint: where the port of that number stands, if it is there.
+    #[inline(always)]
+    pub fn likely_place(&self, port: u64, hint: usize) -> usize {
+        self.ports.likely_place(port, hint)
+    }
+
     /// How many ports were ever made.
     #[inline]
     pub fn ports_made(&self) -> u64

@@ -16,8 +16,9 @@ use iox_lanes::wanted::Wanted;
 use iox_model::kind::Role;
 
 impl Control {
-    /// Receives a request for that server.
-    pub fn receive_request(&mut self, node: u64, server: u64) -> Received
+    /// Receives a request for that server, which is looked for at the hint first.
+    #[inline(always)]
+    pub fn receive_request(&mut self, node: u64, server: u64, hint: usize) -> Received
         requires server { IsServer self.old.tables node server }
         requires order { IsControl self.old }
         requires calls { self.old.tables.calls < 2 ^ 56 }
@@ -29,9 +30,10 @@ impl Control {
             (Receive server) (reply_of_receive result) (state_shown x self.new.tables) }
     {
         let wanted = self.wanted_by_server();
-        match self.visit(server, 0, wanted) {
+        let at = self.likely_place(server, hint);
+        match self.visit(server, at, 0, wanted) {
             Visits::Got(_, pool, slot) => {
-                Received::Handle(self.got(node, Role::Server, server, pool, slot))
+                Received::Handle(self.got(node, Role::Server, server, at, pool, slot))
             }
             Visits::AtLimit => Received::AtLimit,
             Visits::Nothing => {
@@ -42,6 +44,7 @@ impl Control {
     }
 
     /// Receives a response for that pending response, whose handle is looked for at the hint first.
+    #[inline(always)]
     pub fn receive_response(&mut self, node: u64, number: u64, hint: usize) -> Received
         requires pending { IsPending self.old.tables node number }
         requires order { IsControl self.old }
@@ -55,13 +58,12 @@ impl Control {
         ensures whole { (x : Given) → IsWholeCall (state_shown x self.old.tables) node
             (Receive number) (reply_of_receive result) (state_shown x self.new.tables) }
     {
-        let Some(entry) = self.entry(node, number, hint) else {
-            unreachable!();
-        };
-        let label = self.label(entry.pool, entry.slot);
-        match self.visit(entry.port, label.lane, Wanted::Of(label.request)) {
+        let entry = self.known(node, number, hint);
+        let label = self.label_of(entry.pool, entry.slot);
+        let at = self.likely_place(entry.port, entry.at as usize);
+        match self.visit(entry.port, at, label.lane, Wanted::Of(label.request)) {
             Visits::Got(_, pool, slot) => {
-                Received::Handle(self.got(node, Role::Client, entry.port, pool, slot))
+                Received::Handle(self.got(node, Role::Client, entry.port, at, pool, slot))
             }
             Visits::AtLimit => Received::AtLimit,
             Visits::Nothing => {

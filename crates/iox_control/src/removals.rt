@@ -1,8 +1,8 @@
 //! The end of a handle: it is removed if it is of a kind, and its message is let go.
 ghost use Rattle.std.specs.Option.{option_and_then, option_map};
-ghost use Rattle.std.specs.Prelude.{◌≡◌, IsSome, None};
+ghost use Rattle.std.specs.Prelude.{◌≡◌, ◌<◌, IsSome, None};
 ghost use Rattle.iox_model.specs.Values as spec;
-ghost use Rattle.iox_hub_ports.specs.HubStates.Tables.{labels_of, owner_of};
+ghost use Rattle.iox_hub_ports.specs.HubStates.Tables.{labels_of, owner_of, slot_at};
 ghost use Rattle.iox_hub_ports.specs.HubStates.Wirings.{handle_in};
 ghost use Rattle.iox_slots.specs.Pools.{is_idle, with_slot};
 ghost use Rattle.iox_slots.specs.Slots.{let_go};
@@ -56,10 +56,10 @@ impl Control {
         self.handles.remove_if(node, number, hint, &Still { kind })
     }
 
-    /// One less has a slot, of which this was known: its slot is looked for once. Where nobody had
-    /// it, nothing changes.
+    /// One less has a slot that somebody has, of which this was known: its slot is looked for once.
     #[inline(always)]
     pub fn leave_slot(&mut self, pool: usize, slot: u64) -> Left
+        requires { 0 < (slot_at self.old.tables.pools pool slot).holders }
         ensures label { result.label ≡ labels_of self.old.tables.pools pool slot }
         ensures owner { result.owner ≡ owner_of self.old.tables.pools pool }
         ensures idle { result.idle ≡ is_idle self.new.tables.pools pool }

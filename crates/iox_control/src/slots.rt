@@ -1,10 +1,11 @@
 //! Single changes of slots and of handles.
 ghost use Rattle.std.specs.List.{list_any};
-ghost use Rattle.std.specs.Prelude.{◌≡◌, ◌==◌, ◌<◌, IfSome, IsSome, None, ◌↔◌, filter, map, true};
+ghost use Rattle.std.specs.Prelude.{◌≡◌, ◌==◌, ◌<◌, IfSome, IsSome, None, ◌↔◌, filter, is_some, map, true};
 ghost use Rattle.std.specs.Bool.{OnFalse};
 ghost use Rattle.std.specs.Option.{option_map};
 ghost use Rattle.iox_handles.specs.Least.{least};
 ghost use Rattle.iox_hub_ports.specs.HubStates.Ends.{with_changed};
+ghost use Rattle.iox_hub_ports.specs.HubStates.Tables.{pool_at, slot_at};
 ghost use Rattle.iox_hub_ports.specs.HubStates.Wirings.{handle_in};
 ghost use Rattle.iox_slots.specs.Pools.{Acquires, Takes, free_count, has_slot, is_idle, is_taken_at, with_slot};
 ghost use Rattle.iox_slots.specs.Slots.{let_go, taken, written};
@@ -29,8 +30,8 @@ impl Control {
         self.pools.acquire(pool)
     }
 
-    /// One has a slot that nobody had, with that message, and this is its number. It is `None`
-    /// exactly if there is none, and then nothing changes.
+    /// One has a slot that nobody had, of a pool that is there, with that message, and this is its
+    /// number. It is `None` exactly if there is none, and then nothing changes.
     #[inline(always)]
     pub fn take(
         &mut self,
@@ -40,13 +41,14 @@ impl Control {
         request: u64,
         elements: u64,
     ) -> Option<u64>
+        requires { is_some (pool_at self.old.tables.pools pool) ≡ true }
         ensures taken { IfSome result (λ k. Takes self.old.tables.pools pool k
             (taken serial lane request elements) self.new.tables.pools) }
         ensures left { self.new ≡ with_pools self.old self.new.tables.pools }
         ensures full { result ≡ None ↔ free_count self.old.tables.pools pool ≡ 0 }
         ensures unchanged { result ≡ None → self.new ≡ self.old }
     {
-        self.pools.take(pool, serial, lane, request, elements)
+        self.pools.take_of(pool, serial, lane, request, elements)
     }
 
     /// The same, where nobody has any slot of the pool.
@@ -59,13 +61,15 @@ impl Control {
         request: u64,
         elements: u64,
     ) -> Option<u64>
+        requires { is_some (pool_at self.old.tables.pools pool) ≡ true }
         ensures idle { IsSome result → is_idle self.old.tables.pools pool ≡ true }
         ensures taken { IfSome result (λ k. Takes self.old.tables.pools pool k
             (taken serial lane request elements) self.new.tables.pools) }
         ensures left { self.new ≡ with_pools self.old self.new.tables.pools }
         ensures unchanged { result ≡ None → self.new ≡ self.old }
     {
-        self.pools.take_first(pool, serial, lane, request, elements)
+        self.pools
+            .take_first_of(pool, serial, lane, request, elements)
     }
 
     /// Writes another message into a slot, and says whether there is such a slot. Who has the slot
@@ -95,6 +99,16 @@ impl Control {
         ensures unchanged { OnFalse result (self.new ≡ self.old) }
     {
         self.pools.let_go(pool, slot)
+    }
+
+    /// One less has a slot that somebody has.
+    #[inline(always)]
+    pub fn let_go_of(&mut self, pool: usize, slot: u64)
+        requires { 0 < (slot_at self.old.tables.pools pool slot).holders }
+        ensures left { self.new ≡ with_pools self.old
+            (with_slot let_go self.old.tables.pools pool slot) }
+    {
+        self.pools.let_go_of(pool, slot);
     }
 
     // ---- handles

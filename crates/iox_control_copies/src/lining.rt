@@ -52,7 +52,7 @@ fn push_copy(control: &mut Control, lender: Lending, asked: Asked, slot: u64)
         lender.request,
         asked.elements,
     );
-    control.count_loan(port.number);
+    control.count_loan(port.number, 0);
     push_out(control, way, port.pool, slot);
     control.count_call();
     control.count_call();

@@ -15,7 +15,7 @@ pub fn lose(control: &mut Control, port: u64, fails: bool)
     ensures { control.new
         ≡ with_tables control.old (with_copy_lost fails control.old.tables port) }
 {
-    control.count_loan(port);
+    control.count_loan(port, 0);
     control.count_call();
     if !fails {
         control.count_call();

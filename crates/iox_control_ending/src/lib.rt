@@ -24,7 +24,7 @@ pub fn end_loan(control: &mut Control, node: u64, number: u64, hint: usize)
     let Some(entry) = control.remove_handle(node, number, hint) else {
         unreachable!();
     };
-    control.let_go(entry.pool, entry.slot);
+    control.let_go_of(entry.pool, entry.slot);
 }
 
 /// Counts one call more.

@@ -29,9 +29,9 @@ fn known_as(port: PortInfo, role: Role) -> PortInfo
     PortInfo { role, ..port }
 }
 
-/// Lends for that lender.
+/// Lends for that lender, which is looked for at the hint first.
 #[inline(always)]
-fn lend(control: &mut Control, lender: &Lending, asked: Asked) -> Lent
+fn lend(control: &mut Control, lender: &Lending, at: usize, asked: Asked) -> Lent
     requires port { IsPortOf control.old.tables lender.now }
     requires order { IsControl control.old }
     ensures left { (p : PortState)
@@ -43,14 +43,15 @@ fn lend(control: &mut Control, lender: &Lending, asked: Asked) -> Lent
         return Lent::Refused(refusal);
     }
     retrieve_all_of(control, &lender.port);
-    match lend_free(control, lender, asked) {
+    match lend_free(control, lender, at, asked) {
         Some(loaned) => Lent::Handle(loaned),
         None => Lent::OutOfMemory,
     }
 }
 
-/// Lends a request of that client, of which this is said, on its lowest lane that is free. All that
-/// servers gave back to the client is got back first.
+/// Lends a request of that client, of which this is said, and which is looked for at the hint
+/// first, on its lowest lane that is free. All that servers gave back to the client is got back
+/// first.
 ///
 /// The new loan holds no elements or the default of each.
 #[inline(always)]
@@ -58,6 +59,7 @@ pub fn lend_request_of(
     control: &mut Control,
     node: u64,
     client: u64,
+    at: usize,
     port: PortInfo,
     asked: Asked,
 ) -> Lent
@@ -79,7 +81,7 @@ pub fn lend_request_of(
         lane: 0,
         request: port.loans % (1 << 62),
     };
-    lend(control, &lender, asked)
+    lend(control, &lender, at, asked)
 }
 
 /// Lends a request of that client.
@@ -98,17 +100,19 @@ pub fn lend_request(control: &mut Control, node: u64, client: u64, asked: Asked)
     let Some(port) = control.ports().find(client) else {
         unreachable!();
     };
-    lend_request_of(control, node, client, port, asked)
+    lend_request_of(control, node, client, 0, port, asked)
 }
 
-/// Lends a response to that active request, of whose handle and of whose port this is said. All
-/// that clients gave back to the server is got back first.
+/// Lends a response to that active request, of whose handle and of whose port this is said. The
+/// port is looked for at the hint first. All that clients gave back to the server is got back
+/// first.
 #[inline(always)]
 pub fn lend_response_of(
     control: &mut Control,
     node: u64,
     number: u64,
     entry: Entry,
+    at: usize,
     port: PortInfo,
     asked: Asked,
 ) -> Lent
@@ -127,12 +131,12 @@ pub fn lend_response_of(
         (state_shown (given_after x x.response asked result) control.new.tables) }
 {
     let port = known_as(port, Role::Server);
-    let label = control.label(entry.pool, entry.slot);
+    let label = control.label_of(entry.pool, entry.slot);
     let lender = Lending {
         port,
         client: entry.client,
         lane: label.lane,
         request: label.request,
     };
-    lend(control, &lender, asked)
+    lend(control, &lender, at, asked)
 }

@@ -14,7 +14,7 @@ ghost use Rattle.iox_control_lending.specs.Lends.{LoanIsMade, IsPortOf, lender_o
 use crate::asked::{Asked, Lending, Loaned};
 use crate::taking::take;
 use iox_control::Control;
-use iox_handles::Entry;
+use iox_handles::{Entry, kept_place};
 use iox_model::kind::{Kind, Role};
 
 /// The kind of a loan by a port of that role.
@@ -38,9 +38,9 @@ fn loan_kind(role: Role, uninit: bool) -> Kind
     }
 }
 
-/// The handle of a loan in that slot.
+/// The handle of a loan in that slot, whose port is looked for at the hint first.
 #[inline(always)]
-fn loan_entry(control: &Control, lender: &Lending, uninit: bool, slot: u64) -> Entry
+fn loan_entry(control: &Control, lender: &Lending, at: usize, uninit: bool, slot: u64) -> Entry
     ensures number { result.number ≡ control.now.tables.next_number }
     ensures handle { (p : PortState) → lender.now.port ≡ info_of p → handle_state result
         ≡ loaned_handle control.now.tables (lender_of p lender.now) uninit slot }
@@ -49,6 +49,7 @@ fn loan_entry(control: &Control, lender: &Lending, uninit: bool, slot: u64) -> E
         node: lender.port.node,
         number: control.next_number(),
         kind: loan_kind(lender.port.role, uninit),
+        at: kept_place(at),
         port: lender.port.number,
         pool: lender.port.pool,
         slot,
@@ -59,7 +60,7 @@ fn loan_entry(control: &Control, lender: &Lending, uninit: bool, slot: u64) -> E
 
 /// The loan in that slot is handed out; it answers the number of its handle.
 #[inline(always)]
-fn hand_out(control: &mut Control, lender: &Lending, uninit: bool, slot: u64) -> u64
+fn hand_out(control: &mut Control, lender: &Lending, at: usize, uninit: bool, slot: u64) -> u64
     requires room { 0 < control.old.room }
     requires number { control.old.tables.next_number + 1 < 2 ^ 64 }
     requires calls { control.old.tables.calls + 1 < 2 ^ 64 }
@@ -69,8 +70,8 @@ fn hand_out(control: &mut Control, lender: &Lending, uninit: bool, slot: u64) ->
     ensures left { (p : PortState) → lender.now.port ≡ info_of p
         → control.new ≡ with_handed control.old (lender_of p lender.now) uninit slot }
 {
-    let entry = loan_entry(control, lender, uninit, slot);
-    control.count_loan(lender.port.number);
+    let entry = loan_entry(control, lender, at, uninit, slot);
+    control.count_loan(lender.port.number, at);
     control.add_handle(entry);
     control.count_call();
     entry.number
@@ -79,7 +80,12 @@ fn hand_out(control: &mut Control, lender: &Lending, uninit: bool, slot: u64) ->
 /// The loan is made in a slot that nobody has. It is `None` where there is none, and then nothing
 /// changes.
 #[inline(always)]
-pub(crate) fn lend_free(control: &mut Control, lender: &Lending, asked: Asked) -> Option<Loaned>
+pub(crate) fn lend_free(
+    control: &mut Control,
+    lender: &Lending,
+    at: usize,
+    asked: Asked,
+) -> Option<Loaned>
     requires port { IsPortOf control.old.tables lender.now }
     requires order { IsControl control.old }
     requires calls { control.old.tables.calls < 2 ^ 56 }
@@ -93,7 +99,7 @@ pub(crate) fn lend_free(control: &mut Control, lender: &Lending, asked: Asked) -
     let Some(slot) = take(control, lender, asked.elements) else {
         return None;
     };
-    let number = hand_out(control, lender, asked.uninit, slot);
+    let number = hand_out(control, lender, at, asked.uninit, slot);
     Some(Loaned {
         number,
         pool: lender.port.pool,

@@ -52,6 +52,7 @@ fn set_kind(control: &mut Control, entry: Entry, kind: Kind, hint: usize)
         node: entry.node,
         number: entry.number,
         kind,
+        at: entry.at,
         port: entry.port,
         pool: entry.pool,
         slot: entry.slot,

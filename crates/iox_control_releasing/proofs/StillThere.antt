@@ -4,11 +4,12 @@ use Rattle.std.specs.Option.{option_map_or}
 use Rattle.std.proofs.Common.{sym, ap, subst, ◌∙◌, arith}
 use Rattle.iox_tables.specs.HubStates.Tables.{HandleState, HubTables, PoolState, PortState, SlotState, no_slot, pool_at, port_in, slot_at}
 use Rattle.iox_tables.specs.HubStates.Wirings.{handle_in}
+use Rattle.iox_tables.specs.HubBooks.Handles.{IsOfPort}
 use Rattle.iox_tables.specs.HubBooks.Hubs.{AreInOrder, IsUsed}
 use Rattle.iox_tables.specs.HubBooks.Keeps.{bare_pools}
 use Rattle.iox_tables.proofs.HubBooks.Frames.{AreAlike, port_before}
 use Rattle.iox_tables.proofs.HubBooks.Structures.{pool_after}
-use Rattle.iox_tables.proofs.HubBooks.Used.{used_by_handle}
+use Rattle.iox_tables.proofs.HubBooks.Used.{handle_is, used_by_handle}
 use Rattle.iox_slots.specs.Pools.{with_slot}
 use Rattle.iox_slots.specs.Slots.{let_go}
 use Rattle.iox_slots.proofs.BareLemmas.{let_go_bare}
@@ -26,6 +27,10 @@ used_there t place k used = step (pool_at t.pools place) refl
     step : (o : Option PoolState) → pool_at t.pools place ≡ o → (p : PoolState) × (pool_at t.pools place ≡ Some p)
     step (Some p) is = (p, is)
     step None is = let zero = none is in absurd (omega (arith, used, zero))
+
+-- the port of a handle is there
+pub handle_has_port : (t : HubTables) → AreInOrder t → (node n : ℕ) (h : HandleState) → handle_in t.handles node n ≡ Some h → is_some (port_in t.ports h.port) ≡ true
+handle_has_port t order node n h found = ap (λ (o : Option PortState). is_some o) (handle_is (IsOfPort t) t.handles node n h order.ports found).there
 
 module _ (t u : HubTables) (h : HandleState) (is : u ≡ record (with_ended t h) { pools = with_slot let_go t.pools h.pool h.slot }) where
   -- the handle's port has the same pool

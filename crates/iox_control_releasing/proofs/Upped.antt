@@ -9,10 +9,10 @@ use Rattle.iox_lanes.specs.Lanes as lanes
 use Rattle.iox_model.specs.declared.kind.Kind.{Kind}
 use Rattle.iox_model.specs.declared.kind.Kind.TheVariants as kinds
 use Rattle.iox_model.specs.Maps.{AreDistinct, has_number}
-use Rattle.iox_model.specs.Messages.{closed_for, request_way, response_way}
+use Rattle.iox_model.specs.Messages.{request_way}
 use Rattle.iox_model.specs.Values.{is_still}
 use Rattle.iox_tables.specs.HubStates.Tables.{HandleState, HubTables, PoolState, PortState, labels_of, numbers_of, owner_of, port_in}
-use Rattle.iox_tables.specs.HubStates.Changes.{with_lanes, with_states}
+use Rattle.iox_tables.specs.HubStates.Changes.{with_lanes}
 use Rattle.iox_tables.specs.HubStates.Wirings.{IsHandle, handle_in}
 use Rattle.iox_tables.specs.HubBooks.Hubs.{AreInOrder}
 use Rattle.iox_tables.specs.HubMaking.Disconnections.{is_unused, with_disconnected, with_released}
@@ -75,15 +75,6 @@ named_if_found t order node n h e = record {
 }
 
 -- ---- what is given up
-
-pub active_with : (c mid new : ControlState) (e : Entry) (l : Label) (o : ℕ) → e.kind ≡ kinds.ActiveRequest
-    → mid ≡ with_tables c (with_lanes (λ m. lanes.released m e.slot) c.tables (request_way e.client e.port ∷ []))
-    → new ≡ with_tables mid (with_states (λ r. closed_for r l.request) mid.tables (response_way e.client l.lane e.port ∷ []))
-    → new ≡ with_tables c (given_up_with e.kind c.tables (handle_state e) l o)
-active_with c mid new e l o kind back is =
-    is
-    ∙ ap (λ (d : ControlState). with_tables d (with_states (λ r. closed_for r l.request) d.tables (response_way e.client l.lane e.port ∷ []))) back
-    ∙ ap (λ k. with_tables c (given_up_with k c.tables (handle_state e) l o)) (sym kind)
 
 module _ (c : ControlState) (e : Entry) (l : Label) (o : ℕ) (at : l ≡ labels_of c.tables.pools e.pool e.slot) (own : o ≡ owner_of c.tables.pools e.pool) where
   abbrev out : Kind → ControlState

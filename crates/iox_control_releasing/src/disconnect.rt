@@ -104,11 +104,11 @@ fn take_port(control: &mut Control, port: u64)
     }
 }
 
-/// The port goes if nothing of it is left: neither its own value nor a handle. With it go the pools
-/// of ports that are gone of which nobody has a message any more: its own, and those of which
-/// messages were given up.
+/// The port, which is looked for at the hint first, goes if nothing of it is left: neither its own
+/// value nor a handle. With it go the pools of ports that are gone of which nobody has a message
+/// any more: its own, and those of which messages were given up.
 #[inline(always)]
-pub fn disconnect_if_unused(control: &mut Control, port: u64)
+pub fn disconnect_if_unused(control: &mut Control, port: u64, at: usize)
     requires order { IsControl control.old }
     ensures left { control.new.tables
         ≡ record (with_released control.old.tables port) { pools = control.new.tables.pools } }
@@ -120,7 +120,7 @@ pub fn disconnect_if_unused(control: &mut Control, port: u64)
         → NoLeftPool control.new.tables p.pool }
     ensures tidy { StaysTidy control.old.tables control.new.tables }
 {
-    if is_unused(control, port) {
+    if is_unused(control, port, at) {
         take_port(control, port);
         drop_left_pools(control);
     }

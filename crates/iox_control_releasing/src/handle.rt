@@ -1,8 +1,8 @@
 //! The release of a handle.
-ghost use Rattle.std.specs.Prelude.{◌≡◌, IfSome, None, Some, false, option_map, true};
+ghost use Rattle.std.specs.Prelude.{◌≡◌, ◌<◌, IfSome, None, Some, false, is_some, option_map, true};
 ghost use Rattle.std.specs.Option.{option_and_then, option_map_or};
 ghost use Rattle.iox_tables.specs.HubStates.States.{Given, state_shown};
-ghost use Rattle.iox_tables.specs.HubStates.Tables.{PortState, labels_of, owner_of, port_in};
+ghost use Rattle.iox_tables.specs.HubStates.Tables.{PortState, labels_of, owner_of, port_in, slot_at};
 ghost use Rattle.iox_tables.specs.HubStates.Wirings.{handle_in};
 ghost use Rattle.iox_tables.specs.HubMaking.Disconnections.{with_released};
 ghost use Rattle.iox_model.specs.WholeCalls.{IsWholeCall};
@@ -10,6 +10,8 @@ ghost use Rattle.iox_model.specs.declared.call.Call.TheVariants.{Release};
 ghost use Rattle.iox_model.specs.declared.reply.Reply.TheVariants.{Done};
 ghost use Rattle.iox_slots.specs.Pools.{is_idle, with_slot};
 ghost use Rattle.iox_slots.specs.Slots.{let_go};
+ghost use Rattle.iox_hub_ports.specs.InPlace.{AllApart};
+ghost use Rattle.iox_hub_ports.specs.Ports.{place_in};
 ghost use Rattle.iox_control.specs.Controls.{IsControl, with_pools, with_tables};
 ghost use Rattle.iox_control.specs.Entries.{handle_state};
 ghost use Rattle.iox_control.specs.Removals.{if_still};
@@ -21,40 +23,47 @@ use crate::leaving::leave;
 use crate::unused::may_go;
 use iox_control::Control;
 use iox_handles::Entry;
-use iox_lanes::wanted::Label;
+use iox_hub_ports::ports::Ports;
 use iox_model::kind::Kind;
 use iox_model::way::Way;
+use iox_slots::Left;
 
-/// Gives a received message of that label and owner back, and closes a request whose pending
-/// response or active request it was.
+/// Where the pipes from the port that is likely in that place likely stand among those that lead to
+/// others.
 #[inline(always)]
-fn give_up(control: &mut Control, entry: Entry, label: Label, owner: u64)
+fn hint_of(ports: &Ports, place: usize) -> usize {
+    if place < ports.len() {
+        return ports.rank(place);
+    }
+    0
+}
+
+/// Gives a received message back of which this is known, and closes a request whose pending response
+/// or active request it was. The handle's port is in that place.
+#[inline(always)]
+fn give_up(control: &mut Control, entry: Entry, at: usize, left: Left)
+    requires there { place_in control.old.tables.ports entry.port ≡ Some at }
+    requires apart { AllApart control.old.tables.ports }
     ensures { control.new ≡ with_tables control.old
-        (given_up_with entry.kind control.old.tables (handle_state entry) label owner) }
+        (given_up_with entry.kind control.old.tables (handle_state entry) left.label left.owner) }
 {
     match entry.kind {
-        Kind::PendingResponse => control.close_all(entry.port, label.lane, label.request),
+        Kind::PendingResponse => {
+            let hint = control.ports().rank(at);
+            control.close_all_in(entry.port, hint, left.label);
+        }
         Kind::ActiveRequest => {
-            let way = Way {
-                sender: entry.client,
-                receiver: entry.port,
-                lane: 0,
-            };
-            control.give_back(way, entry.slot);
-            let own = Way {
-                sender: entry.port,
-                receiver: entry.client,
-                lane: label.lane,
-            };
-            control.close(own, label.request);
+            let (client, server) = (entry.client, entry.port);
+            let hint = hint_of(control.ports(), left.at);
+            control.give_back_and_close_in(at, hint, client, server, entry.slot, left.label);
         }
         Kind::Response => {
             let way = Way {
-                sender: owner,
+                sender: left.owner,
                 receiver: entry.port,
-                lane: label.lane,
+                lane: left.label.lane,
             };
-            control.give_back(way, entry.slot);
+            control.give_back_in(at, 0, way, entry.slot);
         }
         Kind::Client => {}
         Kind::Server => {}
@@ -65,11 +74,14 @@ fn give_up(control: &mut Control, entry: Entry, label: Label, owner: u64)
     }
 }
 
-/// Ends a handle that was removed: nobody has its message by it, and its port stays. It says
-/// whether something may go: the port's own value is not there, or nobody has a message of the
-/// pool.
+/// Ends a handle that was removed: nobody has its message by it, and its port stays, which is looked
+/// for once. It says whether something may go: the port's own value is not there, or nobody has a
+/// message of the pool.
 #[inline(always)]
 fn end_removed(control: &mut Control, entry: Entry) -> bool
+    requires taken { 0 < (slot_at control.old.tables.pools entry.pool entry.slot).holders }
+    requires port { is_some (port_in control.old.tables.ports entry.port) ≡ true }
+    requires apart { AllApart control.old.tables.ports }
     ensures left { control.new ≡ with_pools (with_tables control.old
         (given_up_as entry.kind control.old.tables (handle_state entry)))
         (with_slot let_go control.old.tables.pools entry.pool entry.slot) }
@@ -78,8 +90,10 @@ fn end_removed(control: &mut Control, entry: Entry) -> bool
         (port_in control.old.tables.ports entry.port) false ≡ true }
 {
     let left = control.leave_slot(entry.pool, entry.slot);
-    let goes = may_go(control.ports(), entry.port, left.idle);
-    give_up(control, entry, left.label, left.owner);
+    let ports = control.ports();
+    let at = ports.known_place(entry.port, entry.at as usize);
+    let goes = may_go(ports, at, left.idle);
+    give_up(control, entry, at, left);
     goes
 }
 

@@ -41,7 +41,7 @@ fn let_both_go(control: &mut Control, port: u64, place: usize) -> usize
     ensures tidy { StaysTidy control.old.tables control.new.tables }
 {
     let pool = pool_of(control.ports(), port, place);
-    disconnect_if_unused(control, port);
+    disconnect_if_unused(control, port, 0);
     drop_pool(control, place);
     pool
 }

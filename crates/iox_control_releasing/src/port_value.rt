@@ -29,5 +29,5 @@ pub fn release_port(control: &mut Control, node: u64, port: u64)
         (Release port) Done (state_shown x control.new.tables) }
 {
     control.release_value(port);
-    disconnect_if_unused(control, port);
+    disconnect_if_unused(control, port, 0);
 }

@@ -25,7 +25,7 @@ pub fn releases_and_looks_again(
     ensures { IsControl control.new }
 {
     release(control, node, number, kind, 0);
-    disconnect_if_unused(control, port);
+    disconnect_if_unused(control, port, 0);
 }
 
 /// The release of a port's own value is one call of the machine.
@@ -45,5 +45,5 @@ pub fn releases_and_is_tidy(control: &mut Control, node: u64, number: u64, kind:
     ensures { IsTidy control.new.tables }
 {
     release(control, node, number, kind, 0);
-    disconnect_if_unused(control, port);
+    disconnect_if_unused(control, port, 0);
 }

@@ -34,7 +34,7 @@ pub fn lose(control: &mut Control, client: u64, asked: Asked) -> Option<Copied>
     if control.pools().free_len(port.pool) == 0 {
         return Some(Copied::OutOfMemory);
     }
-    control.count_loan(port.number);
+    control.count_loan(port.number, 0);
     control.count_call();
     None
 }

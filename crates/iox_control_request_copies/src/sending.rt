@@ -38,6 +38,7 @@ pub fn lend_and_send(
         node,
         number: loaned.number,
         kind: Kind::RequestMut,
+        at: 0,
         port: client,
         pool: loaned.pool,
         slot: loaned.slot,

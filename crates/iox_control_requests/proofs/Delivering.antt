@@ -1,4 +1,4 @@
--- The walk that delivers to all servers, place by place.
+-- The walk that delivers to all servers, one after another.
 use Rattle.std.specs.Prelude.{◌≡◌, ℕ, ◌+◌, ◌-◌, ◌<◌, ◌≤◌, ◌^◌, Bool, true, false, not, ◌||◌, if◌then◌else◌, List, [], ◌∷◌, ◌++◌, length, take, drop, filter, is_some, Option, Some, None, slice_get, refl}
 use Rattle.std.specs.Bool.{OnFalse, OnTrue}
 use Rattle.std.specs.Option.{option_map_or}
@@ -16,7 +16,9 @@ use Rattle.iox_tables.specs.HubStates.Changes.{OnEach, with_lanes}
 use Rattle.iox_tables.specs.HubStates.Tables.{HandleState, PoolState, PortState, slot_at}
 use Rattle.iox_tables.specs.HubStates.Ways.{OnWays, lane_on, with_lane_on, with_lanes_on}
 use Rattle.iox_tables.specs.HubStates.Wirings.{IsHandle}
+use Rattle.iox_hub_ports.specs.InPlace.{places_from, places_of}
 use Rattle.iox_hub_ports.specs.Ports.{on_way_at, way_from, with_lane_at}
+use Rattle.iox_hub_ports.proofs.Keeping.{lanes_keep_roles}
 use Rattle.iox_tables.specs.HubBooks.Hubs.{AreInOrder}
 use Rattle.iox_tables.specs.HubBooks.Keeps.{AreTargetsOf, delivers}
 use Rattle.iox_tables.specs.HubBooks.Rooms.{CanCountHolders}
@@ -32,13 +34,13 @@ use Rattle.iox_control_requests.specs.Servers.{is_full_on, request_ways, server_
 use Rattle.iox_control_requests.proofs.Free.{gets, gets_are}
 use Rattle.iox_control_requests.proofs.Gives.{OfLane}
 use Rattle.iox_control_requests.proofs.Subs.{each_at, next_is_new, some_are_targets}
-use Rattle.iox_control_requests.proofs.Walks.{on_server, server_stays, ways_all, ways_none, ways_one, ways_split, with_server}
+use Rattle.iox_control_requests.proofs.Walks.{on_server, server_stays, HasRank, has_rank, ways_all, ways_one, ways_split, with_server}
 
--- the ways to the servers in the first places that get the message
+-- the ways to the first servers that get the message
 abbrev pub reached : Bool → List PortState → ℕ → ℕ → List Way
-reached overflow ports client i = filter (gets overflow ports) (request_ways client (take i ports))
+reached overflow ports client i = filter (gets overflow ports) (take i (request_ways client ports))
 
--- The servers in the first places are done.
+-- The first servers are done.
 pub record IsGiven (c now : ControlState) (h : HandleState) (overflow : Bool) (i count : ℕ) : Type 0 where
   pub so :
       now
@@ -68,12 +70,8 @@ each_append : (P : Way → LaneState → Type 0) (on : OnWays LaneState) (ws : L
 each_append P on [] w before one = (one, tt)
 each_append P on (v ∷ vs) w before one = (before.0, each_append P on vs w before.1 one)
 
-no_number : (o : Option ℕ) → is_some o ≡ false → o ≡ None
-no_number None e = refl
-no_number (Some n) e = absurd (true≢false e)
-
 -- all lanes are sound once the last is
-pub all_sound : (ports : List PortState) (client i : ℕ) → length ports ≤ i → OnEach (λ w l. IsSound l) (lane_on ports) (request_ways client (take i ports))
+pub all_sound : (ports : List PortState) (client i : ℕ) → length (places_of Server ports) ≤ i → OnEach (λ w l. IsSound l) (lane_on ports) (take i (request_ways client ports))
     → OnEach (λ w l. IsSound l) (lane_on ports) (request_ways client ports)
 all_sound ports client i past each = subst (OnEach (λ w l. IsSound l) (lane_on ports)) (ways_all client ports i past) each
 
@@ -87,7 +85,7 @@ when_false true P e p = absurd (true≢false e)
 
 -- ---- all are done
 
-module _ (c now : ControlState) (h : HandleState) (overflow : Bool) (i count : ℕ) (past : length c.tables.ports ≤ i) (done : IsGiven c now h overflow i count) where
+module _ (c now : ControlState) (h : HandleState) (overflow : Bool) (i count : ℕ) (past : length (places_of Server c.tables.ports) ≤ i) (done : IsGiven c now h overflow i count) where
   all_reached : reached overflow c.tables.ports h.port i ≡ ways_that_get overflow c.tables.ports (request_ways h.port c.tables.ports)
   all_reached =
       ap (filter (gets overflow c.tables.ports)) (ways_all h.port c.tables.ports i past)
@@ -110,7 +108,7 @@ module _ (c now : ControlState) (h : HandleState) (overflow : Bool) (i count : �
       (ways_that_get overflow c.tables.ports (request_ways h.port c.tables.ports)) c.tables.pools now.tables.pools
   hands_all = subst (λ ws. HasDelivered overflow h.slot (lane_on c.tables.ports) ws c.tables.pools now.tables.pools) all_reached done.pools
 
--- ---- the next place
+-- ---- the next server
 
 module _ (c now : ControlState) (h : HandleState) (overflow : Bool) (i count : ℕ) (done : IsGiven c now h overflow i count) where
   abbrev ports : List PortState
@@ -122,12 +120,16 @@ module _ (c now : ControlState) (h : HandleState) (overflow : Bool) (i count : �
   same_ports : now.tables.ports ≡ with_lanes_on (delivers overflow h.slot) ports before
   same_ports = ap (λ (d : ControlState). d.tables.ports) done.so
 
-  -- the server in a place is as before
-  pub server_as_before : server_in now.tables.ports i ≡ server_in ports i
-  server_as_before = ap (λ ps. server_in ps i) same_ports ∙ server_stays (delivers overflow h.slot) ports before i
+  -- the servers are as before, each in its place
+  pub same_places : places_of Server now.tables.ports ≡ places_of Server ports
+  same_places =
+      ap (places_of Server) same_ports ∙ ap (places_from Server 0) (lanes_keep_roles (delivers overflow h.slot) ports before)
 
-  same_length : {A : Type 0} (xs ys : List A) → xs ≡ ys → length ys ≡ length xs
-  same_length xs ys e = ap length (sym e)
+  -- a rank below theirs is one of the servers
+  pub within : (told : List PortState) → told ≡ now.tables.ports → i < length (places_of Server ports) → i < length (places_of Server told)
+  within told same below =
+      let as_many : length (places_of Server told) ≡ length (places_of Server ports) = ap (λ ps. length (places_of Server ps)) same ∙ ap length same_places in
+      omega (arith, below, as_many)
 
   more : (count' : ℕ) → count ≤ i → count' ≡ count → count' ≤ i + 1
   more count' few same = omega (arith, few, same)
@@ -143,84 +145,63 @@ module _ (c now : ControlState) (h : HandleState) (overflow : Bool) (i count : �
         few = more count done.few refl;
       })
 
-  -- there is no server
-  pub passes : is_some (server_in now.tables.ports i) ≡ false → IsGiven c now h overflow (i + 1) count
-  passes none =
-      stays now refl
-      (ap (filter (gets overflow ports)) (ways_none h.port ports i (is_none (server_in ports i) (ap is_some (sym server_as_before) ∙ none))))
-    where
-      is_none : (o : Option ℕ) → is_some o ≡ false → o ≡ None
-      is_none None e = refl
-      is_none (Some n) e = absurd (true≢false e)
-
-  -- so no lane is there that might not be sound
-  pub sound_passes : is_some (server_in now.tables.ports i) ≡ false → OnEach (λ w l. IsSound l) (lane_on ports) (request_ways h.port (take i ports))
-      → OnEach (λ w l. IsSound l) (lane_on ports) (request_ways h.port (take (i + 1) ports))
-  sound_passes none before =
-      subst (OnEach (λ w l. IsSound l) (lane_on ports))
-      (sym (ways_none h.port ports i (no_number (server_in ports i) (ap is_some (sym server_as_before) ∙ none)))) before
-
-  module _ (some : is_some (server_in now.tables.ports i) ≡ true) (named : (node : ℕ) × (n : ℕ) × IsHandle c.tables node n h)
+  module _ (place : ℕ) (at : slice_get (places_of Server now.tables.ports) i ≡ Some place) (named : (node : ℕ) × (n : ℕ) × IsHandle c.tables node n h)
       (order : AreInOrder c.tables) (kind : is_request_loan h.kind ≡ true)
       (lanes : OnEach (λ w l. CanTake h.pool l) (lane_on ports) (request_ways h.port ports)) where
-    there : (o : Option ℕ) → is_some o ≡ true → (n : ℕ) × (o ≡ Some n)
-    there (Some n) e = (n, refl)
-    there None e = absurd (true≢false (sym e))
-
-    the_server : (n : ℕ) × (server_in ports i ≡ Some n)
-    the_server = there (server_in ports i) (ap is_some (sym server_as_before) ∙ some)
+    abbrev rank : HasRank ports i place
+    rank = has_rank ports i place (ap (λ ks. slice_get ks i) (sym same_places) ∙ at)
 
     abbrev server : ℕ
-    server = the_server.0
+    server = rank.port.number
 
-    in_now : server_in now.tables.ports i ≡ Some server
-    in_now = server_as_before ∙ the_server.1
+    in_now : server_in now.tables.ports place ≡ Some server
+    in_now = ap (λ ps. server_in ps place) same_ports ∙ server_stays (delivers overflow h.slot) ports before place ∙ rank.server
 
     abbrev w : Way
     w = request_way h.port server
 
-    split : request_ways h.port ports ≡ request_ways h.port (take i ports) ++ w ∷ request_ways h.port (drop (i + 1) ports)
+    split : request_ways h.port ports ≡ take i (request_ways h.port ports) ++ w ∷ drop (i + 1) (request_ways h.port ports)
     split =
         ways_split h.port ports (i + 1)
-        ∙ ap (λ ws. ws ++ request_ways h.port (drop (i + 1) ports)) (ways_one h.port ports i server the_server.1)
-        ∙ append_assoc (request_ways h.port (take i ports)) (w ∷ []) (request_ways h.port (drop (i + 1) ports))
+        ∙ ap (λ ws. ws ++ drop (i + 1) (request_ways h.port ports)) (ways_one h.port ports i server rank.listed)
+        ∙ append_assoc (take i (request_ways h.port ports)) (w ∷ []) (drop (i + 1) (request_ways h.port ports))
 
-    targets : AreTargetsOf c.tables h (request_ways h.port (take i ports) ++ w ∷ request_ways h.port (drop (i + 1) ports))
+    targets : AreTargetsOf c.tables h (take i (request_ways h.port ports) ++ w ∷ drop (i + 1) (request_ways h.port ports))
     targets = subst (AreTargetsOf c.tables h) split ((each_has_its_targets c.tables named.0 named.1 h order named.2).requests kind)
 
     lane : (l : LaneState) × (lane_on ports w ≡ Some l) × CanTake h.pool l
     lane =
-        each_at (λ v l. CanTake h.pool l) (lane_on ports) (request_ways h.port (take i ports)) (request_ways h.port (drop (i + 1) ports)) w
+        each_at (λ v l. CanTake h.pool l) (lane_on ports) (take i (request_ways h.port ports)) (drop (i + 1) (request_ways h.port ports)) w
         (subst (OnEach (λ v l. CanTake h.pool l) (lane_on ports)) split lanes)
 
     same_lane : lane_on now.tables.ports w ≡ lane_on ports w
     same_lane =
         ap (λ ps. lane_on ps w) same_ports
         ∙ lane_elsewhere (delivers overflow h.slot) ports before w
-        (next_is_new (gets overflow ports) w (request_ways h.port (drop (i + 1) ports)) (request_ways h.port (take i ports)) targets.apart)
+        (next_is_new (gets overflow ports) w (drop (i + 1) (request_ways h.port ports)) (take i (request_ways h.port ports)) targets.apart)
 
     -- what the delivery asks
-    number_is : (p : PortState) → slice_get now.tables.ports i ≡ Some p → p.number ≡ server
+    number_is : (p : PortState) → slice_get now.tables.ports place ≡ Some p → p.number ≡ server
     number_is p at = step (same_role p.role Server) (ap (λ (o : Option PortState). option_map_or (λ q. if same_role q.role Server then Some q.number else None) o None) (sym at) ∙ in_now)
       where
         step : (b : Bool) → (if b then Some p.number else None) ≡ Some server → p.number ≡ server
         step true e = same_Some p.number server e
         step false e = absurd (none-some server e)
 
-    pub can_take : OfLane now.tables.ports i h.port (CanTake h.pool)
+    pub can_take : OfLane now.tables.ports place h.port (CanTake h.pool)
     can_take p at l it =
         subst (CanTake h.pool)
         (same_Some lane.0 l (sym lane.1 ∙ sym same_lane ∙ ap (λ n. lane_on now.tables.ports (way_from h.port 0 n)) (sym (number_is p at)) ∙ it))
         lane.2
 
     -- its lane is sound
-    pub sound_next : OfLane now.tables.ports i h.port IsSound → OnEach (λ v l. IsSound l) (lane_on ports) (request_ways h.port (take i ports))
-        → OnEach (λ v l. IsSound l) (lane_on ports) (request_ways h.port (take (i + 1) ports))
+    pub sound_next : OfLane now.tables.ports place h.port IsSound → OnEach (λ v l. IsSound l) (lane_on ports) (take i (request_ways h.port ports))
+        → OnEach (λ v l. IsSound l) (lane_on ports) (take (i + 1) (request_ways h.port ports))
     sound_next sound before =
-        subst (OnEach (λ v l. IsSound l) (lane_on ports)) (sym (ways_one h.port ports i server the_server.1))
-        (each_append (λ v l. IsSound l) (lane_on ports) (request_ways h.port (take i ports)) w before (lane.0, lane.1, at_port (slice_get now.tables.ports i) refl))
+        subst (OnEach (λ v l. IsSound l) (lane_on ports)) (sym (ways_one h.port ports i server rank.listed))
+        (each_append (λ v l. IsSound l) (lane_on ports) (take i (request_ways h.port ports)) w before (lane.0, lane.1, at_port (slice_get now.tables.ports place) refl))
       where
-        at_port : (o : Option PortState) → slice_get now.tables.ports i ≡ o → IsSound lane.0
+        at_port : (o : Option PortState) → slice_get now.tables.ports place ≡ o → IsSound lane.0
         at_port (Some p) at = sound p at lane.0 (ap (λ n. lane_on now.tables.ports (way_from h.port 0 n)) (number_is p at) ∙ same_lane ∙ lane.1)
         at_port None at =
             absurd (none-some server (ap (λ (o : Option PortState). option_map_or (λ q. if same_role q.role Server then Some q.number else None) o None) (sym at) ∙ in_now))
@@ -230,7 +211,7 @@ module _ (c now : ControlState) (h : HandleState) (overflow : Bool) (i count : �
       one_more =
           steps c.tables named.0 named.1 h overflow before w lane.0 now.tables.pools order named.2
           (ap (λ b. b || is_response_loan h.kind) kind)
-          (some_are_targets (gets overflow ports) w (request_ways h.port (drop (i + 1) ports)) c.tables h (request_ways h.port (take i ports)) targets)
+          (some_are_targets (gets overflow ports) w (drop (i + 1) (request_ways h.port ports)) c.tables h (take i (request_ways h.port ports)) targets)
           lane.1 done.pools
 
       pub is_taken : 0 < (slot_at now.tables.pools h.pool h.slot).holders
@@ -240,20 +221,20 @@ module _ (c now : ControlState) (h : HandleState) (overflow : Bool) (i count : �
       still_fits can = let fits = one_more.fits in omega (arith, fits, can)
 
       module _ (now' : ControlState) where
-        full_as_before : on_way_at is_full true now.tables.ports i h.port 0 ≡ is_full_on ports w
+        full_as_before : on_way_at is_full true now.tables.ports place h.port 0 ≡ is_full_on ports w
         full_as_before =
-            on_server is_full true now.tables.ports i h.port server in_now
+            on_server is_full true now.tables.ports place h.port server in_now
             ∙ ap (λ o. option_map_or is_full o true) same_lane
 
-        next_is : (b : Bool) → b ≡ (overflow || not (on_way_at is_full true now.tables.ports i h.port 0))
+        next_is : (b : Bool) → b ≡ (overflow || not (on_way_at is_full true now.tables.ports place h.port 0))
             → reached overflow ports h.port (i + 1) ≡ before ++ (if b then w ∷ [] else [])
         next_is b told =
-            ap (filter (gets overflow ports)) (ways_one h.port ports i server the_server.1)
-            ∙ filter-append (gets overflow ports) (request_ways h.port (take i ports)) (w ∷ [])
+            ap (filter (gets overflow ports)) (ways_one h.port ports i server rank.listed)
+            ∙ filter-append (gets overflow ports) (take i (request_ways h.port ports)) (w ∷ [])
             ∙ ap (λ a. before ++ (if a then w ∷ [] else [])) (sym (told ∙ ap (λ a. overflow || not a) full_as_before))
 
         -- it got nothing
-        pub gives_nothing : false ≡ (overflow || not (on_way_at is_full true now.tables.ports i h.port 0)) → now' ≡ now
+        pub gives_nothing : false ≡ (overflow || not (on_way_at is_full true now.tables.ports place h.port 0)) → now' ≡ now
             → IsGiven c now' h overflow (i + 1) count
         gives_nothing told same = stays now' same (next_is false told ∙ append_none before)
           where
@@ -266,29 +247,29 @@ module _ (c now : ControlState) (h : HandleState) (overflow : Bool) (i count : �
         lanes_next g ps [] v = refl
         lanes_next g ps (u ∷ ws) v = lanes_next g (with_lane_on g ps u) ws v
 
-        ports_next : with_lane_at (delivers overflow h.slot) now.tables.ports i h.port 0 ≡ with_lanes_on (delivers overflow h.slot) ports (before ++ w ∷ [])
+        ports_next : with_lane_at (delivers overflow h.slot) now.tables.ports place h.port 0 ≡ with_lanes_on (delivers overflow h.slot) ports (before ++ w ∷ [])
         ports_next =
-            with_server (delivers overflow h.slot) now.tables.ports i h.port server in_now
+            with_server (delivers overflow h.slot) now.tables.ports place h.port server in_now
             ∙ ap (λ ps. with_lane_on (delivers overflow h.slot) ps w) same_ports
             ∙ lanes_next (delivers overflow h.slot) ports before w
 
-        out_is : on_way_at (pushed_out_by overflow h.slot) None now.tables.ports i h.port 0 ≡ pushed_out_by overflow h.slot lane.0
+        out_is : on_way_at (pushed_out_by overflow h.slot) None now.tables.ports place h.port 0 ≡ pushed_out_by overflow h.slot lane.0
         out_is =
-            on_server (pushed_out_by overflow h.slot) None now.tables.ports i h.port server in_now
+            on_server (pushed_out_by overflow h.slot) None now.tables.ports place h.port server in_now
             ∙ ap (λ o. option_map_or (pushed_out_by overflow h.slot) o None) (same_lane ∙ lane.1)
 
         abbrev new_pools : List (Option PoolState)
         new_pools = with_out (with_slot held now.tables.pools h.pool h.slot) h.pool (pushed_out_by overflow h.slot lane.0)
 
-        given_is : now' ≡ with_given now i h overflow
+        given_is : now' ≡ with_given now place h overflow
             → now' ≡ with_tables c (record (c.tables) { ports = with_lanes_on (delivers overflow h.slot) ports (before ++ w ∷ []); pools = new_pools })
         given_is is =
             is
-            ∙ ap (λ ps. with_tables now (record (now.tables) { ports = ps; pools = with_out (with_slot held now.tables.pools h.pool h.slot) h.pool (on_way_at (pushed_out_by overflow h.slot) None now.tables.ports i h.port 0) })) ports_next
+            ∙ ap (λ ps. with_tables now (record (now.tables) { ports = ps; pools = with_out (with_slot held now.tables.pools h.pool h.slot) h.pool (on_way_at (pushed_out_by overflow h.slot) None now.tables.ports place h.port 0) })) ports_next
             ∙ ap (λ o. with_tables now (record (now.tables) { ports = with_lanes_on (delivers overflow h.slot) ports (before ++ w ∷ []); pools = with_out (with_slot held now.tables.pools h.pool h.slot) h.pool o })) out_is
             ∙ ap (λ (d : ControlState). with_tables d (record (d.tables) { ports = with_lanes_on (delivers overflow h.slot) ports (before ++ w ∷ []); pools = new_pools })) done.so
 
-        pub gives_one : true ≡ (overflow || not (on_way_at is_full true now.tables.ports i h.port 0)) → now' ≡ with_given now i h overflow
+        pub gives_one : true ≡ (overflow || not (on_way_at is_full true now.tables.ports place h.port 0)) → now' ≡ with_given now place h overflow
             → IsGiven c now' h overflow (i + 1) (count + 1)
         gives_one told is =
             let left = next_is true told in

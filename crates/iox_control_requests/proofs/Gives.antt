@@ -2,9 +2,12 @@
 use Rattle.std.specs.Prelude.{◌≡◌, ℕ, Bool, true, false, List, Option, Some, None, slice_get, refl}
 use Rattle.std.specs.Option.{option_map_or}
 use Rattle.std.proofs.Common.{sym, ap, ◌∙◌}
+use Rattle.iox_model.specs.declared.way.RequestState.TheVariants.{Named}
+use Rattle.iox_model.specs.Messages.{request_way, response_way}
+use Rattle.iox_lanes.specs.declared.wanted.Label.{Label}
 use Rattle.iox_lanes.specs.Lanes.{LaneState, IsSound, is_full, offered}
 use Rattle.iox_tables.specs.HubStates.Tables.{HandleState, PoolState, PortState}
-use Rattle.iox_tables.specs.HubStates.Ways.{lane_on, with_lane_on}
+use Rattle.iox_tables.specs.HubStates.Ways.{lane_on, with_lane_on, with_state_on}
 use Rattle.iox_hub_ports.specs.Ports.{on_way, on_way_at, pushed, pushed_out, way_from, with_lane_at}
 use Rattle.iox_hub_phases.specs.Phases.{DoSame}
 use Rattle.iox_hub_phases.proofs.Agreeing.{way_agree}
@@ -14,7 +17,7 @@ use Rattle.iox_slots.specs.Slots.{held, let_go}
 use Rattle.iox_hub_delivering.specs.Deliveries.{pushed_out_by}
 use Rattle.iox_hub_delivering.specs.Steps.{with_out}
 use Rattle.iox_control.specs.Controls.{ControlState, with_pools, with_ports, with_tables}
-use Rattle.iox_control_requests.specs.Deliveries.{CanTake, with_given}
+use Rattle.iox_control_requests.specs.Deliveries.{CanTake, with_given, with_pushed}
 use Rattle.iox_control_requests.proofs.Takes.{free_out, free_takes, full_out, full_takes}
 
 -- ---- what is told
@@ -107,6 +110,11 @@ pub push_none : (c d : ControlState) (ports : List PortState) (pool : ℕ) (o : 
     → d ≡ with_both c ports (with_out c.tables.pools pool o)
 push_none c d ports pool o pushed none = pushed ∙ ap (λ q. with_both c ports (with_out c.tables.pools pool q)) (sym none)
 
+-- the ports once the request is opened with that server and put last in line there
+abbrev pushed_there : List PortState → HandleState → Label → ℕ → List PortState
+pushed_there ports h label server =
+    with_lane_on (λ l. pushed l h.slot) (with_state_on (λ r. Named label.request false) ports (response_way h.port label.lane server)) (request_way h.port server)
+
 module _ (c : ControlState) (place : ℕ) (h : HandleState)
     (sound : OfLane c.tables.ports place h.port IsSound) (can : OfLane c.tables.ports place h.port (CanTake h.pool))
     (d e : ControlState) (holds : d ≡ with_tables c (record (c.tables) { pools = with_slot held c.tables.pools h.pool h.slot })) where
@@ -131,3 +139,14 @@ module _ (c : ControlState) (place : ℕ) (h : HandleState)
       ∙ ap (λ o. with_both c (with_lane_at (delivers true h.slot) c.tables.ports place h.port 0) (with_out (with_slot held c.tables.pools h.pool h.slot) h.pool o))
       (full_oldest c.tables.ports place h.port h.pool sound can overflow h.slot)
       ∙ ap (λ b. with_given c place h b) (sym over)
+
+-- what is pushed once the slot is held is pushed with the slot held
+pub pushes_held : (c : ControlState) (place : ℕ) (h : HandleState) (label : Label) (d e : ControlState)
+    → d ≡ with_tables c (record (c.tables) { pools = with_slot held c.tables.pools h.pool h.slot })
+    → ((p : PortState) → slice_get d.tables.ports place ≡ Some p → e ≡ with_both d (pushed_there d.tables.ports h label p.number)
+    (with_out d.tables.pools h.pool (on_way pushed_out None d.tables.ports (request_way h.port p.number))))
+    → (p : PortState) → slice_get c.tables.ports place ≡ Some p → e ≡ with_pushed c p.number h label
+pushes_held c place h label d e holds is p at =
+    is p (ap (λ (x : ControlState). slice_get x.tables.ports place) holds ∙ at)
+    ∙ ap (λ (x : ControlState). with_both x (pushed_there x.tables.ports h label p.number)
+    (with_out x.tables.pools h.pool (on_way pushed_out None x.tables.ports (request_way h.port p.number)))) holds

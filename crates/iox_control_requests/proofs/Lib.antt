@@ -7,6 +7,8 @@ pub mod Gives
 pub mod Delivering
 pub mod Ready
 pub mod Opened
+pub mod Turned
+pub mod Pushing
 pub mod Emptied
 pub mod Whole
 pub mod Offered

@@ -1,5 +1,6 @@
 -- What a hub's tables keep as a request is opened, is delivered and becomes a pending response.
-use Rattle.std.specs.Prelude.{◌≡◌, ℕ, ◌+◌, ◌<◌, ◌≤◌, ◌^◌, Bool, true, false, ◌||◌, if◌then◌else◌, List, [], ◌∷◌, ◌++◌, length, map, Option, refl}
+use Rattle.std.specs.Prelude.{◌≡◌, ℕ, ◌+◌, ◌<◌, ◌≤◌, ◌^◌, Bool, true, false, ◌||◌, if◌then◌else◌, List, [], ◌∷◌, ◌++◌, length, map, slice_get, Option, None, refl}
+use Rattle.std.specs.Option.{option_map_or}
 use Rattle.std.proofs.Common.{sym, ap, subst, ◌∙◌, arith}
 use Rattle.iox_model.specs.declared.kind.Role.TheVariants.{Server}
 use Rattle.iox_model.specs.declared.kind.Kind.TheVariants.{PendingResponse}
@@ -18,7 +19,7 @@ use Rattle.iox_tables.specs.HubStates.Sends.{with_opened}
 use Rattle.iox_model.specs.Maps.{not_in}
 use Rattle.iox_tables.specs.HubStates.Steps.{full_in}
 use Rattle.iox_tables.specs.HubStates.Tables.{HandleState, HubTables, PoolState, PortState, labels_of}
-use Rattle.iox_tables.specs.HubStates.Ways.{OnWays, lane_on, with_pipe_of, with_state_on, with_states_on}
+use Rattle.iox_tables.specs.HubStates.Ways.{OnWays, lane_on, with_lanes_on, with_pipe_of, with_state_on, with_states_on}
 use Rattle.iox_tables.specs.HubStates.Wirings.{IsHandle, numbers_of_role}
 use Rattle.iox_lanes.specs.Lanes.{LaneState}
 use Rattle.iox_tables.proofs.HubStates.Keys.{all_lanes_stay, same_mapped}
@@ -36,8 +37,8 @@ use Rattle.iox_control.specs.Controls.{AreCounted, ControlState, IsControl, with
 use Rattle.iox_control.proofs.RoomLemmas.{lanes_seats, room_as, states_seats}
 use Rattle.iox_control_requests.specs.Deliveries.{ways_that_get}
 use Rattle.iox_control_requests.specs.Requests.{ways_of, with_request_sent}
-use Rattle.iox_control_requests.specs.Servers.{request_ways}
-use Rattle.iox_control_requests.proofs.Walks.{listed, server_kept, server_of, servers_first}
+use Rattle.iox_control_requests.specs.Servers.{request_ways, server_in}
+use Rattle.iox_control_requests.proofs.Walks.{in_map, listed, server_kept, server_of, servers_first, servers_stay}
 use Rattle.iox_tables.proofs.HubBooks.OneGiven.{gives_bare}
 
 -- ---- request states change
@@ -79,9 +80,19 @@ state_servers g ports (w ∷ ws) =
     ∙ same_mapped (λ p. p.number) (λ p. with_pipe_of (λ q. with_state g q w.lane) p w.receiver) server_of
     (server_kept (λ q. with_state g q w.lane) w.receiver) ports w.sender
 
+pub lanes_keep_servers : (g : LaneState → LaneState) (ports : List PortState) (ws : List Way) → numbers_of_role Server (with_lanes_on g ports ws) ≡ numbers_of_role Server ports
+lanes_keep_servers g ports ws = by_servers (with_lanes_on g ports ws) ∙ ap all_listed (servers_stay g ports ws) ∙ sym (by_servers ports)
+
+pub same_numbers : (g : RequestState → RequestState) (ports : List PortState) (ws : List Way) → numbers_of_role Server (with_states_on g ports ws) ≡ numbers_of_role Server ports
+same_numbers g ports ws = by_servers (with_states_on g ports ws) ∙ ap all_listed (state_servers g ports ws) ∙ sym (by_servers ports)
+
+pub server_stays_then : (g : RequestState → RequestState) (ports : List PortState) (ws : List Way) (i : ℕ) → server_in (with_states_on g ports ws) i ≡ server_in ports i
+server_stays_then g ports ws i =
+    in_map (with_states_on g ports ws) i ∙ ap (λ (ns : List (Option ℕ)). option_map_or (λ r. r) (slice_get ns i) None) (state_servers g ports ws) ∙ sym (in_map ports i)
+
 pub same_ways : (client : ℕ) (g : RequestState → RequestState) (ports : List PortState) (ws : List Way) → request_ways client (with_states_on g ports ws) ≡ request_ways client ports
 same_ways client g ports ws =
-    ap (map (request_way client)) (by_servers (with_states_on g ports ws) ∙ ap all_listed (state_servers g ports ws) ∙ sym (by_servers ports))
+    ap (map (request_way client)) (same_numbers g ports ws)
 
 -- ---- the send of a request
 
@@ -131,37 +142,40 @@ module _ (c : ControlState) (h : HandleState) (overflow : Bool) where
   at_end t count pools =
       record (with_call (with_changed (with_lanes (delivers overflow h.slot) t (ways_of c.tables h overflow)) (pending_of h count))) { pools = pools }
 
-  pub sent_is : (c2 c3 c4 : ControlState) (count : ℕ) → c2 ≡ with_tables c opened
+  pub delivered_is : (c2 c3 : ControlState) → c2 ≡ with_tables c opened
       → c3 ≡ with_tables c2 (record (with_lanes (delivers overflow h.slot) c2.tables (ways_that_get overflow c2.tables.ports (request_ways h.port c2.tables.ports))) { pools = c3.tables.pools })
-      → count ≡ length (ways_that_get overflow c2.tables.ports (request_ways h.port c2.tables.ports))
-      → c4 ≡ with_tables c3 (with_call (with_changed c3.tables (pending_of h count)))
-      → (c4 ≡ with_tables c (record (with_request_sent c.tables h overflow) { pools = c4.tables.pools }))
-      × (c4.tables.pools ≡ c3.tables.pools) × (count ≡ length (ways_of c.tables h overflow))
-  sent_is c2 c3 c4 count first second counts third =
-      let same : ways_that_get overflow c2.tables.ports (request_ways h.port c2.tables.ports) ≡ ways_of c.tables h overflow =
-      ap (λ (d : ControlState). ways_that_get overflow d.tables.ports (request_ways h.port d.tables.ports)) first ∙ get_stays in
-      let as_counted : count ≡ length (ways_of c.tables h overflow) = counts ∙ ap length same in
-      let pools : c4.tables.pools ≡ c3.tables.pools = ap (λ (d : ControlState). d.tables.pools) third in
-      let second' : c3 ≡ with_tables c (record (with_lanes (delivers overflow h.slot) opened (ways_of c.tables h overflow)) { pools = c3.tables.pools }) =
+      → c3 ≡ with_tables c (record (with_lanes (delivers overflow h.slot) opened (ways_of c.tables h overflow)) { pools = c3.tables.pools })
+  delivered_is c2 c3 first second =
       second
-      ∙ ap (λ (d : ControlState). with_tables d (record (with_lanes (delivers overflow h.slot) d.tables (ways_that_get overflow c2.tables.ports (request_ways h.port c2.tables.ports))) { pools = c3.tables.pools })) first
-      ∙ ap (λ ws. with_tables c (record (with_lanes (delivers overflow h.slot) opened ws) { pools = c3.tables.pools })) same in (
+      ∙ ap (λ (d : ControlState). with_tables d (record (with_lanes (delivers overflow h.slot) d.tables (ways_that_get overflow d.tables.ports (request_ways h.port d.tables.ports))) { pools = c3.tables.pools })) first
+      ∙ ap (λ ws. with_tables c (record (with_lanes (delivers overflow h.slot) opened ws) { pools = c3.tables.pools })) get_stays
+
+  pub count_is : (c2 : ControlState) (count : ℕ) → c2 ≡ with_tables c opened
+      → count ≡ length (ways_that_get overflow c2.tables.ports (request_ways h.port c2.tables.ports)) → count ≡ length (ways_of c.tables h overflow)
+  count_is c2 count first counts =
+      counts ∙ ap (λ (d : ControlState). length (ways_that_get overflow d.tables.ports (request_ways h.port d.tables.ports))) first ∙ ap length get_stays
+
+  pub sent_is : (c3 c4 : ControlState) (count : ℕ)
+      → c3 ≡ with_tables c (record (with_lanes (delivers overflow h.slot) opened (ways_of c.tables h overflow)) { pools = c3.tables.pools })
+      → count ≡ length (ways_of c.tables h overflow)
+      → c4 ≡ with_tables c3 (with_call (with_changed c3.tables (pending_of h count)))
+      → (c4 ≡ with_tables c (record (with_request_sent c.tables h overflow) { pools = c4.tables.pools })) × (c4.tables.pools ≡ c3.tables.pools)
+  sent_is c3 c4 count second counted third =
+      let pools : c4.tables.pools ≡ c3.tables.pools = ap (λ (d : ControlState). d.tables.pools) third in (
         third
-            ∙ ap (λ (d : ControlState). with_tables d (with_call (with_changed d.tables (pending_of h count)))) second'
-            ∙ ap (λ m. with_tables c (at_end opened m c3.tables.pools)) as_counted
+            ∙ ap (λ (d : ControlState). with_tables d (with_call (with_changed d.tables (pending_of h count)))) second
+            ∙ ap (λ m. with_tables c (at_end opened m c3.tables.pools)) counted
             ∙ ap (λ ps. with_tables c (at_end opened (length (ways_of c.tables h overflow)) ps)) (sym pools),
         pools,
-        as_counted,
       )
 
-  pub holders_are : (c2 c3 c4 : ControlState) → c2 ≡ with_tables c opened → c4.tables.pools ≡ c3.tables.pools
+  pub holders_are : (c2 c3 : ControlState) → c2 ≡ with_tables c opened
       → HasDelivered overflow h.slot (lane_on c2.tables.ports) (ways_that_get overflow c2.tables.ports (request_ways h.port c2.tables.ports)) c2.tables.pools c3.tables.pools
-      → HasDelivered overflow h.slot (lane_on c.tables.ports) (ways_of c.tables h overflow) c.tables.pools c4.tables.pools
-  holders_are c2 c3 c4 first pools has =
-      subst (HasDelivered overflow h.slot (lane_on c.tables.ports) (ways_of c.tables h overflow) c.tables.pools) (sym pools)
-      (subst (λ (on : OnWays LaneState). HasDelivered overflow h.slot on (ways_of c.tables h overflow) c.tables.pools c3.tables.pools) same_lanes
+      → HasDelivered overflow h.slot (lane_on c.tables.ports) (ways_of c.tables h overflow) c.tables.pools c3.tables.pools
+  holders_are c2 c3 first has =
+      subst (λ (on : OnWays LaneState). HasDelivered overflow h.slot on (ways_of c.tables h overflow) c.tables.pools c3.tables.pools) same_lanes
       (subst (λ ws. HasDelivered overflow h.slot (lane_on opened.ports) ws c.tables.pools c3.tables.pools) get_stays
-      (subst (λ (d : ControlState). HasDelivered overflow h.slot (lane_on d.tables.ports) (ways_that_get overflow d.tables.ports (request_ways h.port d.tables.ports)) d.tables.pools c3.tables.pools) first has)))
+      (subst (λ (d : ControlState). HasDelivered overflow h.slot (lane_on d.tables.ports) (ways_that_get overflow d.tables.ports (request_ways h.port d.tables.ports)) d.tables.pools c3.tables.pools) first has))
 
   pub opened_is : (c2 : ControlState) (l : Label) → l ≡ labels_of c.tables.pools h.pool h.slot
       → c2 ≡ with_tables c (with_states (λ r. Named l.request false) c.tables (map (response_way h.port l.lane) (numbers_of_role Server c.tables.ports)))

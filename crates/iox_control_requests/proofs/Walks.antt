@@ -2,9 +2,7 @@
 use Rattle.std.specs.Prelude.{◌≡◌, ℕ, zero, suc, ◌+◌, ◌≤◌, Bool, true, false, ◌&&◌, ◌||◌, if◌then◌else◌, List, [], ◌∷◌, ◌++◌, length, map, filter, take, drop, Option, Some, None, slice_get, refl}
 use Rattle.std.specs.List.{list_any}
 use Rattle.std.specs.Option.{option_map, option_map_or}
-use Rattle.std.proofs.Common.{sym, ap, ◌∙◌, arith, add-one, append_assoc}
-use Rattle.std.proofs.lemmas.List.{map-append}
-use Rattle.std.proofs.lemmas.List.Elements.{filter-append}
+use Rattle.std.proofs.Common.{sym, ap, ◌∙◌, arith, add-one}
 use Rattle.std.proofs.lemmas.List.Folds.{list_any-append}
 use Rattle.std.proofs.lemmas.Option.{none-some, same_Some, slice_get-map}
 use Rattle.iox_model.specs.declared.kind.Role.TheVariants.{Server}
@@ -19,7 +17,11 @@ use Rattle.iox_tables.specs.HubStates.Tables.{PortState, senders_of}
 use Rattle.iox_tables.specs.HubStates.Ways.{lane_on, with_lane_on, with_lanes_on, with_pipe_from, with_pipe_of, with_pipes}
 use Rattle.iox_tables.specs.HubStates.Wirings.{numbers_of_role}
 use Rattle.iox_tables.proofs.HubStates.Keys.{same_mapped}
-use Rattle.iox_hub_ports.specs.Ports.{on_way_at, on_way, way_from, with_lane_at}
+use Rattle.iox_tables.proofs.HubBooks.Frames.{length_map}
+use Rattle.iox_hub_ports.specs.declared.info.PortInfo.{PortInfo}
+use Rattle.iox_hub_ports.specs.InPlace.{places_from, places_of, roles_of}
+use Rattle.iox_hub_ports.specs.Ports.{info_at, info_of, on_way_at, on_way, way_from, with_lane_at}
+use Rattle.iox_hub_ports.proofs.Listing.{port_of_rank}
 use Rattle.iox_control_requests.specs.Servers.{fails_on, is_full_on, request_ways, server_in}
 
 -- ---- the servers in the first places
@@ -41,70 +43,76 @@ servers_first p ps = step (same_role p.role Server)
     step true = refl
     step false = refl
 
-servers_split : (ps qs : List PortState) → numbers_of_role Server (ps ++ qs) ≡ numbers_of_role Server ps ++ numbers_of_role Server qs
-servers_split ps qs =
-    ap (map (λ (q : PortState). q.number)) (filter-append (λ q. same_role q.role Server) ps qs)
-    ∙ map-append (λ (q : PortState). q.number) (filter (λ q. same_role q.role Server) ps) (filter (λ q. same_role q.role Server) qs)
-
-take_drop : (ps : List PortState) (i : ℕ) → take i ps ++ drop i ps ≡ ps
+take_drop : {A : Type 0} (xs : List A) (i : ℕ) → take i xs ++ drop i xs ≡ xs
 take_drop [] zero = refl
 take_drop [] (suc i) = refl
-take_drop (p ∷ ps) zero = refl
-take_drop (p ∷ ps) (suc i) = ap (λ qs. p ∷ qs) (take_drop ps i)
+take_drop (x ∷ xs) zero = refl
+take_drop (x ∷ xs) (suc i) = ap (λ ys. x ∷ ys) (take_drop xs i)
 
--- all ways are those to the first ports and to the others
+-- all ways are those to the first servers and to the others
 pub ways_split : (client : ℕ) (ports : List PortState) (i : ℕ)
-    → request_ways client ports ≡ request_ways client (take i ports) ++ request_ways client (drop i ports)
-ways_split client ports i =
-    ap (request_ways client) (sym (take_drop ports i))
-    ∙ ap (map (request_way client)) (servers_split (take i ports) (drop i ports))
-    ∙ map-append (request_way client) (numbers_of_role Server (take i ports)) (numbers_of_role Server (drop i ports))
+    → request_ways client ports ≡ take i (request_ways client ports) ++ drop i (request_ways client ports)
+ways_split client ports i = sym (take_drop (request_ways client ports) i)
 
-servers_next : (ports : List PortState) (i : ℕ)
-    → numbers_of_role Server (take (suc i) ports) ≡ numbers_of_role Server (take i ports) ++ listed (server_in ports i)
-servers_next [] zero = refl
-servers_next [] (suc i) = refl
-servers_next (p ∷ ps) zero = servers_first p [] ∙ step (server_of p)
-  where
-    step : (o : Option ℕ) → listed o ++ [] ≡ listed o
-    step None = refl
-    step (Some n) = refl
-servers_next (p ∷ ps) (suc i) =
-    servers_first p (take (suc i) ps)
-    ∙ ap (λ ns. listed (server_of p) ++ ns) (servers_next ps i)
-    ∙ sym (append_assoc (listed (server_of p)) (numbers_of_role Server (take i ps)) (listed (server_in ps i)))
-    ∙ ap (λ ns. ns ++ listed (server_in ps i)) (sym (servers_first p (take i ps)))
+take_one : {A : Type 0} (xs : List A) (i : ℕ) (x : A) → slice_get xs i ≡ Some x → take (suc i) xs ≡ take i xs ++ x ∷ []
+take_one [] i x e = absurd (none-some x e)
+take_one (y ∷ ys) zero x e = ap (λ z. z ∷ []) (same_Some y x e)
+take_one (y ∷ ys) (suc i) x e = ap (λ zs. y ∷ zs) (take_one ys i x e)
 
-pub ways_next : (client : ℕ) (ports : List PortState) (i : ℕ)
-    → request_ways client (take (i + 1) ports) ≡ request_ways client (take i ports) ++ map (request_way client) (listed (server_in ports i))
-ways_next client ports i =
-    ap (λ n. request_ways client (take n ports)) (add-one i)
-    ∙ ap (map (request_way client)) (servers_next ports i)
-    ∙ map-append (request_way client) (numbers_of_role Server (take i ports)) (listed (server_in ports i))
+pub first_and_next : {A : Type 0} (xs : List A) (i : ℕ) (x : A) → slice_get xs i ≡ Some x → take (i + 1) xs ≡ take i xs ++ x ∷ []
+first_and_next xs i x e = ap (λ k. take k xs) (add-one i) ∙ take_one xs i x e
 
-append_none : {A : Type 0} (xs : List A) → xs ++ [] ≡ xs
-append_none [] = refl
-append_none (x ∷ xs) = ap (λ ys. x ∷ ys) (append_none xs)
+-- the server of a rank adds its way
+pub ways_one : (client : ℕ) (ports : List PortState) (i n : ℕ) → slice_get (numbers_of_role Server ports) i ≡ Some n
+    → take (i + 1) (request_ways client ports) ≡ take i (request_ways client ports) ++ request_way client n ∷ []
+ways_one client ports i n e =
+    first_and_next (request_ways client ports) i (request_way client n)
+    (slice_get-map (request_way client) (numbers_of_role Server ports) i ∙ ap (option_map (request_way client)) e)
 
--- a port that is no server adds no way
-pub ways_none : (client : ℕ) (ports : List PortState) (i : ℕ) → server_in ports i ≡ None
-    → request_ways client (take (i + 1) ports) ≡ request_ways client (take i ports)
-ways_none client ports i e =
-    ways_next client ports i ∙ ap (λ o. request_ways client (take i ports) ++ map (request_way client) (listed o)) e ∙ append_none (request_ways client (take i ports))
-
--- a server adds its way
-pub ways_one : (client : ℕ) (ports : List PortState) (i n : ℕ) → server_in ports i ≡ Some n
-    → request_ways client (take (i + 1) ports) ≡ request_ways client (take i ports) ++ request_way client n ∷ []
-ways_one client ports i n e = ways_next client ports i ∙ ap (λ o. request_ways client (take i ports) ++ map (request_way client) (listed o)) e
-
-take_all : (ps : List PortState) (n : ℕ) → length ps ≤ n → take n ps ≡ ps
+pub take_all : {A : Type 0} (xs : List A) (n : ℕ) → length xs ≤ n → take n xs ≡ xs
 take_all [] zero h = refl
 take_all [] (suc n) h = refl
 take_all (x ∷ xs) zero h = absurd (omega (arith, h))
 take_all (x ∷ xs) (suc n) h = ap (λ zs. x ∷ zs) (take_all xs n (omega (arith, h)))
 
-pub ways_all : (client : ℕ) (ports : List PortState) (i : ℕ) → length ports ≤ i → request_ways client (take i ports) ≡ request_ways client ports
-ways_all client ports i h = ap (request_ways client) (take_all ports i h)
+-- there are as many places of servers as there are numbers
+places_many : (k : ℕ) (ps : List PortState) → length (places_from Server k (roles_of ps)) ≡ length (numbers_of_role Server ps)
+places_many k [] = refl
+places_many k (p ∷ ps) = step (same_role p.role Server) (places_many (k + 1) ps)
+  where
+    step : (b : Bool) → length (places_from Server (k + 1) (roles_of ps)) ≡ length (numbers_of_role Server ps)
+        → length (if b then k ∷ places_from Server (k + 1) (roles_of ps) else places_from Server (k + 1) (roles_of ps))
+        ≡ length (map (λ (q : PortState). q.number) (if b then p ∷ filter (λ q. same_role q.role Server) ps else filter (λ q. same_role q.role Server) ps))
+    step true rest = ap suc rest
+    step false rest = rest
+
+pub as_many_servers : (ports : List PortState) → length (places_of Server ports) ≡ length (numbers_of_role Server ports)
+as_many_servers ports = places_many 0 ports
+
+pub ways_all : (client : ℕ) (ports : List PortState) (i : ℕ) → length (places_of Server ports) ≤ i
+    → take i (request_ways client ports) ≡ request_ways client ports
+ways_all client ports i h =
+    take_all (request_ways client ports) i
+    (let many : length (places_of Server ports) ≡ length (numbers_of_role Server ports) = as_many_servers ports in
+    let same : length (request_ways client ports) ≡ length (numbers_of_role Server ports) = length_map (request_way client) (numbers_of_role Server ports) in
+    omega (arith, h, many, same))
+
+-- The server of that rank is in the place.
+pub record HasRank (ports : List PortState) (rank place : ℕ) : Type 0 where
+  pub port : PortState
+  pub there : slice_get ports place ≡ Some port
+  pub server : server_in ports place ≡ Some port.number
+  pub listed : slice_get (numbers_of_role Server ports) rank ≡ Some port.number
+
+pub has_rank : (ports : List PortState) (rank place : ℕ) → slice_get (places_of Server ports) rank ≡ Some place → HasRank ports rank place
+has_rank ports rank place e =
+    let its : (p : PortState) × (slice_get ports place ≡ Some p) × (slice_get (numbers_of_role Server ports) rank ≡ Some p.number) × (same_role p.role Server ≡ true) =
+    port_of_rank Server ports rank place e in record {
+      port = its.0;
+      there = its.1;
+      server = ap (λ (o : Option PortState). option_map_or server_of o None) its.1 ∙ ap (λ (b : Bool). if b then Some its.0.number else None) its.3;
+      listed = its.2;
+    }
 
 -- ---- what is known about a server in its place
 
@@ -124,6 +132,18 @@ on_server f none ports i client n e = of_server (λ m. on_way f none ports (way_
 pub with_server : (g : LaneState → LaneState) (ports : List PortState) (i client n : ℕ) → server_in ports i ≡ Some n
     → with_lane_at g ports i client 0 ≡ with_lane_on g ports (request_way client n)
 with_server g ports i client n e = of_server (λ m. with_lane_on g ports (way_from client 0 m)) ports (slice_get ports i) n e
+
+-- what is told of it tells its number
+pub number_told : (ports : List PortState) (i n : ℕ) (info : PortInfo) → server_in ports i ≡ Some n → Some info ≡ info_at ports i → info.number ≡ n
+number_told ports i n info e told = step (slice_get ports i) e told
+  where
+    step : (o : Option PortState) → option_map_or server_of o None ≡ Some n → Some info ≡ option_map info_of o → info.number ≡ n
+    step None e told = absurd (none-some n e)
+    step (Some p) e told = ap (λ (x : PortInfo). x.number) (same_Some info (info_of p) told) ∙ own (same_role p.role Server) e
+      where
+        own : (b : Bool) → (if b then Some p.number else None) ≡ Some n → p.number ≡ n
+        own true e = same_Some p.number n e
+        own false e = absurd (none-some n e)
 
 -- ---- changes of lanes leave the servers in their places
 
@@ -147,7 +167,7 @@ flat : (o : Option PortState) → option_map_or server_of o None ≡ option_map_
 flat None = refl
 flat (Some p) = refl
 
-in_map : (ports : List PortState) (i : ℕ) → server_in ports i ≡ option_map_or (λ r. r) (slice_get (map server_of ports) i) None
+pub in_map : (ports : List PortState) (i : ℕ) → server_in ports i ≡ option_map_or (λ r. r) (slice_get (map server_of ports) i) None
 in_map ports i = flat (slice_get ports i) ∙ ap (λ o. option_map_or (λ r. r) o None) (sym (slice_get-map server_of ports i))
 
 pub server_stays : (g : LaneState → LaneState) (ports : List PortState) (ws : List Way) (i : ℕ) → server_in (with_lanes_on g ports ws) i ≡ server_in ports i
@@ -182,48 +202,38 @@ module _ (fails : Way → Bool) where
   pub refused_is : (ports : List PortState) (ws : List Way) → list_any fails (full_in (lane_on ports) ws []) ≡ list_any (fails_on fails ports) ws
   refused_is ports ws = any_full ports ws []
 
-  -- so far none refused, and none does in the next place either
-  pub none_next : (ports : List PortState) (client i : ℕ) → list_any (fails_on fails ports) (request_ways client (take i ports)) ≡ false
-      → ((n : ℕ) → server_in ports i ≡ Some n → fails_on fails ports (request_way client n) ≡ false)
-      → list_any (fails_on fails ports) (request_ways client (take (i + 1) ports)) ≡ false
-  none_next ports client i before here =
-      ap (list_any (fails_on fails ports)) (ways_next client ports i)
-      ∙ list_any-append (fails_on fails ports) (request_ways client (take i ports)) (map (request_way client) (listed (server_in ports i)))
-      ∙ ap (λ b. b || list_any (fails_on fails ports) (map (request_way client) (listed (server_in ports i)))) before
-      ∙ step (server_in ports i) here
-    where
-      step : (o : Option ℕ) → ((n : ℕ) → o ≡ Some n → fails_on fails ports (request_way client n) ≡ false)
-          → list_any (fails_on fails ports) (map (request_way client) (listed o)) ≡ false
-      step None here = refl
-      step (Some n) here = ap (λ b. b || false) (here n refl)
-
-  pub none_refused : (ports : List PortState) (client i : ℕ) → length ports ≤ i → list_any (fails_on fails ports) (request_ways client (take i ports)) ≡ false
+  pub none_refused : (ports : List PortState) (client i : ℕ) → length (places_of Server ports) ≤ i
+      → list_any (fails_on fails ports) (take i (request_ways client ports)) ≡ false
       → false ≡ list_any fails (full_in (lane_on ports) (request_ways client ports) [])
   none_refused ports client i past before =
       sym (refused_is ports (request_ways client ports) ∙ ap (list_any (fails_on fails ports)) (sym (ways_all client ports i past)) ∙ before)
 
-  pub one_refused : (ports : List PortState) (client i n : ℕ) → server_in ports i ≡ Some n → fails_on fails ports (request_way client n) ≡ true
-      → true ≡ list_any fails (full_in (lane_on ports) (request_ways client ports) [])
-  one_refused ports client i n at here =
-      sym (refused_is ports (request_ways client ports)
-      ∙ ap (list_any (fails_on fails ports)) (ways_split client ports (i + 1))
-      ∙ list_any-append (fails_on fails ports) (request_ways client (take (i + 1) ports)) (request_ways client (drop (i + 1) ports))
-      ∙ ap (λ b. b || list_any (fails_on fails ports) (request_ways client (drop (i + 1) ports)))
-      (ap (list_any (fails_on fails ports)) (ways_one client ports i n at)
-      ∙ list_any-append (fails_on fails ports) (request_ways client (take i ports)) (request_way client n ∷ [])
-      ∙ ap (λ b. list_any (fails_on fails ports) (request_ways client (take i ports)) || (b || false)) here
-      ∙ or_true (list_any (fails_on fails ports) (request_ways client (take i ports)))))
-    where
-      or_true : (b : Bool) → (b || true) ≡ true
-      or_true true = refl
-      or_true false = refl
+  module _ (ports : List PortState) (client i place : ℕ) (at : slice_get (places_of Server ports) i ≡ Some place) where
+    abbrev rank : HasRank ports i place
+    rank = has_rank ports i place at
 
-  pub passes_none : (ports : List PortState) (client i : ℕ) → list_any (fails_on fails ports) (request_ways client (take i ports)) ≡ false
-      → server_in ports i ≡ None → list_any (fails_on fails ports) (request_ways client (take (i + 1) ports)) ≡ false
-  passes_none ports client i before none = none_next ports client i before (λ n e. absurd (none-some n (sym none ∙ e)))
+    pub one_refused : ((n : ℕ) → server_in ports place ≡ Some n → true ≡ fails_on fails ports (request_way client n))
+        → true ≡ list_any fails (full_in (lane_on ports) (request_ways client ports) [])
+    one_refused here =
+        sym (refused_is ports (request_ways client ports)
+        ∙ ap (list_any (fails_on fails ports)) (ways_split client ports (i + 1))
+        ∙ list_any-append (fails_on fails ports) (take (i + 1) (request_ways client ports)) (drop (i + 1) (request_ways client ports))
+        ∙ ap (λ b. b || list_any (fails_on fails ports) (drop (i + 1) (request_ways client ports)))
+        (ap (list_any (fails_on fails ports)) (ways_one client ports i rank.port.number rank.listed)
+        ∙ list_any-append (fails_on fails ports) (take i (request_ways client ports)) (request_way client rank.port.number ∷ [])
+        ∙ ap (λ b. list_any (fails_on fails ports) (take i (request_ways client ports)) || (b || false)) (sym (here rank.port.number rank.server))
+        ∙ or_true (list_any (fails_on fails ports) (take i (request_ways client ports)))))
+      where
+        or_true : (b : Bool) → (b || true) ≡ true
+        or_true true = refl
+        or_true false = refl
 
-  pub passes_one : (ports : List PortState) (client i n : ℕ) → list_any (fails_on fails ports) (request_ways client (take i ports)) ≡ false
-      → server_in ports i ≡ Some n → fails_on fails ports (request_way client n) ≡ false
-      → list_any (fails_on fails ports) (request_ways client (take (i + 1) ports)) ≡ false
-  passes_one ports client i n before at here =
-      none_next ports client i before (λ m e. ap (λ k. fails_on fails ports (request_way client k)) (sym (same_Some n m (sym at ∙ e))) ∙ here)
+    -- so far none refused, and this one does not either
+    pub passes_one : list_any (fails_on fails ports) (take i (request_ways client ports)) ≡ false
+        → ((n : ℕ) → server_in ports place ≡ Some n → false ≡ fails_on fails ports (request_way client n))
+        → list_any (fails_on fails ports) (take (i + 1) (request_ways client ports)) ≡ false
+    passes_one before here =
+        ap (list_any (fails_on fails ports)) (ways_one client ports i rank.port.number rank.listed)
+        ∙ list_any-append (fails_on fails ports) (take i (request_ways client ports)) (request_way client rank.port.number ∷ [])
+        ∙ ap (λ b. b || list_any (fails_on fails ports) (request_way client rank.port.number ∷ [])) before
+        ∙ ap (λ b. b || false) (sym (here rank.port.number rank.server))

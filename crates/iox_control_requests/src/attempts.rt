@@ -63,7 +63,7 @@ pub fn attempt<B: WhenFull>(
     ensures messages { bare_pools control.old.tables.pools ≡ bare_pools control.new.tables.pools }
     ensures order { IsControl control.new }
 {
-    let label = control.label(entry.pool, entry.slot);
+    let label = control.label_of(entry.pool, entry.slot);
     let alone = has_one_out(control, entry.pool);
     retrieve_all_unless(control, entry.port, alone);
     if is_to_fail(control, entry.port, overflow, backpressure) {

@@ -16,14 +16,13 @@ ghost use Rattle.iox_control.specs.Entries.{handle_state};
 ghost use Rattle.iox_control_requests.specs.Deliveries.{CanTake, ways_that_get, with_given};
 ghost use Rattle.iox_control_requests.specs.Servers.{request_ways};
 
-use crate::servers::is_server;
 use iox_control::Control;
 use iox_handles::Entry;
 
 /// The lane from the client to the port in that place is sound. It has nothing to do: it is there
 /// for its contract.
 #[inline(always)]
-fn lane_is_sound(control: &Control, place: usize, client: u64)
+pub fn lane_is_sound(control: &Control, place: usize, client: u64)
     ensures { (p : PortState) → slice_get control.now.tables.ports place ≡ Some p
         → (l : LaneState)
         → lane_on control.now.tables.ports (way_from client 0 p.number) ≡ Some l → IsSound l }
@@ -100,11 +99,10 @@ pub fn deliver_to_all(control: &mut Control, entry: Entry, overflow: bool) -> u6
         control.old.tables.pools control.new.tables.pools }
 {
     let mut count = 0;
-    for place in 0..control.ports().len() {
-        if is_server(control, place) {
-            if give(control, place, entry, overflow) {
-                count += 1;
-            }
+    for rank in 0..control.ports().servers_len() {
+        let place = control.ports().server(rank);
+        if give(control, place, entry, overflow) {
+            count += 1;
         }
     }
     count

@@ -6,6 +6,7 @@ mod backpressure;
 mod counts;
 mod deliveries;
 mod offering;
+mod pushes;
 mod requested;
 mod sending;
 mod sends;

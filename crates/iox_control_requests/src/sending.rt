@@ -49,11 +49,12 @@ pub fn send_request<B: WhenFull>(
         → IsWholeCall (state_shown x control.old.tables) node (Send number)
         (reply_of_send result) (state_shown x control.new.tables) }
 {
+    let at = entry.at as usize;
     let requested = offer_request(control, node, number, hint, entry, backpressure);
     match requested {
         Requested::To(_) => {}
-        Requested::ExceedsMaxActiveRequests => disconnect_if_unused(control, entry.port),
-        Requested::UnableToDeliver => disconnect_if_unused(control, entry.port),
+        Requested::ExceedsMaxActiveRequests => disconnect_if_unused(control, entry.port, at),
+        Requested::UnableToDeliver => disconnect_if_unused(control, entry.port, at),
     }
     requested
 }

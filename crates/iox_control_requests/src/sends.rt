@@ -8,15 +8,18 @@ ghost use Rattle.iox_tables.specs.HubStates.Sends.{with_opened};
 ghost use Rattle.iox_tables.specs.HubStates.Tables.{labels_of};
 ghost use Rattle.iox_tables.specs.HubStates.Ways.{lane_on};
 ghost use Rattle.iox_tables.specs.HubStates.Wirings.{IsHandle};
-ghost use Rattle.iox_tables.specs.HubStates.Changes.{OnEach};
+ghost use Rattle.iox_tables.specs.HubStates.Changes.{OnEach, with_lanes};
+ghost use Rattle.iox_tables.specs.HubBooks.Keeps.{delivers};
 ghost use Rattle.iox_lanes.specs.Lanes.{IsSound};
 ghost use Rattle.iox_model.specs.Handles.{is_request_loan};
 ghost use Rattle.iox_control.specs.Controls.{IsControl, with_tables};
 ghost use Rattle.iox_control.specs.Entries.{handle_state};
+ghost use Rattle.iox_control_requests.specs.Deliveries.{CanTake};
 ghost use Rattle.iox_control_requests.specs.Requests.{ways_of, with_request_sent};
 ghost use Rattle.iox_control_requests.specs.Servers.{request_ways};
 
 use crate::deliveries::deliver_to_all;
+use crate::pushes::push_to_all;
 use iox_control::Control;
 use iox_handles::Entry;
 use iox_lanes::wanted::Label;
@@ -34,6 +37,37 @@ fn open_request(control: &mut Control, entry: Entry, label: Label)
     control.open_all(entry.port, label.lane, label.request);
 }
 
+/// Opens a client's loaned request, whose message has that label, with each server and delivers it
+/// there, once the client got all back, and says to how many: a full server gets nothing, unless its
+/// oldest message is pushed out. The loan still has its slot.
+fn open_and_deliver(control: &mut Control, entry: Entry, label: Label, overflow: bool) -> u64
+    requires order { IsControl control.old }
+    requires named { IsHandle control.old.tables entry.node entry.number (handle_state entry) }
+    requires kind { is_request_loan entry.kind ≡ true }
+    requires label { label ≡ labels_of control.old.tables.pools entry.pool entry.slot }
+    requires lanes { OnEach (λ w l. CanTake entry.pool l) (lane_on control.old.tables.ports)
+        (request_ways entry.port control.old.tables.ports) }
+    ensures sound { OnEach (λ w l. IsSound l) (lane_on control.old.tables.ports)
+        (request_ways entry.port control.old.tables.ports) }
+    ensures count { result ≡ length (ways_of control.old.tables (handle_state entry) overflow) }
+    ensures left { control.new ≡ with_tables control.old
+        (record (with_lanes (delivers overflow entry.slot) (with_opened control.old.tables
+        (request_of control.old.tables (handle_state entry))
+        (pending_states control.old.tables (handle_state entry)))
+        (ways_of control.old.tables (handle_state entry) overflow)) {
+          pools = control.new.tables.pools;
+        }) }
+    ensures holders { HasDelivered overflow entry.slot (lane_on control.old.tables.ports)
+        (ways_of control.old.tables (handle_state entry) overflow)
+        control.old.tables.pools control.new.tables.pools }
+{
+    if overflow {
+        return push_to_all(control, entry, label);
+    }
+    open_request(control, entry, label);
+    deliver_to_all(control, entry, overflow)
+}
+
 /// The handle becomes a pending response with so many connections, and the call is counted.
 fn become_pending(control: &mut Control, entry: Entry, hint: usize, count: u64)
     requires calls { control.old.tables.calls ≤ 2 ^ 56 }
@@ -44,6 +78,7 @@ fn become_pending(control: &mut Control, entry: Entry, hint: usize, count: u64)
         node: entry.node,
         number: entry.number,
         kind: Kind::PendingResponse,
+        at: entry.at,
         port: entry.port,
         pool: entry.pool,
         slot: entry.slot,
@@ -83,8 +118,7 @@ pub fn send_to_all(
         control.old.tables.pools control.new.tables.pools }
     ensures order { IsControl control.new }
 {
-    open_request(control, entry, label);
-    let count = deliver_to_all(control, entry, overflow);
+    let count = open_and_deliver(control, entry, label, overflow);
     become_pending(control, entry, hint, count);
     count
 }

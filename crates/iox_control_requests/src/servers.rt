@@ -1,5 +1,5 @@
-//! The servers of a hub, by their places.
-ghost use Rattle.std.specs.Prelude.{◌≡◌, Some, [], is_some};
+//! Servers that are full.
+ghost use Rattle.std.specs.Prelude.{◌≡◌, ◌<◌, Some, [], length, ℕ};
 ghost use Rattle.std.specs.List.{list_any};
 ghost use Rattle.iox_tables.specs.HubStates.Steps.{full_in};
 ghost use Rattle.iox_tables.specs.HubStates.Ways.{lane_on};
@@ -8,31 +8,7 @@ ghost use Rattle.iox_model.specs.Messages.{request_way};
 
 use crate::backpressure::WhenFull;
 use iox_control::Control;
-use iox_model::kind::Role;
 use iox_model::way::Way;
-
-/// The number of the port in that place, if it is a server.
-#[inline]
-pub fn server_at(control: &Control, place: usize) -> Option<u64>
-    ensures { result ≡ server_in control.now.tables.ports place }
-{
-    let info = control.ports().at(place)?;
-    match info.role {
-        Role::Client => None,
-        Role::Server => Some(info.number),
-    }
-}
-
-/// Whether the port in that place is a server.
-#[inline]
-pub fn is_server(control: &Control, place: usize) -> bool
-    ensures { result ≡ is_some (server_in control.now.tables.ports place) }
-{
-    match server_at(control, place) {
-        Some(_) => true,
-        None => false,
-    }
-}
 
 /// Whether the server in that place is full, and a send to it fails then.
 #[inline]
@@ -40,17 +16,17 @@ fn is_refused_by<B: WhenFull>(
     control: &Control,
     place: usize,
     client: u64,
-    server: u64,
     backpressure: &B,
 ) -> bool
-    requires { server_in control.now.tables.ports place ≡ Some server }
-    ensures { result ≡ fails_on (B.fails backpressure.now) control.now.tables.ports
+    requires { place < length control.now.tables.ports }
+    ensures { (server : ℕ) → server_in control.now.tables.ports place ≡ Some server
+        → result ≡ fails_on (B.fails backpressure.now) control.now.tables.ports
         (request_way client server) }
 {
     if control.ports().is_full_at(place, client, 0) {
         return backpressure.fails(Way {
             sender: client,
-            receiver: server,
+            receiver: control.ports().known_at(place).number,
             lane: 0,
         });
     }
@@ -63,11 +39,10 @@ pub fn is_refused<B: WhenFull>(control: &Control, client: u64, backpressure: &B)
         (full_in (lane_on control.now.tables.ports)
         (request_ways client control.now.tables.ports) []) }
 {
-    for place in 0..control.ports().len() {
-        if let Some(server) = server_at(control, place) {
-            if is_refused_by(control, place, client, server, backpressure) {
-                return true;
-            }
+    for rank in 0..control.ports().servers_len() {
+        let place = control.ports().server(rank);
+        if is_refused_by(control, place, client, backpressure) {
+            return true;
         }
     }
     false

@@ -1,3 +1,4 @@
+pub mod Places
 pub mod Awaiting
 pub mod Lanes
 pub mod HandedOver

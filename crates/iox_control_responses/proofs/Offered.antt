@@ -32,7 +32,7 @@ use Rattle.iox_tables.proofs.HubBooks.Used.{handle_is}
 use Rattle.iox_tables.specs.HubLoans.Questions.{is_named_by_client}
 use Rattle.iox_tables.specs.HubMaking.Disconnections.{with_released}
 use Rattle.iox_tables.specs.HubMaking.Worked.{at_first}
-use Rattle.iox_hub_ports.specs.Ports.{on_way}
+use Rattle.iox_hub_ports.specs.Ports.{on_way, place_in}
 use Rattle.iox_control.specs.Controls.{ControlState, IsControl, with_tables}
 use Rattle.iox_control.specs.Entries.{handle_state}
 use Rattle.iox_control_ending.specs.Endings.{IsLoan, with_ended}
@@ -42,6 +42,7 @@ use Rattle.iox_control_responses.specs.declared.responded.Responded.TheVariants.
 use Rattle.iox_control_responses.specs.Responses.{IsFailure, IsResponse, is_shut, is_undelivered, reply_of_send, response_reply, with_handed_over, with_response_ended, with_response_offered, with_response_sent, with_way_emptied}
 use Rattle.iox_control_responses.proofs.HandedOver.{after_bare, handed, handed_is, handed_keeps}
 use Rattle.iox_control_responses.proofs.Lanes.{IsReady}
+use Rattle.iox_control_responses.proofs.Places.{place_stays}
 use Rattle.iox_control_responses.proofs.Whole.{goes_in_line, goes_over, is_lost, is_skipped, is_whole, server_buffer, the_lane, to_nobody}
 use Rattle.iox_slots.proofs.BareLemmas.{let_go_bare}
 use Rattle.iox_tables.proofs.HubMaking.Releases.{released_calls, released_later, released_pools}
@@ -213,6 +214,12 @@ module _ (c : ControlState) (node n : ℕ) (order : IsControl c) (few : c.tables
         loan_then =
             still_loan d.tables (ap (λ (x : HubTables). x.handles) tables_then)
             (ap (λ (x : HubTables). port_in x.ports n) tables_then ∙ no_port_stays emptied_lane t.ports (w ∷ []) n (lanes_on_bare emptied_lane (λ l. refl) t.ports (w ∷ [])) named.no_port)
+
+        -- its client stands where it stood
+        pub place_then : (i : ℕ) → place_in t.ports v.receiver ≡ Some i → place_in d.tables.ports v.receiver ≡ Some i
+        place_then i there =
+            ap (λ (x : HubTables). place_in x.ports v.receiver) tables_then
+            ∙ place_stays t.ports (with_lanes_on emptied_lane t.ports (w ∷ [])) v.receiver i (lanes_on_bare emptied_lane (λ l. refl) t.ports (w ∷ [])) there
 
         full_and_plain : shut ≡ true → (on_way is_full true t.ports w ≡ true) × (t.settings.response_overflow ≡ false)
         full_and_plain is = both (on_way is_full true t.ports w) t.settings.response_overflow (shut_is ∙ is)

@@ -7,6 +7,7 @@ mod handing;
 mod offering;
 mod responded;
 mod sending;
+mod targets;
 pub mod uses;
 
 pub use awaited::is_awaited;

@@ -51,6 +51,6 @@ pub fn send_response(
         (reply_of_send result) (state_shown x control.new.tables) }
 {
     let responded = offer_response(control, node, number, hint, entry, fails);
-    disconnect_if_unused(control, entry.port);
+    disconnect_if_unused(control, entry.port, entry.at as usize);
     responded
 }

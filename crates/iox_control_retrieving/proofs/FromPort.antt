@@ -5,7 +5,7 @@ use Rattle.iox_model.specs.declared.way.Way.{Way}
 use Rattle.iox_model.specs.Maps.{AreDistinctWays}
 use Rattle.iox_model.specs.Settings.{same_role}
 use Rattle.iox_lanes.specs.Lanes.{LaneState, without_returned}
-use Rattle.iox_tables.specs.HubStates.Tables.{numbers_of}
+use Rattle.iox_tables.specs.HubStates.Tables.{numbers_of, slot_at}
 use Rattle.iox_tables.specs.HubStates.Ways.{lane_on}
 use Rattle.iox_tables.specs.HubStates.Changes.{emptied_lane}
 use Rattle.iox_hub_phases.specs.Phases.{OfEachWay}
@@ -20,7 +20,7 @@ use Rattle.iox_control_retrieving.proofs.Emptied.{IsEmptied}
 use Rattle.iox_control_retrieving.proofs.AtPlaces.{IsInPlace, let_go_there, lowest_there, told_there}
 use Rattle.iox_control_retrieving.proofs.Infos.{pool_is}
 use Rattle.iox_control_retrieving.proofs.Lanes.{first_lanes, lane_way, lanes_apart, next_is, none_alike, none_left, ways_are, width, within}
-use Rattle.iox_control_retrieving.proofs.OneByOne.{GoesOn, IsNext, all_returned, falls, gets_all, goes_again, got_some, lane_was}
+use Rattle.iox_control_retrieving.proofs.OneByOne.{GoesOn, IsNext, all_returned, falls, gets_all, goes_again, got_is_held, got_some, lane_was}
 use Rattle.iox_control_retrieving.proofs.Together.{gets_nothing}
 
 -- where both are of one role there is no way
@@ -74,6 +74,10 @@ module _ (c : ControlState) (from to : PortInfo) (at : ℕ) (order : IsControl c
           (next_is from.number to.number now.tables.ports lane (width c.tables.ports to)
           (lowest ∙ lowest_there now.tables.ports at to.number from.number there)
           (within c from to order sender receiver differ lane was.0 was.1))
+
+      -- somebody has it
+      pub is_held : 0 < (slot_at now.tables.pools from.pool slot).holders
+      is_held = got_is_held c now ws w from.pool slot order.order apart goes next (pool_is c from w order sender) here
 
       pub goes_on : GoesOn c ws new
       goes_on =

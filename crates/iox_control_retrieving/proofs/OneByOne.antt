@@ -289,6 +289,14 @@ module _ (old now new : ControlState) (ws : List Way) (w : Way) (place j : ℕ) 
       let same : all_returned new.tables.ports ≡ all_returned (with_lane_on without_returned now.tables.ports w) = ap all_returned new_ports in
       omega (arith, less, same)
 
+-- somebody has what is got back
+pub got_is_held : (old now : ControlState) (ws : List Way) (w : Way) (place j : ℕ) → AreInOrder old.tables → AreDistinctWays ws → GoesOn old ws now
+    → IsNext now.tables.ports ws w → ((l : LaneState) → lane_on old.tables.ports w ≡ Some l → l.pool ≡ place)
+    → Some j ≡ on_way (λ l. slice_get l.returned 0) None now.tables.ports w → 0 < (slot_at now.tables.pools place j).holders
+got_is_held old now ws w place j order apart goes next of got =
+    somebody old now (with_pools (with_tables now (with_lanes without_returned now.tables (w ∷ []))) (with_slot let_go now.tables.pools place j)) ws w place j
+    order apart goes next of got refl
+
 -- ---- at the end
 
 pub gets_all : (old now : ControlState) (ws : List Way) → IsControl old → AreDistinctWays ws → GoesOn old ws now → OfEachWay (IsEmptied now.tables.ports) ws

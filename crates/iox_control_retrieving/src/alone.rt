@@ -1,9 +1,9 @@
 //! What was given back to a sender of which somebody has only one message: where that is a loan,
 //! nothing was.
-ghost use Rattle.std.specs.Prelude.{◌≡◌, ◌∷◌, [], Some, true};
+ghost use Rattle.std.specs.Prelude.{◌≡◌, ◌∷◌, [], Some, is_some, true};
 ghost use Rattle.iox_lanes.specs.Lanes.{LaneState};
 ghost use Rattle.iox_tables.specs.HubStates.Changes.{emptied_lane, with_lanes};
-ghost use Rattle.iox_tables.specs.HubStates.Tables.{PortState, port_in};
+ghost use Rattle.iox_tables.specs.HubStates.Tables.{PortState, pool_at, port_in};
 ghost use Rattle.iox_tables.specs.HubStates.Ways.{lane_on};
 ghost use Rattle.iox_tables.specs.HubLending.Emptying.{AreGotBack, HasFewerHolders, returned_on, with_back};
 ghost use Rattle.iox_control.specs.Controls.{IsControl, with_tables};
@@ -14,13 +14,13 @@ use crate::port::retrieve_all;
 use iox_control::Control;
 use iox_model::way::Way;
 
-/// Whether somebody has just one message of the pool.
+/// Whether somebody has just one message of the pool, which is there.
 #[inline(always)]
 pub fn has_one_out(control: &Control, pool: usize) -> bool
+    requires { is_some (pool_at control.now.tables.pools pool) ≡ true }
     ensures { result ≡ has_one_out control.now.tables.pools pool }
 {
-    let pools = control.pools();
-    pools.len(pool) - pools.free_len(pool) == 1
+    control.pools().has_one_out(pool)
 }
 
 /// Gets back all that was given back on the way. A call of its own, so that the others are short.

@@ -21,6 +21,6 @@ pub fn retrieve(control: &mut Control, way: Way, pool: usize)
     ensures order { IsControl control.new }
 {
     while let Some(slot) = control.get_back(way) {
-        control.let_go(pool, slot);
+        control.let_go_of(pool, slot);
     }
 }

@@ -24,7 +24,7 @@ fn retrieve_from(control: &mut Control, sender: &PortInfo, at: usize, to: &PortI
         return;
     }
     while let Some(next) = control.get_next_at(at, sender.number) {
-        control.let_go(sender.pool, next.place);
+        control.let_go_of(sender.pool, next.place);
         if !next.more {
             return;
         }

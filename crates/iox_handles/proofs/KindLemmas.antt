@@ -2,13 +2,12 @@
 use Rattle.std.specs.Prelude.{refl, ◌≡◌, ℕ, ◌*◌, ◌+◌, ◌%◌, true, List, Option, Some, slice_get, slice_set}
 use Rattle.std.proofs.Common.{sym, ap, subst, ◌∙◌}
 use Rattle.iox_model.specs.declared.kind.Kind.{Kind}
-use Rattle.std.specs.Option.{option_map}
 use Rattle.iox_handles.specs.declared.entry.Entry.{Entry}
 use Rattle.iox_handles.specs.NodeLists.{IsWhole, ListState}
 use Rattle.iox_handles.specs.Places.{IsTable, handles_in, has_at}
 use Rattle.iox_handles.specs.Tables.{group_of, of_kind, with_handle}
 use Rattle.iox_handles.specs.Tallies.{IsTallied}
-use Rattle.iox_handles.proofs.PlaceLemmas.{has_there, inner, inside}
+use Rattle.iox_handles.proofs.PlaceLemmas.{has_there, inside}
 use Rattle.iox_handles.proofs.TableLemmas.{handles-change}
 use Rattle.iox_handles.proofs.TallyLemmas.{tallied-alike}
 use Rattle.iox_handles.proofs.WholeLemmas.{IsWhole-change_of}
@@ -37,8 +36,3 @@ pub tallied-kind : (counts : List ℕ) (ps : List (Option Entry)) (i : ℕ) (g :
     → IsTallied counts (slice_set ps i (Some (of_kind kind g)))
 tallied-kind counts ps i g kind t at same =
     tallied-alike counts ps i g (of_kind kind g) t at (ap (λ m. m * 64 + g.port % 64) same)
-
--- what stands in the place once its kind is set
-pub set_there : (ps : List (Option Entry)) (i : ℕ) (g : Entry) (kind : Kind) (was now : Option Entry) → slice_get ps i ≡ Some (Some g)
-    → slice_get ps i ≡ Some was → now ≡ option_map (of_kind kind) was → now ≡ Some (of_kind kind g)
-set_there ps i g kind was now at read said = said ∙ ap (option_map (of_kind kind)) (inner was (Some g) (sym read ∙ at))

@@ -12,3 +12,6 @@ pub mod WholeLemmas
 pub mod TallyLemmas
 pub mod KindLemmas
 pub mod TestLemmas
+pub mod VacantLemmas
+pub mod MemoryLemmas
+pub mod KnownLemmas

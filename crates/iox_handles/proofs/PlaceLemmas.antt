@@ -20,12 +20,6 @@ inner o p e = ap (λ (q : Option (Option Entry)). option_map_or (λ r. r) q None
 pub inside : (g h : Entry) → Some (Some g) ≡ Some (Some h) → g ≡ h
 inside g h e = ap (λ (o : Option Entry). option_map_or (λ r. r) o g) (inner (Some g) (Some h) e)
 
--- what is read in a place is there
-pub read_is : (ps : List (Option Entry)) (i : ℕ) (o : Option Entry) → i < length ps → o ≡ slice_index_or ps i o → slice_get ps i ≡ Some o
-read_is [] i o within is = absurd (omega arith)
-read_is (p ∷ ps) zero o within is = ap (λ q. Some q) (sym is)
-read_is (p ∷ ps) (suc i) o within is = read_is ps i o (omega arith) is
-
 pub own_numbers : (ps : List (Option Entry)) → AreOwn (in_places ps)
 own_numbers [] k h e = absurd (none-some h e)
 own_numbers (None ∷ ps) k h e = own_numbers ps k h e

@@ -1,14 +1,14 @@
 -- A table in memory: each call keeps it, and what it comes to as a list by number.
-use Rattle.std.specs.Prelude.{◌≡◌, ℕ, ◌+◌, ◌-◌, ◌<◌, ◌≤◌, suc, nat_lt, Bool, true, false, not, if◌then◌else◌, ◌==◌, List, [], ◌∷◌, ◌++◌, length, filter, find, Option, Some, None, slice_get, slice_set, slice_index_or, refl}
+use Rattle.std.specs.Prelude.{◌≡◌, ℕ, ◌+◌, ◌-◌, ◌<◌, ◌≤◌, suc, nat_lt, Bool, true, false, not, if◌then◌else◌, ◌==◌, List, [], ◌∷◌, ◌++◌, length, filter, find, Option, Some, None, slice_get, slice_set, refl}
 use Rattle.std.proofs.Common.{sym, ap, subst, ◌∙◌, arith, add-one, length-append}
-use Rattle.std.proofs.lemmas.Option.{none-some, slice_get_within}
+use Rattle.std.proofs.lemmas.Option.{none-some}
 use Rattle.std.proofs.lemmas.Bool.{ltb-true, ltb-false}
 use Rattle.std.proofs.lemmas.List.{length-set}
 use Rattle.iox_handles.specs.declared.entry.Entry.{Entry}
 use Rattle.iox_handles.specs.Tables.{Contents, has_that, with_handle}
 use Rattle.iox_handles.specs.Places.{has_at, how_often, in_places, handles_in, used, vacancy, IsTable}
 use Rattle.iox_handles.proofs.NumberLemmas.{same_number, less_is_other, other, adds_last, removes_one, changes_one, finds_by_number}
-use Rattle.iox_handles.proofs.PlaceLemmas.{inner, read_is, own_numbers, has_there, of_place, put_in_place, put_behind, set_in_place, apart_put, apart_behind, apart_set}
+use Rattle.iox_handles.proofs.PlaceLemmas.{own_numbers, has_there, of_place, put_in_place, put_behind, set_in_place, apart_put, apart_behind, apart_set}
 use Rattle.iox_handles.proofs.VacancyLemmas.{one_if, often-append, vacancy-put, vacancy-take, vacancy-change, vacancy-behind, vacant-at, used-put, used-take, used-change, used-behind}
 
 -- ---- searches
@@ -17,18 +17,6 @@ use Rattle.iox_handles.proofs.VacancyLemmas.{one_if, often-append, vacancy-put, 
 pub found_is : (ps : List (Option Entry)) (free : List ℕ) (room next pc fc : ℕ) → IsTable ps free room next pc fc → (k : ℕ)
     → find (has_that k) (handles_in ps next) ≡ in_places ps k
 found_is ps free room next pc fc t k = finds_by_number (in_places ps) next k (own_numbers ps) t.below
-
--- a place with the number is one of the table
-pub is_within : (k : ℕ) (ps : List (Option Entry)) (i : ℕ) → has_at k ps i ≡ true → i < length ps
-is_within k ps i e = let (h, at, same) = has_there k ps i e in slice_get_within ps i (Some h) at
-
--- what is read there is what a search of the list finds
-pub read_found : (ps : List (Option Entry)) (free : List ℕ) (room next pc fc : ℕ) → IsTable ps free room next pc fc
-    → (k i : ℕ) (o : Option Entry) → has_at k ps i ≡ true → o ≡ slice_index_or ps i o → o ≡ find (has_that k) (handles_in ps next)
-read_found ps free room next pc fc t k i o e is =
-    let (h, at, same) = has_there k ps i e in
-    inner o (Some h) (sym (read_is ps i o (is_within k ps i e) is) ∙ at)
-    ∙ sym (of_place ps i h at t.apart) ∙ ap (in_places ps) same ∙ sym (found_is ps free room next pc fc t k)
 
 -- ---- a handle comes
 
@@ -172,21 +160,6 @@ handles-change ps free i room next pc fc n t e =
     (subst (λ m. m < next) same (is_below ps free room next pc fc t i h at))
 
 -- ---- for answers
-
--- what is read where the number is, is not none
-pub not_none : (k : ℕ) (ps : List (Option Entry)) (i : ℕ) (o : Option Entry) → has_at k ps i ≡ true → o ≡ slice_index_or ps i o → o ≡ None → ⊥
-not_none k ps i o e is none =
-    let (h, at, same) = has_there k ps i e in
-    none-some h (sym none ∙ inner o (Some h) (sym (read_is ps i o (is_within k ps i e) is) ∙ at))
-
--- a table in other words
-pub moved : (ps ps' : List (Option Entry)) (fs fs' : List ℕ) (room next pc pc' fc fc' : ℕ) → ps' ≡ ps → fs' ≡ fs → pc' ≡ pc → fc' ≡ fc
-    → IsTable ps fs room next pc fc → IsTable ps' fs' room next pc' fc'
-moved ps ps' fs fs' room next pc pc' fc fc' a b c d t =
-    subst (λ x. IsTable ps' fs' room next pc' x) (sym d)
-    (subst (λ x. IsTable ps' fs' room next x fc) (sym c)
-    (subst (λ x. IsTable ps' x room next pc fc) (sym b)
-    (subst (λ x. IsTable x fs room next pc fc) (sym a) t)))
 
 pub none_left : (fs : List ℕ) → length fs ≡ 0 → fs ≡ []
 none_left [] e = refl

@@ -1,13 +1,14 @@
--- Handles are counted by groups of kinds and by remainders of ports' numbers.
-use Rattle.std.specs.Prelude.{◌≡◌, IfSome, replicate, ℕ, zero, suc, ◌+◌, ◌-◌, ◌<◌, ◌≤◌, ◌^◌, ◌%◌, ◌*◌, Bool, true, false, ◌&&◌, ◌||◌, ◌==◌, List, [], ◌∷◌, ◌++◌, length, filter, Option, Some, None, cond, count_by, if◌then◌else◌, slice_get, slice_set, slice_index_or, refl}
+-- Loans and pending responses are counted by groups of kinds and by remainders of ports' numbers.
+use Rattle.std.specs.Prelude.{◌≡◌, nat_lt, replicate, ℕ, zero, suc, ◌+◌, ◌-◌, ◌<◌, ◌≤◌, ◌^◌, ◌%◌, ◌*◌, Bool, true, false, ◌&&◌, ◌||◌, ◌==◌, List, [], ◌∷◌, ◌++◌, length, filter, Option, Some, None, cond, count_by, if◌then◌else◌, slice_get, slice_set, slice_index_or, refl}
 use Rattle.std.proofs.Common.{sym, ap, ap₂, subst, ◌∙◌, arith, true≢false, eqb-true, eq-eqb, zero-add}
 use Rattle.std.proofs.lemmas.List.{get_or-set_other, get_or-set_same, length-set}
+use Rattle.std.proofs.lemmas.Bool.{ltb-true, ltb-false}
+use Rattle.std.proofs.Math.ListN.{get_or-eq_default}
 use Rattle.std.proofs.lemmas.List.Sums.{sum_by-append, sum_by-set, count_by-le-length}
 use Rattle.iox_model.specs.Handles.{kind_code, same_kind}
 use Rattle.iox_handles.proofs.CountLemmas.{passing-places}
 use Rattle.std.proofs.lemmas.Option.{none-some, get_or_from_slice_get, slice_get_within}
 use Rattle.iox_model.specs.declared.kind.Kind.{Kind}
-use Rattle.iox_model.specs.declared.kind.Kind.TheVariants as kinds
 use Rattle.iox_handles.specs.declared.tally.Tally.{Tally}
 use Rattle.iox_handles.specs.declared.entry.Entry.{Entry}
 use Rattle.iox_handles.specs.Places.{NumbersAreApart, IsTable, handles_in, in_places, passes}
@@ -16,19 +17,8 @@ use Rattle.iox_handles.specs.Tallies.{IsTallied, is_counted_at, tally_place}
 
 -- ---- places
 
-few_groups : (k : Kind) → group_of k < 4
-few_groups kinds.Client = omega arith
-few_groups kinds.Server = omega arith
-few_groups kinds.RequestMutUninit = omega arith
-few_groups kinds.RequestMut = omega arith
-few_groups kinds.ResponseMutUninit = omega arith
-few_groups kinds.ResponseMut = omega arith
-few_groups kinds.PendingResponse = omega arith
-few_groups kinds.ActiveRequest = omega arith
-few_groups kinds.Response = omega arith
-
-pub place_within : (port : ℕ) (k : Kind) → tally_place port k < 256
-place_within port k = let few = few_groups k in omega (arith, few)
+pub place_within : (port : ℕ) (k : Kind) → group_of k < 3 → tally_place port k < 192
+place_within port k few = omega (arith, few)
 
 pub all_same : (z n i : ℕ) → slice_index_or (replicate n z) i z ≡ z
 all_same z zero i = refl
@@ -36,7 +26,7 @@ all_same z (suc n) zero = refl
 all_same z (suc n) (suc i) = all_same z n i
 
 -- no handle is counted where there is none
-pub none_tallied : (t : Tally) → (length t.counts ≡ 256) → ((i : ℕ) → slice_index_or t.counts i 0 ≡ 0) → IsTallied t.counts []
+pub none_tallied : (t : Tally) → (length t.counts ≡ 192) → ((i : ℕ) → slice_index_or t.counts i 0 ≡ 0) → IsTallied t.counts []
 none_tallied t size none = record { size = size; each = λ i low. none i }
 
 -- ---- one place changes
@@ -57,11 +47,12 @@ differ : (a b : ℕ) → (a == b) ≡ false → a ≡ b → ⊥
 differ a b e same = true≢false (sym (eq-eqb a b same) ∙ e)
 
 -- one place of the counts is another
-module _ (counts : List ℕ) (at value : ℕ) (size : length counts ≡ 256) (within : at < 256) where
-  same_there : (i : ℕ) → (at == i) ≡ true → slice_index_or (slice_set counts at value) i 0 ≡ value
-  same_there i e =
-      ap (λ k. slice_index_or (slice_set counts at value) k 0) (sym (eqb-true at i e))
-      ∙ get_or-set_same counts at value 0 (subst (λ n. at < n) (sym size) within)
+module _ (counts : List ℕ) (at value : ℕ) (size : length counts ≡ 192) where
+  same_there : (i : ℕ) → i < 192 → (at == i) ≡ true → slice_index_or (slice_set counts at value) i 0 ≡ value
+  same_there i low e =
+      let same : at ≡ i = eqb-true at i e in
+      ap (λ k. slice_index_or (slice_set counts at value) k 0) (sym same)
+      ∙ get_or-set_same counts at value 0 (omega (arith, low, same, size))
 
   same_else : (i : ℕ) → (at == i) ≡ false → slice_index_or (slice_set counts at value) i 0 ≡ slice_index_or counts i 0
   same_else i e = get_or-set_other counts at i value 0 (λ same. differ at i e (sym same))
@@ -79,19 +70,19 @@ tallied-put counts ps j h t at = record { size = length-set counts place _ ∙ t
     place : ℕ
     place = tally_place h.port h.kind
 
-    each : (i : ℕ) → i < 256 → slice_index_or (slice_set counts place (at_place counts h + 1)) i 0 ≡ count_by (passes (is_counted_at i)) (slice_set ps j (Some h))
+    each : (i : ℕ) → i < 192 → slice_index_or (slice_set counts place (at_place counts h + 1)) i 0 ≡ count_by (passes (is_counted_at i)) (slice_set ps j (Some h))
     each i low = step (place == i) refl
       where
         step : (b : Bool) → (place == i) ≡ b
             → slice_index_or (slice_set counts place (at_place counts h + 1)) i 0 ≡ count_by (passes (is_counted_at i)) (slice_set ps j (Some h))
         step true e =
             let set = set_count ps j None (Some h) at i in let one : one_if (place == i) ≡ 1 = ap one_if e in
-            let was = t.each i low in let there = same_there counts place (at_place counts h + 1) t.size (place_within h.port h.kind) i e in
+            let was = t.each i low in let there = same_there counts place (at_place counts h + 1) t.size i low e in
             let same : at_place counts h ≡ slice_index_or counts i 0 = ap (λ k. slice_index_or counts k 0) (eqb-true place i e) in
             there ∙ omega (arith, set, one, was, same)
         step false e =
             let set = set_count ps j None (Some h) at i in let none : one_if (place == i) ≡ 0 = ap one_if e in
-            let was = t.each i low in let there = same_else counts place (at_place counts h + 1) t.size (place_within h.port h.kind) i e in
+            let was = t.each i low in let there = same_else counts place (at_place counts h + 1) t.size i e in
             there ∙ omega (arith, set, none, was)
 
 pub tallied-behind : (counts : List ℕ) (ps : List (Option Entry)) (h : Entry) → IsTallied counts ps
@@ -101,7 +92,7 @@ tallied-behind counts ps h t = record { size = length-set counts place _ ∙ t.s
     place : ℕ
     place = tally_place h.port h.kind
 
-    each : (i : ℕ) → i < 256 → slice_index_or (slice_set counts place (at_place counts h + 1)) i 0 ≡ count_by (passes (is_counted_at i)) (ps ++ Some h ∷ [])
+    each : (i : ℕ) → i < 192 → slice_index_or (slice_set counts place (at_place counts h + 1)) i 0 ≡ count_by (passes (is_counted_at i)) (ps ++ Some h ∷ [])
     each i low = step (place == i) refl
       where
         more : count_by (passes (is_counted_at i)) (ps ++ Some h ∷ []) ≡ count_by (passes (is_counted_at i)) ps + one_if (place == i)
@@ -112,12 +103,12 @@ tallied-behind counts ps h t = record { size = length-set counts place _ ∙ t.s
             → slice_index_or (slice_set counts place (at_place counts h + 1)) i 0 ≡ count_by (passes (is_counted_at i)) (ps ++ Some h ∷ [])
         step true e =
             let one : one_if (place == i) ≡ 1 = ap one_if e in let was = t.each i low in
-            let there = same_there counts place (at_place counts h + 1) t.size (place_within h.port h.kind) i e in
+            let there = same_there counts place (at_place counts h + 1) t.size i low e in
             let same : at_place counts h ≡ slice_index_or counts i 0 = ap (λ k. slice_index_or counts k 0) (eqb-true place i e) in
             there ∙ omega (arith, more, one, was, same)
         step false e =
             let none : one_if (place == i) ≡ 0 = ap one_if e in let was = t.each i low in
-            let there = same_else counts place (at_place counts h + 1) t.size (place_within h.port h.kind) i e in
+            let there = same_else counts place (at_place counts h + 1) t.size i e in
             there ∙ omega (arith, more, none, was)
 
 -- ---- a handle goes
@@ -129,36 +120,44 @@ tallied-take counts ps j h t at = record { size = length-set counts place _ ∙ 
     place : ℕ
     place = tally_place h.port h.kind
 
-    each : (i : ℕ) → i < 256 → slice_index_or (slice_set counts place (at_place counts h - 1)) i 0 ≡ count_by (passes (is_counted_at i)) (slice_set ps j None)
+    each : (i : ℕ) → i < 192 → slice_index_or (slice_set counts place (at_place counts h - 1)) i 0 ≡ count_by (passes (is_counted_at i)) (slice_set ps j None)
     each i low = step (place == i) refl
       where
         step : (b : Bool) → (place == i) ≡ b
             → slice_index_or (slice_set counts place (at_place counts h - 1)) i 0 ≡ count_by (passes (is_counted_at i)) (slice_set ps j None)
         step true e =
             let set = set_count ps j (Some h) None at i in let one : one_if (place == i) ≡ 1 = ap one_if e in
-            let was = t.each i low in let there = same_there counts place (at_place counts h - 1) t.size (place_within h.port h.kind) i e in
+            let was = t.each i low in let there = same_there counts place (at_place counts h - 1) t.size i low e in
             let same : at_place counts h ≡ slice_index_or counts i 0 = ap (λ k. slice_index_or counts k 0) (eqb-true place i e) in
             there ∙ omega (arith, set, one, was, same)
         step false e =
             let set = set_count ps j (Some h) None at i in let none : one_if (place == i) ≡ 0 = ap one_if e in
-            let was = t.each i low in let there = same_else counts place (at_place counts h - 1) t.size (place_within h.port h.kind) i e in
+            let was = t.each i low in let there = same_else counts place (at_place counts h - 1) t.size i e in
             there ∙ omega (arith, set, none, was)
 
 -- the handle in a place is counted
-pub is_counted : (counts : List ℕ) (ps : List (Option Entry)) (j : ℕ) (h : Entry) → IsTallied counts ps → slice_get ps j ≡ Some (Some h) → 0 < at_place counts h
-is_counted counts ps j h t at =
+pub is_counted : (counts : List ℕ) (ps : List (Option Entry)) (j : ℕ) (h : Entry) → IsTallied counts ps → slice_get ps j ≡ Some (Some h)
+    → group_of h.kind < 3 → 0 < at_place counts h
+is_counted counts ps j h t at few =
     let set = set_count ps j (Some h) None at (tally_place h.port h.kind) in
-    let was = t.each (tally_place h.port h.kind) (place_within h.port h.kind) in
+    let was = t.each (tally_place h.port h.kind) (place_within h.port h.kind few) in
     let one : one_if (tally_place h.port h.kind == tally_place h.port h.kind) ≡ 1 = ap one_if (eq-eqb (tally_place h.port h.kind) (tally_place h.port h.kind) refl) in
     omega (arith, set, was, one)
 
 -- no more are counted than there are places
 pub few_counted : (counts : List ℕ) (ps : List (Option Entry)) (port : ℕ) (kind : Kind) → IsTallied counts ps
     → slice_index_or counts (tally_place port kind) 0 ≤ length ps
-few_counted counts ps port kind t =
-    let few = count_by-le-length (passes (is_counted_at (tally_place port kind))) ps in
-    let was = t.each (tally_place port kind) (place_within port kind) in
-    omega (arith, few, was)
+few_counted counts ps port kind t = by_case (nat_lt (tally_place port kind) 192) refl
+  where
+    by_case : (b : Bool) → nat_lt (tally_place port kind) 192 ≡ b → slice_index_or counts (tally_place port kind) 0 ≤ length ps
+    by_case true e =
+        let few = count_by-le-length (passes (is_counted_at (tally_place port kind))) ps in
+        let was = t.each (tally_place port kind) (ltb-true (tally_place port kind) 192 e) in
+        omega (arith, few, was)
+    by_case false e =
+        let past : length counts ≤ tally_place port kind = subst (λ n. n ≤ tally_place port kind) (sym t.size) (ltb-false (tally_place port kind) 192 e) in
+        let none : slice_index_or counts (tally_place port kind) 0 ≡ 0 = get_or-eq_default counts 0 past in
+        omega (arith, none)
 
 -- ---- a handle changes
 
@@ -187,31 +186,12 @@ pub tallied-alike : (counts : List ℕ) (ps : List (Option Entry)) (j : ℕ) (h 
     → tally_place n.port n.kind ≡ tally_place h.port h.kind → IsTallied counts (slice_set ps j (Some n))
 tallied-alike counts ps j h n t at same = record { size = t.size; each = each }
   where
-    each : (i : ℕ) → i < 256 → slice_index_or counts i 0 ≡ count_by (passes (is_counted_at i)) (slice_set ps j (Some n))
+    each : (i : ℕ) → i < 192 → slice_index_or counts i 0 ≡ count_by (passes (is_counted_at i)) (slice_set ps j (Some n))
     each i low =
         let set = set_count ps j (Some h) (Some n) at i in
         let equal : one_if (tally_place n.port n.kind == i) ≡ one_if (tally_place h.port h.kind == i) = ap (λ m. one_if (m == i)) same in
         let was = t.each i low in
         omega (arith, set, equal, was)
-
--- the same where it is not known yet that there is a handle
-abbrev IsLess : List ℕ → List ℕ → Option Entry → Type 0
-IsLess counts less o = (h : Entry) → o ≡ Some h → less ≡ slice_set counts (tally_place h.port h.kind) (at_place counts h - 1)
-
-pub counted_if : (counts : List ℕ) (ps : List (Option Entry)) (j : ℕ) (o : Option Entry) → IsTallied counts ps → slice_get ps j ≡ Some o
-    → IfSome o (λ h. 0 < at_place counts h)
-counted_if counts ps j None t at = tt
-counted_if counts ps j (Some h) t at = is_counted counts ps j h t at
-
-pub taken_if : (counts less : List ℕ) (ps : List (Option Entry)) (j : ℕ) (o : Option Entry) → IsTallied counts ps → slice_get ps j ≡ Some o
-    → (o ≡ None → ⊥) → IsLess counts less o → IsTallied less (slice_set ps j None)
-taken_if counts less ps j None t at some is = absurd (some refl)
-taken_if counts less ps j (Some h) t at some is = subst (λ cs. IsTallied cs (slice_set ps j None)) (sym (is h refl)) (tallied-take counts ps j h t at)
-
-pub changed_if : (counts less more : List ℕ) (ps : List (Option Entry)) (j : ℕ) (o : Option Entry) (n : Entry) → IsTallied counts ps → slice_get ps j ≡ Some o
-    → (o ≡ None → ⊥) → IsLess counts less o → more ≡ slice_set less (tally_place n.port n.kind) (at_place less n + 1) → IsTallied more (slice_set ps j (Some n))
-changed_if counts less more ps j None n t at some is second = absurd (some refl)
-changed_if counts less more ps j (Some h) n t at some is second = tallied-change counts less more ps j h n t at (is h refl) second
 
 -- there is memory for all places
 pub few_places : (ps : List (Option Entry)) (free : List ℕ) (room next pc fc : ℕ) → IsTable ps free room next pc fc → length ps ≤ pc
@@ -255,19 +235,15 @@ is_there port kind h e = both (h.port == port) (group_of h.kind == group_of kind
     both false b p g e = absurd (true≢false (sym e))
 
 pub as_counted : (counts : List ℕ) (ps : List (Option Entry)) (next port : ℕ) (kind : Kind) → IsTallied counts ps → NumbersAreApart ps
-    → ((k : ℕ) → next ≤ k → in_places ps k ≡ None)
+    → ((k : ℕ) → next ≤ k → in_places ps k ≡ None) → group_of kind < 3
     → slice_index_or counts (tally_place port kind) 0 ≡ length (filter (is_counted_at (tally_place port kind)) (handles_in ps next))
-as_counted counts ps next port kind t apart below =
-    t.each (tally_place port kind) (place_within port kind) ∙ passing-places (is_counted_at (tally_place port kind)) ps next apart below
+as_counted counts ps next port kind t apart below few =
+    t.each (tally_place port kind) (place_within port kind few) ∙ passing-places (is_counted_at (tally_place port kind)) ps next apart below
 
-pub at_most_so_many : (counts : List ℕ) (ps : List (Option Entry)) (next port : ℕ) (kind : Kind) → IsTallied counts ps → NumbersAreApart ps
-    → ((k : ℕ) → next ≤ k → in_places ps k ≡ None)
-    → length (filter (is_like port kind) (handles_in ps next)) ≤ slice_index_or counts (tally_place port kind) 0
-at_most_so_many counts ps next port kind t apart below =
-    let fewer = no_more (is_like port kind) (is_counted_at (tally_place port kind)) (handles_in ps next) (is_there port kind) in
-    let was = t.each (tally_place port kind) (place_within port kind) in
-    let counted = passing-places (is_counted_at (tally_place port kind)) ps next apart below in
-    omega (arith, fewer, was, counted)
+-- those of a port and kind are among those that are counted where they are
+pub fewer_alike : (hs : List Entry) (port : ℕ) (kind : Kind)
+    → length (filter (is_like port kind) hs) ≤ length (filter (is_counted_at (tally_place port kind)) hs)
+fewer_alike hs port kind = no_more (is_like port kind) (is_counted_at (tally_place port kind)) hs (is_there port kind)
 
 -- a group is told by the kind's number
 abbrev group_by : ℕ → ℕ
@@ -286,16 +262,10 @@ same_kind_alike port kind h e = both (h.port == port) (same_kind h.kind kind) re
     both false b k e = absurd (true≢false (sym e))
 
 pub none_counted : (counts : List ℕ) (ps : List (Option Entry)) (next port : ℕ) (kind : Kind) → IsTallied counts ps → NumbersAreApart ps
-    → ((k : ℕ) → next ≤ k → in_places ps k ≡ None) → slice_index_or counts (tally_place port kind) 0 ≡ 0
+    → ((k : ℕ) → next ≤ k → in_places ps k ≡ None) → group_of kind < 3 → slice_index_or counts (tally_place port kind) 0 ≡ 0
     → 0 ≡ length (filter (is_of port kind) (handles_in ps next))
-none_counted counts ps next port kind t apart below none =
-    let most = at_most_so_many counts ps next port kind t apart below in
+none_counted counts ps next port kind t apart below few none =
+    let most = fewer_alike (handles_in ps next) port kind in
+    let was = as_counted counts ps next port kind t apart below few in
     let fewer = no_more (is_of port kind) (is_like port kind) (handles_in ps next) (same_kind_alike port kind) in
-    omega (arith, most, fewer, none)
-
-pub may_count_if : (counts less : List ℕ) (ps : List (Option Entry)) (j capacity : ℕ) (o : Option Entry) (port : ℕ) (kind : Kind) → IsTallied counts ps
-    → slice_get ps j ≡ Some o → (o ≡ None → ⊥) → IsLess counts less o → length ps ≤ capacity → capacity < 2 ^ 63
-    → slice_index_or less (tally_place port kind) 0 + 1 < 2 ^ 64
-may_count_if counts less ps j capacity None port kind t at some is within small = absurd (some refl)
-may_count_if counts less ps j capacity (Some h) port kind t at some is within small =
-    may_count_changed counts less ps j capacity h port kind t at (is h refl) within small
+    omega (arith, most, was, fewer, none)

@@ -103,13 +103,14 @@ IsWhole-change_of ps free i room next pc fc l n g t e at node =
 -- ---- for answers
 
 -- a table in other words
-pub moved_whole : (ps ps' : List (Option Entry)) (fs fs' : List ℕ) (room next pc pc' fc fc' : ℕ) (l : ListState) → ps' ≡ ps → fs' ≡ fs → pc' ≡ pc → fc' ≡ fc
-    → IsWhole ps fs room next pc fc l → IsWhole ps' fs' room next pc' fc' l
-moved_whole ps ps' fs fs' room next pc pc' fc fc' l a b c d t =
-    subst (λ x. IsWhole ps' fs' room next pc' x l) (sym d)
-    (subst (λ x. IsWhole ps' fs' room next x fc l) (sym c)
+pub moved_whole : (ps ps' : List (Option Entry)) (fs fs' : List ℕ) (room room' next pc pc' fc fc' : ℕ) (l : ListState) → ps' ≡ ps → fs' ≡ fs → room' ≡ room
+    → pc' ≡ pc → fc' ≡ fc → IsWhole ps fs room next pc fc l → IsWhole ps' fs' room' next pc' fc' l
+moved_whole ps ps' fs fs' room room' next pc pc' fc fc' l a b r c d t =
+    subst (λ x. IsWhole ps' fs' room' next pc' x l) (sym d)
+    (subst (λ x. IsWhole ps' fs' room' next x fc l) (sym c)
+    (subst (λ x. IsWhole ps' fs' x next pc fc l) (sym r)
     (subst (λ x. IsWhole ps' x room next pc fc l) (sym b)
-    (subst (λ x. IsWhole x fs room next pc fc l) (sym a) t)))
+    (subst (λ x. IsWhole x fs room next pc fc l) (sym a) t))))
 
 -- ---- memory
 

@@ -5,3 +5,4 @@ pub mod Removals
 -- only for proofs of this crate
 pub mod Places
 pub mod NodeLists
+pub mod Memory

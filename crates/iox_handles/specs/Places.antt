@@ -1,8 +1,29 @@
 -- How a table of places holds handles.
-use Rattle.std.specs.Prelude.{ℕ, zero, suc, ◌≡◌, ◌≤◌, ◌+◌, ◌==◌, Bool, false, if◌then◌else◌, List, [], ◌∷◌, ◌++◌, Option, Some, None, length, slice_get, ⊤}
+use Rattle.std.specs.Prelude.{ℕ, zero, suc, ◌≡◌, ◌≤◌, ◌+◌, ◌-◌, ◌^◌, ◌==◌, Bool, false, if◌then◌else◌, List, [], ◌∷◌, ◌++◌, Option, Some, None, length, map, slice_get, ⊤}
 use Rattle.std.specs.Option.{option_map_or}
 use Rattle.iox_handles.specs.declared.entry.Entry.{Entry}
 use Rattle.iox_handles.specs.Least.{lesser}
+use Rattle.iox_handles.specs.Tables.{has_port, has_that}
+
+-- the number of no handle: a place where it stands is vacant
+abbrev pub nobody : ℕ
+nobody = 2 ^ 64 - 1
+
+-- the handle that stands in a place, if the place is not vacant
+abbrev pub handle_in : Entry → Option Entry
+handle_in h = if h.number == nobody then None else Some h
+
+-- the same of each place
+abbrev pub handles_there : List Entry → List (Option Entry)
+handles_there ps = map handle_in ps
+
+-- whether that number stands in the place
+abbrev pub has_number_at : ℕ → List Entry → ℕ → Bool
+has_number_at number ps place = option_map_or (has_that number) (slice_get ps place) false
+
+-- how many handles may come, where there may be so many places: into vacant ones or new ones
+abbrev pub room_in : ℕ → List Entry → List ℕ → ℕ
+room_in most ps free = most - length ps + length free
 
 -- whether there is a handle of that number
 abbrev pub is_numbered : ℕ → Option Entry → Bool
@@ -17,6 +38,10 @@ has_at number ps place = option_map_or (is_numbered number) (slice_get ps place)
 abbrev pub passes : (Entry → Bool) → Option Entry → Bool
 passes test None = false
 passes test (Some h) = test h
+
+-- whether a handle of that port stands in a place
+abbrev pub is_there_of : ℕ → Entry → Bool
+is_there_of port h = passes (has_port port) (handle_in h)
 
 -- the number of the handle that is there, if it is of that node
 abbrev pub number_for : ℕ → Option Entry → Option ℕ

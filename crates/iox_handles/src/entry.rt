@@ -9,6 +9,8 @@ pub struct Entry {
     pub node: u64,
     pub number: u64,
     pub kind: Kind,
+    /// Where its port likely stands among the ports. A wrong place is only slower.
+    pub at: u16,
     /// The port that it belongs to.
     pub port: u64,
     /// The place of the pool, and the slot there.
@@ -18,4 +20,11 @@ pub struct Entry {
     pub client: u64,
     /// Of a pending response: how many servers the request was delivered to.
     pub connections: u64,
+}
+
+/// A place among the ports, as a handle keeps it. Ports that stand behind the first 2^16 places are
+/// looked for in wrong ones first.
+#[inline(always)]
+pub fn kept_place(place: usize) -> u16 {
+    (place % (1 << 16)) as u16
 }

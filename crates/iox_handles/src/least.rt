@@ -1,9 +1,10 @@
 //! The least number of a node's handles.
 ghost use Rattle.std.specs.Prelude.{◌≡◌};
 ghost use Rattle.iox_handles.specs.Least.{lesser};
-ghost use Rattle.iox_handles.specs.Places.{least_in, number_for};
+ghost use Rattle.iox_handles.specs.Places.{handles_there, least_in, number_for};
 
 use crate::entry::Entry;
+use crate::vacant::handle_in;
 
 /// The lesser of two numbers, or the one that there is.
 #[inline]
@@ -29,12 +30,12 @@ pub fn number_for(place: Option<Entry>, node: u64) -> Option<u64>
 }
 
 /// The least number of the node's handles.
-pub fn least_in(places: &[Option<Entry>], node: u64) -> Option<u64>
-    ensures { result ≡ least_in node places.now }
+pub fn least_in(places: &[Entry], node: u64) -> Option<u64>
+    ensures { result ≡ least_in node (handles_there places.now) }
 {
     let mut least = None;
     for place in places {
-        least = lesser(least, number_for(*place, node));
+        least = lesser(least, number_for(handle_in(*place), node));
     }
     least
 }

@@ -11,8 +11,9 @@ mod numbered;
 mod places;
 mod table;
 mod tally;
+mod vacant;
 
-pub use entry::Entry;
+pub use entry::{Entry, kept_place};
 pub use entry_test::EntryTest;
 pub use kind_change::KindChange;
 pub use least::lesser;

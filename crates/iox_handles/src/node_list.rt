@@ -2,7 +2,7 @@
 ghost use Rattle.std.specs.Option.{option_map};
 ghost use Rattle.std.specs.Prelude.{◌≡◌, ◌≤◌, IfOk, OnOk, length};
 ghost use Rattle.iox_handles.specs.NodeLists.{AllListed, is_list_of, listed_anew, no_list};
-ghost use Rattle.iox_handles.specs.Places.{least_in};
+ghost use Rattle.iox_handles.specs.Places.{handles_there, least_in};
 
 use crate::entry::Entry;
 use crate::numbered::{Numbered, first_there, list_in};
@@ -78,9 +78,9 @@ impl NodeList {
     }
 
     /// Lists the node's handles.
-    pub fn fill(&mut self, places: &[Option<Entry>], node: u64, next: u64)
+    pub fn fill(&mut self, places: &[Entry], node: u64, next: u64)
         requires room { length places.now ≤ self.old.room }
-        ensures listed { AllListed places.now self.new }
+        ensures listed { AllListed (handles_there places.now) self.new }
         ensures anew { self.new ≡ listed_anew self.old node next self.new.list }
     {
         self.list.clear();
@@ -92,10 +92,11 @@ impl NodeList {
     }
 
     /// The first of those listed that is there, which is the node's handle of the least number.
-    pub fn first(&mut self, places: &[Option<Entry>]) -> Option<Numbered>
-        requires listed { AllListed places.now self.old }
-        ensures least { option_map (λ v. v.number) result ≡ least_in self.old.node places.now }
-        ensures listed { AllListed places.now self.new }
+    pub fn first(&mut self, places: &[Entry]) -> Option<Numbered>
+        requires listed { AllListed (handles_there places.now) self.old }
+        ensures least { option_map (λ v. v.number) result
+            ≡ least_in self.old.node (handles_there places.now) }
+        ensures listed { AllListed (handles_there places.now) self.new }
         ensures same { self.new ≡ record (self.old) { from = self.new.from } }
     {
         let at = first_there(places, self.node, &self.list, self.from)?;

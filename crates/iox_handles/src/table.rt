@@ -1,6 +1,6 @@
 //! The table of a hub's handles.
 ghost use Rattle.std.specs.Option.{option_and_then, option_map};
-ghost use Rattle.std.specs.Prelude.{◌≡◌, ◌<◌, ◌≤◌, ◌+◌, ◌-◌, ◌%◌, ◌^◌, ◌==◌, if◌then◌else◌, IfOk, IfSome, IsSome, None, OnErr, OnOk, Some, filter, length, map};
+ghost use Rattle.std.specs.Prelude.{◌≡◌, ◌<◌, ◌≤◌, ◌+◌, ◌^◌, IfOk, IfSome, IsSome, None, OnErr, OnOk, Some, filter, is_some, length, map, true};
 ghost use Rattle.iox_handles.specs.Least.{least};
 ghost use Rattle.iox_handles.specs.Tallies.{is_counted_at, tally_place};
 ghost use Rattle.iox_handles.specs.Tables.{IsSound, added, changed, count_like, count_of, handle_at, handle_of, handles_of, has_any, new_contents, removed, turned};
@@ -13,14 +13,15 @@ use crate::kind_change::KindChange;
 use crate::least::least_in;
 use crate::node_list::NodeList;
 use crate::numbered::Numbered;
-use crate::places::{count_if_in, count_in, place_of, place_of_port, set_kind};
-use crate::tally::Tally;
+use crate::places::{
+    REMAINDERS, count_alike_in, count_if_in, count_in, has_handle, known_place, place_of,
+    place_of_port, remainder,
+};
+use crate::tally::{Tally, is_tallied};
+use crate::vacant::{NOBODY, write};
 use iox_model::kind::Kind;
 use std::alloc::{AllocError, Global};
 use std::marker::Model;
-
-/// By so many remainders of their numbers it is kept where handles are.
-const REMAINDERS: usize = 256;
 
 /// Where no handle is.
 const NOWHERE: usize = usize::MAX;
@@ -29,15 +30,15 @@ const NOWHERE: usize = usize::MAX;
 /// `reserve` take memory.
 #[derive(Drop)]
 pub struct Table {
-    places: Vec<Option<Entry>>,
+    places: Vec<Entry>,
     // The vacant places.
     free: Vec<usize>,
-    // How many handles may come, in vacant places or in new ones.
-    room: usize,
+    // How many places there may be, the vacant ones too.
+    most: usize,
     // Above the number of each handle.
     next: u64,
-    // By remainders of their numbers, where handles are likely to be: of two with one remainder,
-    // where the first of them is.
+    // By remainders of their numbers, where handles are likely to be: of those with one remainder,
+    // where the last came.
     likely: [usize; REMAINDERS],
     // By remainders of ports' numbers, where a handle of the port was found last.
     found: [usize; REMAINDERS],
@@ -50,51 +51,19 @@ pub struct Table {
 impl Model for Table {
     ghost use Rattle.std.specs.Prelude.{vec_capacity};
     ghost use Rattle.iox_handles.specs.Tables.{Contents};
-    ghost use Rattle.iox_handles.specs.NodeLists.{IsWhole};
-    ghost use Rattle.iox_handles.specs.Places.{handles_in};
-    ghost use Rattle.iox_handles.specs.Tallies.{IsTallied};
+    ghost use Rattle.iox_handles.specs.Places.{handles_in, handles_there, room_in};
+    ghost use Rattle.iox_handles.specs.Memory.{IsInMemory};
 
     ghost Value = { Contents };
 
     ghost view = { λ t. record {
-      room = t.room;
+      room = room_in t.most t.places.items t.free.items;
       next = t.next;
-      handles = handles_in t.places.items t.next;
+      handles = handles_in (handles_there t.places.items) t.next;
     } };
 
-    ghost invariant = { λ t. IsWhole t.places.items t.free.items t.room t.next
-        (vec_capacity t.places) (vec_capacity t.free) t.listed
-        × IsTallied t.tally.counts t.places.items };
-}
-
-/// The remainder of a handle's number.
-#[inline]
-fn remainder(number: u64) -> usize
-    ensures { result ≡ number % 256 }
-{
-    (number % REMAINDERS as u64) as usize
-}
-
-/// The place, where none is kept yet.
-#[inline]
-fn kept(place: usize, other: usize) -> usize
-    ensures { result ≡ (if place == 2 ^ 64 - 1 then other else place) }
-{
-    if place == NOWHERE {
-        return other;
-    }
-    place
-}
-
-/// No place, where that one is kept.
-#[inline]
-fn forgotten(place: usize, other: usize) -> usize
-    ensures { result ≡ (if place == other then 2 ^ 64 - 1 else place) }
-{
-    if place == other {
-        return NOWHERE;
-    }
-    place
+    ghost invariant = { λ t. IsInMemory t.places.items t.free.items t.most t.next
+        (vec_capacity t.places) (vec_capacity t.free) t.listed t.tally.counts };
 }
 
 impl Table {
@@ -108,7 +77,7 @@ impl Table {
         Ok(Table {
             places,
             free,
-            room,
+            most: room,
             next: 0,
             likely: [NOWHERE; REMAINDERS],
             found: [0; REMAINDERS],
@@ -123,7 +92,24 @@ impl Table {
         ensures room { result ≡ self.now.room }
         ensures sound { IsSound self.now }
     {
-        self.room
+        self.most - self.places.len() + self.free.len()
+    }
+
+    /// A number above that of each handle, which the next one may have.
+    #[inline(always)]
+    pub fn next_number(&self) -> u64
+        ensures { result ≡ self.now.next }
+    {
+        self.next
+    }
+
+    /// No handle is to have that number.
+    #[inline]
+    pub fn skip_number(&mut self)
+        requires { self.old.next + 1 < 2 ^ 64 }
+        ensures { self.new ≡ record (self.old) { next = self.old.next + 1 } }
+    {
+        self.next += 1;
     }
 
     /// Makes room for so many handles more.
@@ -132,13 +118,13 @@ impl Table {
             ≡ record (self.old) { room = self.old.room + more }) }
         ensures unchanged { OnErr result (self.new ≡ self.old) }
     {
-        let Some(room) = self.room.checked_add(more) else {
+        let Some(most) = self.most.checked_add(more) else {
             return Err(AllocError);
         };
-        self.places.reserve(room - self.free.len())?;
+        self.places.reserve(most - self.places.len())?;
         self.free.reserve(self.places.capacity() - self.free.len())?;
         self.listed.reserve(self.places.capacity())?;
-        self.room = room;
+        self.most = most;
         Ok(())
     }
 
@@ -151,41 +137,58 @@ impl Table {
         ensures added { self.new ≡ added self.old entry }
         ensures has { handle_at self.new entry.number ≡ Some entry }
     {
-        self.room -= 1;
         self.next = entry.number + 1;
         self.tally.count(entry.port, entry.kind);
         let at = remainder(entry.number);
         match self.free.pop() {
             Some(place) => {
-                self.places[place] = Some(entry);
-                self.likely[at] = kept(self.likely[at], place);
+                write(&mut self.places[place], entry);
+                self.likely[at] = place;
                 place
             }
             None => {
                 let place = self.places.len();
-                self.places.push_reserved(Some(entry));
-                self.likely[at] = kept(self.likely[at], place);
+                self.places.push_reserved(entry);
+                self.likely[at] = place;
                 place
             }
         }
     }
 
-    /// Where the handle of that number is likely to be: each search tests it.
-    #[inline]
-    fn guess(&self, number: u64) -> usize {
-        self.likely[remainder(number)]
-    }
-
-    /// The handle of that number, which is looked for in its likely place and at the hint first.
+    /// The handle of that number, which is looked for at the hint and in its likely place first.
+    #[inline(always)]
     pub fn find(&self, number: u64, hint: usize) -> Option<Entry>
         ensures found { result ≡ handle_at self.now number }
         ensures sound { IsSound self.now }
     {
-        let place = place_of(&self.places, number, self.guess(number), hint)?;
+        let place = place_of(&self.places, number, &self.likely, hint)?;
+        Some(self.places[place])
+    }
+
+    /// The handle of that number, which is there. It is looked for at the hint and in its likely
+    /// place first.
+    #[inline(always)]
+    pub fn known(&self, number: u64, hint: usize) -> Entry
+        requires { is_some (handle_at self.now number) ≡ true }
+        ensures found { Some result ≡ handle_at self.now number }
+        ensures sound { IsSound self.now }
+    {
+        let place = known_place(&self.places, number, &self.likely, hint);
         self.places[place]
     }
 
-    /// Removes the handle of that number, which is looked for in its likely place and at the hint
+    /// The handle of that number, if it is at the hint.
+    #[inline(always)]
+    pub fn near(&self, number: u64, hint: usize) -> Option<Entry>
+        ensures { IfSome result (λ entry. Some entry ≡ handle_at self.now number) }
+    {
+        if has_handle(&self.places, hint, number) {
+            return Some(self.places[hint]);
+        }
+        None
+    }
+
+    /// Removes the handle of that number, which is looked for at the hint and in its likely place
     /// first.
     pub fn remove(&mut self, number: u64, hint: usize) -> Option<Entry>
         ensures found { result ≡ handle_at self.old number }
@@ -193,35 +196,32 @@ impl Table {
         ensures gone { handle_at self.new number ≡ None }
         ensures unchanged { result ≡ None → self.new ≡ self.old }
     {
-        let place = place_of(&self.places, number, self.guess(number), hint)?;
+        let place = place_of(&self.places, number, &self.likely, hint)?;
         let entry = self.places[place];
-        let kept_at = remainder(number);
-        self.likely[kept_at] = forgotten(self.likely[kept_at], place);
-        self.tally.discount_any(entry);
-        self.places[place] = None;
+        self.tally.discount(entry.port, entry.kind);
+        self.places[place].number = NOBODY;
         self.free.push_reserved(place);
-        self.room += 1;
-        entry
+        Some(entry)
     }
 
-    /// Changes the handle of that number, which is looked for in its likely place and at the hint
+    /// Changes the handle of that number, which is looked for at the hint and in its likely place
     /// first.
     pub fn change(&mut self, entry: Entry, hint: usize) -> Option<Entry>
         ensures found { result ≡ handle_at self.old entry.number }
         ensures changed { IsSome result → self.new ≡ changed self.old entry }
         ensures unchanged { result ≡ None → self.new ≡ self.old }
     {
-        let place = place_of(&self.places, entry.number, self.guess(entry.number), hint)?;
-        let old = self.places[place];
-        self.tally.discount_any(old);
+        let place = place_of(&self.places, entry.number, &self.likely, hint)?;
+        let was = self.places[place];
+        self.tally.discount(was.port, was.kind);
         self.tally.count(entry.port, entry.kind);
-        self.places[place] = Some(entry);
+        self.places[place] = entry;
         self.listed.forget();
-        old
+        Some(was)
     }
 
-    /// Removes the node's handle of that number, which is looked for in its likely place and at the
-    /// hint first.
+    /// Removes the node's handle of that number, which is looked for at the hint and in its likely
+    /// place first.
     #[inline(always)]
     pub fn remove_of(&mut self, node: u64, number: u64, hint: usize) -> Option<Entry>
         ensures found { result ≡ handle_of self.old node number }
@@ -230,22 +230,19 @@ impl Table {
         ensures unchanged { result ≡ None → self.new ≡ self.old }
         ensures sound { IsSound self.old }
     {
-        let at = place_of(&self.places, number, self.guess(number), hint)?;
-        let entry = self.places[at]?;
+        let at = place_of(&self.places, number, &self.likely, hint)?;
+        let entry = self.places[at];
         if entry.node != node {
             return None;
         }
-        let kept_at = remainder(number);
-        self.likely[kept_at] = forgotten(self.likely[kept_at], at);
         self.tally.discount(entry.port, entry.kind);
-        self.places[at].take();
+        self.places[at].number = NOBODY;
         self.free.push_reserved(at);
-        self.room = self.room + 1;
         Some(entry)
     }
 
-    /// Changes the handle of that node and number, which is looked for in its likely place and at
-    /// the hint first, and tells what it was.
+    /// Changes the handle of that node and number, which is looked for at the hint and in its
+    /// likely place first, and tells what it was.
     #[inline(always)]
     pub fn change_of(&mut self, entry: Entry, hint: usize) -> Option<Entry>
         ensures found { result ≡ handle_of self.old entry.node entry.number }
@@ -253,19 +250,19 @@ impl Table {
         ensures unchanged { result ≡ None → self.new ≡ self.old }
         ensures sound { IsSound self.old }
     {
-        let at = place_of(&self.places, entry.number, self.guess(entry.number), hint)?;
-        let old = self.places[at]?;
+        let at = place_of(&self.places, entry.number, &self.likely, hint)?;
+        let old = self.places[at];
         if old.node != entry.node {
             return None;
         }
         self.tally.discount(old.port, old.kind);
         self.tally.count(entry.port, entry.kind);
-        self.places[at] = Some(entry);
+        self.places[at] = entry;
         Some(old)
     }
 
     /// Changes the kind of the node's handle of that number, where it is to change, and tells the
-    /// handle as it is now. It is looked for in its likely place and at the hint first.
+    /// handle as it is now. It is looked for at the hint and in its likely place first.
     #[inline(always)]
     pub fn change_kind<C: KindChange>(
         &mut self,
@@ -280,32 +277,36 @@ impl Table {
         ensures unchanged { result ≡ None → self.new ≡ self.old }
         ensures sound { IsSound self.old }
     {
-        let here = place_of(&self.places, number, self.guess(number), hint)?;
-        let old = self.places[here]?;
+        let here = place_of(&self.places, number, &self.likely, hint)?;
+        let old = self.places[here];
         if old.node != node {
             return None;
         }
         let kind = change.becomes(old)?;
-        set_kind(&mut self.places[here], kind);
+        self.places[here].kind = kind;
         Some(Entry { kind, ..old })
     }
 
     /// The port has at most so many handles of that kind, and of those that are counted with it:
-    /// there are so many of ports whose numbers have its remainder.
+    /// there are so many of ports whose numbers have its remainder. Loans and pending responses are
+    /// counted as they come and go; for any other kind it looks at all places.
     #[inline]
     pub fn at_most(&self, port: u64, kind: Kind) -> usize
         ensures most { count_like self.now port kind ≤ result }
         ensures counted { result
             ≡ length (filter (is_counted_at (tally_place port kind)) self.now.handles) }
     {
-        self.tally.at_most(port, kind)
+        if is_tallied(kind) {
+            return self.tally.at_most(port, kind);
+        }
+        count_alike_in(&self.places, port, kind)
     }
 
     /// How many handles of that kind a port has. Where there may be any, it looks at all places.
     pub fn count(&self, port: u64, kind: Kind) -> usize
         ensures { result ≡ count_of self.now port kind }
     {
-        if self.tally.at_most(port, kind) == 0 {
+        if is_tallied(kind) && self.tally.at_most(port, kind) == 0 {
             return 0;
         }
         count_in(&self.places, port, kind)

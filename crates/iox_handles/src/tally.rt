@@ -1,8 +1,7 @@
 //! How many handles of some kinds ports have, by remainders of the ports' numbers.
-ghost use Rattle.std.specs.Prelude.{◌≡◌, ◌<◌, ◌+◌, ◌-◌, ◌^◌, ℕ, IfSome, Some, length, slice_index_or, slice_set};
-ghost use Rattle.iox_handles.specs.declared.entry.Entry.{Entry};
+ghost use Rattle.std.specs.Prelude.{◌≡◌, ◌<◌, ◌+◌, ◌-◌, ◌^◌, ℕ, length, nat_lt, slice_index_or, slice_set};
 ghost use Rattle.iox_handles.specs.Tables.{group_of};
-ghost use Rattle.iox_handles.specs.Tallies.{tally_place};
+ghost use Rattle.iox_handles.specs.Tallies.{is_counted_at, tally_place};
 
 use crate::entry::Entry;
 use iox_model::kind::Kind;
@@ -10,8 +9,8 @@ use iox_model::kind::Kind;
 /// By so many remainders of ports' numbers handles are counted.
 const REMAINDERS: usize = 64;
 
-/// The groups of kinds, each by those remainders.
-const PLACES: usize = 4 * REMAINDERS;
+/// The groups of kinds that are counted, each by those remainders.
+const PLACES: usize = 3 * REMAINDERS;
 
 /// How many handles there are, by groups of kinds and by remainders of ports' numbers.
 #[derive(Drop)]
@@ -37,19 +36,34 @@ fn group(kind: Kind) -> usize
     }
 }
 
-/// Where handles of that port and kind are counted.
+/// Whether handles of that kind are counted.
+#[inline(always)]
+pub fn is_tallied(kind: Kind) -> bool
+    ensures { result ≡ nat_lt (group_of kind) 3 }
+{
+    group(kind) < 3
+}
+
+/// Where handles of that port and kind are counted, or would be.
 #[inline]
 fn place(port: u64, kind: Kind) -> usize
     ensures place { result ≡ tally_place port kind }
-    ensures within { result < 256 }
+    ensures within { group_of kind < 3 → result < 192 }
 {
     group(kind) * REMAINDERS + (port % REMAINDERS as u64) as usize
+}
+
+/// Whether a handle is counted where those of that port and kind are, or would be.
+pub fn is_alike(entry: Entry, port: u64, kind: Kind) -> bool
+    ensures { result ≡ is_counted_at (tally_place port kind) entry }
+{
+    place(entry.port, entry.kind) == place(port, kind)
 }
 
 impl Tally {
     /// No handle is counted.
     pub fn new() -> Tally
-        ensures size { length result.counts ≡ 256 }
+        ensures size { length result.counts ≡ 192 }
         ensures none { (i : ℕ) → slice_index_or result.counts i 0 ≡ 0 }
     {
         Tally {
@@ -57,46 +71,38 @@ impl Tally {
         }
     }
 
-    /// Counts a handle of that port and kind.
+    /// Counts a handle of that port and kind, if handles of the kind are counted: else it has no
+    /// place among the counts.
     #[inline]
     pub fn count(&mut self, port: u64, kind: Kind)
         requires { slice_index_or self.old.counts (tally_place port kind) 0 + 1 < 2 ^ 64 }
         ensures { self.new.counts ≡ slice_set self.old.counts (tally_place port kind)
             (slice_index_or self.old.counts (tally_place port kind) 0 + 1) }
     {
-        let at = place(port, kind);
-        self.counts[at] += 1;
+        if is_tallied(kind) {
+            let at = place(port, kind);
+            self.counts[at] += 1;
+        }
     }
 
     /// Counts one less.
     #[inline(always)]
     pub fn discount(&mut self, port: u64, kind: Kind)
-        requires { 0 < slice_index_or self.old.counts (tally_place port kind) 0 }
+        requires { group_of kind < 3
+            → 0 < slice_index_or self.old.counts (tally_place port kind) 0 }
         ensures { self.new.counts ≡ slice_set self.old.counts (tally_place port kind)
             (slice_index_or self.old.counts (tally_place port kind) 0 - 1) }
     {
-        let at = place(port, kind);
-        self.counts[at] -= 1;
-    }
-
-    /// The same, if there is such a handle.
-    #[inline]
-    pub fn discount_any(&mut self, entry: Option<Entry>)
-        requires { IfSome entry (λ h.
-            0 < slice_index_or self.old.counts (tally_place h.port h.kind) 0) }
-        ensures { (h : Entry) → entry ≡ Some h → self.new.counts
-            ≡ slice_set self.old.counts (tally_place h.port h.kind)
-            (slice_index_or self.old.counts (tally_place h.port h.kind) 0 - 1) }
-    {
-        match entry {
-            Some(gone) => self.discount(gone.port, gone.kind),
-            None => {}
+        if is_tallied(kind) {
+            let at = place(port, kind);
+            self.counts[at] -= 1;
         }
     }
 
     /// How many handles are counted where those of that port and kind are.
     #[inline]
     pub fn at_most(&self, port: u64, kind: Kind) -> usize
+        requires { group_of kind < 3 }
         ensures { result ≡ slice_index_or self.now.counts (tally_place port kind) 0 }
     {
         self.counts[place(port, kind)]

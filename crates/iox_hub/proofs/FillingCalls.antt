@@ -41,7 +41,7 @@ use Rattle.iox_hub.proofs.LendingGiven.{given_put}
 use Rattle.iox_hub.proofs.LendingWords.{count_new, requests_new, stored_else, stored_new}
 use Rattle.iox_hub.proofs.LendingWrites.{IsLoanOf, changed_is_found, found_has, is_loan_of, is_loan_there, loan_elements, loan_is_one, loan_message, loan_named, loan_of_role, loan_within, low_if_used}
 use Rattle.iox_hub.proofs.Named.{found_is_handle, handle_is_value}
-use Rattle.iox_hub.proofs.Reading.{are_requests_same, carried_same, count_same, has_slot, stored_is}
+use Rattle.iox_hub.proofs.Reading.{has_slot, some_there, stored_is}
 
 -- A filling leads to a hub.
 pub hub_is_filled : (h h' : HubState) (node n : ℕ) (w : Filling) → IsHub h → IsControl h'.control → WordsFit (many_in h') h'.words h'.control.tables
@@ -290,20 +290,17 @@ module _ {h : HubState} {role : Role} {node n : ℕ} {all : Bool} {new : Control
 -- ---- its words are looked up, once its message is another
 
 module _ {h : HubState} {role : Role} {node n : ℕ} {all : Bool} {new : ControlState} {place : Place} (c : IsFillCall h role node n all new place)
-    (words : List (Option Carried)) (z : StoredMessage) (put : words ≡ with_message h.words place.pool place.slot z) (ws : List (Option Carried)) (same : ws ≡ words) where
-  pub looked_of : are_requests_in ws place.pool ≡ is_client role
-  looked_of = are_requests_same ws words place.pool (is_client role) same (put_of h.words place z words put (is_client role) (fill_of c))
+    (words : List (Option Carried)) (z : StoredMessage) (put : words ≡ with_message h.words place.pool place.slot z) where
+  pub looked_of : are_requests_in words place.pool ≡ is_client role
+  looked_of = put_of h.words place z words put (is_client role) (fill_of c)
 
-  pub looked_within : 0 < count_in ws place.pool
-  looked_within = count_same ws words place.pool place.slot same (put_within h.words place z words put (fill_within c))
+  pub looked_within : 0 < count_in words place.pool
+  looked_within = some_there words place.pool place.slot (put_within h.words place z words put (fill_within c))
 
-  module _ (b : Bool) (cs : Contents) (found : carried_in ws place.pool ≡ Some (record { requests = b; contents = cs })) where
-    found_so : carried_in words place.pool ≡ Some (record { requests = b; contents = cs })
-    found_so = carried_same ws words place.pool b cs same found
-
+  module _ (b : Bool) (cs : Contents) (found : carried_in words place.pool ≡ Some (record { requests = b; contents = cs })) where
     pub looked_slot : place.slot < length cs.messages
-    looked_slot = has_slot words place.pool place.slot b cs found_so (put_within h.words place z words put (fill_within c))
+    looked_slot = has_slot words place.pool place.slot b cs found (put_within h.words place z words put (fill_within c))
 
     pub looked_suits : (shape : Shape) → SuitsShape shape (stored_at cs place.slot) → SuitsShape shape z
     looked_suits shape suits =
-        subst (SuitsShape shape) (sym (stored_is words place.pool place.slot b cs found_so) ∙ put_stored h.words place z words put (fill_within c)) suits
+        subst (SuitsShape shape) (sym (stored_is words place.pool place.slot b cs found) ∙ put_stored h.words place z words put (fill_within c)) suits

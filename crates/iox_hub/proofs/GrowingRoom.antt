@@ -1,5 +1,5 @@
 -- Room for messages that are lent: their own, or that which is given.
-use Rattle.std.specs.Prelude.{◌≡◌, ℕ, zero, suc, ◌*◌, ◌^◌, ◌≤◌, nat_le, Bool, true, false, not, ◌&&◌, ◌||◌, List, [], ◌∷◌, Option, Some, None, option_map, slice_set, refl}
+use Rattle.std.specs.Prelude.{◌≡◌, ℕ, ◌*◌, ◌^◌, ◌≤◌, nat_le, Bool, true, false, not, ◌&&◌, ◌||◌, Option, Some, None, refl}
 use Rattle.std.specs.Option.{option_map_or}
 use Rattle.std.proofs.Common.{sym, ap, subst, ◌∙◌, arith, true≢false}
 use Rattle.std.proofs.lemmas.Bool.{leb-true}
@@ -22,11 +22,9 @@ use Rattle.iox_control_request_copies.specs.Asked.{Asked}
 use Rattle.iox_control_request_copies.specs.Loaned.{Loaned}
 use Rattle.iox_control_request_copies.specs.Lends.{IsAskedOf, IsLoaned, MayBeMade}
 use Rattle.iox_control_request_copies.proofs.Foretold.{made_may_be}
-use Rattle.iox_hub.specs.declared.words.PoolWords.{PoolWords}
-use Rattle.iox_hub.specs.Fits.{carried_in, longest_in}
+use Rattle.iox_hub.specs.Fits.{longest_in}
 use Rattle.iox_hub.specs.Growing.{LoanHasRoom, WouldLend}
 use Rattle.iox_hub.specs.Hubs.{HasValue, HubState, IsHub, given_by}
-use Rattle.iox_hub.specs.Words.{Carried, all_carried, carried}
 use Rattle.iox_hub.proofs.LendingNamed.{active_of_hub, client_of_hub}
 
 -- ---- tests
@@ -174,14 +172,6 @@ module _ {h : HubState} (hub : IsHub h) (shape : Shape) (y : Lender) (n k : ℕ)
   -- and what is given suffices
   pub spare_has_room : (spare : ℕ) → k ≤ spare → LoanHasRoom h y shape k (Some spare)
   spare_has_room spare low loan = omega (arith, low)
-
--- ---- the words that there are
-
-pub same_put : {A B C D : Type 0} (ps : List (Option (PoolWords A B C D))) (pool : ℕ) (p : PoolWords A B C D) (k : Carried)
-    → carried_in (all_carried ps) pool ≡ Some k → carried p ≡ k → all_carried (slice_set ps pool (Some p)) ≡ all_carried ps
-same_put [] pool p k there is = refl
-same_put (q ∷ qs) zero p k there is = ap (λ o. o ∷ all_carried qs) (ap (λ c. Some c) is ∙ sym there)
-same_put (q ∷ qs) (suc i) p k there is = ap (λ os. option_map carried q ∷ os) (same_put qs i p k there is)
 
 -- more room for a message's own is no less with what is given
 pub room_grows : (a b k : ℕ) (spare : Option ℕ) → a ≤ b → k ≤ room_with a spare → k ≤ room_with b spare

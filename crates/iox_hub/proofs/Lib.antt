@@ -9,11 +9,11 @@ pub mod ShapesStay
 pub mod GoneFits
 pub mod Fitting
 pub mod Reading
+pub mod AllCarried
 pub mod LoanReading
 pub mod HeadersShown
 pub mod MakingSizes
 pub mod MakingAsked
-pub mod MakingWords
 pub mod MakingFits
 pub mod MakingWhole
 pub mod MakingPools
@@ -37,7 +37,6 @@ pub mod LendingMade
 pub mod LendingWrites
 pub mod LendingNamed
 pub mod LendingCalls
-pub mod LendingPut
 pub mod LendingWriteCalls
 pub mod KeepingPorts
 pub mod LayoutLemmas

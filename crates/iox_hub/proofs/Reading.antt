@@ -195,15 +195,9 @@ module _ (test : Kind → Bool) (pass : ArePassed test) {h : HubState} (hub : Is
 
 -- ---- the same list
 
-pub are_requests_same : (ws words : List (Option Carried)) (pool : ℕ) (b : Bool) → ws ≡ words → are_requests_in words pool ≡ b → are_requests_in ws pool ≡ b
-are_requests_same ws words pool b same is = ap (λ (us : List (Option Carried)). are_requests_in us pool) same ∙ is
-
-pub count_same : (ws words : List (Option Carried)) (pool k : ℕ) → ws ≡ words → k < count_in words pool → 0 < count_in ws pool
-count_same ws words pool k same low = subst (λ (us : List (Option Carried)). 0 < count_in us pool) (sym same) (some (count_in words pool) low)
+-- where a slot has words, there is one
+pub some_there : (words : List (Option Carried)) (pool k : ℕ) → k < count_in words pool → 0 < count_in words pool
+some_there words pool k low = some (count_in words pool) low
   where
     some : (n : ℕ) → k < n → 0 < n
     some n less = omega (arith, less)
-
-pub carried_same : (ws words : List (Option Carried)) (pool : ℕ) (b : Bool) (c : Contents) → ws ≡ words → carried_in ws pool ≡ Some (record { requests = b; contents = c })
-    → carried_in words pool ≡ Some (record { requests = b; contents = c })
-carried_same ws words pool b c same is = ap (λ (us : List (Option Carried)). carried_in us pool) (sym same) ∙ is

@@ -1,5 +1,5 @@
 -- What releases and sends ask of a hub's tables follows from what nodes have, and what they leave is a hub.
-use Rattle.std.specs.Prelude.{◌≡◌, ℕ, Bool, true, false, ◌&&◌, if◌then◌else◌, ◌==◌, List, [], ◌∷◌, length, Option, Some, None, slice_set, refl}
+use Rattle.std.specs.Prelude.{◌≡◌, ℕ, Bool, true, false, ◌&&◌, if◌then◌else◌, ◌==◌, List, length, Option, Some, None, refl}
 use Rattle.std.specs.Option.{option_map}
 use Rattle.std.proofs.Common.{sym, ap, ap₂, subst, ◌∙◌, true≢false, eq-eqb}
 use Rattle.std.proofs.lemmas.Option.{none-some, same_Some}
@@ -38,8 +38,6 @@ use Rattle.iox_hub.specs.Fits.{WordsFit}
 use Rattle.iox_hub.specs.Hubs.{HasValue, HubState, IsHub, given_by, many_in, state_of_hub, with_control}
 use Rattle.iox_hub.specs.Reads.{HasOf}
 use Rattle.iox_hub.specs.Sending.{HasNothing, HasSent, is_handle}
-use Rattle.iox_hub.specs.Words.{all_carried, carried}
-use Rattle.iox_hub.specs.declared.words.PoolWords.{PoolWords}
 use Rattle.iox_hub.proofs.Named.{found_is_handle}
 use Rattle.iox_hub.proofs.ReleasingFits.{AreLeft, given_up_alike, left_alike, left_released, left_twice, released_handles}
 use Rattle.iox_hub.proofs.SendingFits.{back_alike, response_alike}
@@ -217,10 +215,3 @@ module _ (t t' : HubTables) (node n : ℕ) (order : AreInOrder t) (held : IsHeld
   port_is_gone d same is =
       subst (λ (z : HubTables). kind_in z node n ≡ None) (sym (same ∙ is))
       (names_released (record (with_released unheld n) { pools = t'.pools }) node n left_unheld (ap (λ hs. handle_in hs node n) (released_handles unheld n) ∙ no_handle))
-
--- ---- words as they are kept
-
-pub carried_set : {A B C D : Type 0} (ws : List (Option (PoolWords A B C D))) (place : ℕ) → all_carried (slice_set ws place None) ≡ slice_set (all_carried ws) place None
-carried_set [] place = refl
-carried_set (w ∷ ws) Rattle.std.specs.Prelude.zero = refl
-carried_set (w ∷ ws) (Rattle.std.specs.Prelude.suc place) = ap (λ us. option_map carried w ∷ us) (carried_set ws place)

@@ -1,5 +1,5 @@
 -- What the messages of one role are made of, as the machine's shape.
-use Rattle.std.specs.Prelude.{◌≡◌, ℕ, ◌*◌, Bool, List, Option}
+use Rattle.std.specs.Prelude.{◌≡◌, ℕ, ◌*◌, ◌^◌, ◌<◌, Bool, true, List, Option, nat_lt}
 use Rattle.std.specs.Option.{option_map}
 use Rattle.iox_types.specs.Parts as machine
 use Rattle.iox_model.specs.Settings.{IsPart, Shape}
@@ -35,6 +35,12 @@ shape_of many width words user_words m = record {
   user_part = part_of m.user_part;
   element_part = part_of m.element_part;
 }
+
+-- Messages of this shape that have fewer elements than so many can be addressed.
+abbrev pub CanHaveFewer : {E H : Type 0} → MessageShape E H → ℕ → Type 0
+CanHaveFewer m below =
+    (k : ℕ) → k < below
+    → nat_lt (machine.size_of_parts (part_of m.header_part) (part_of m.user_part) (part_of m.element_part) k) (2 ^ 63) ≡ true
 
 -- Each part may stand somewhere.
 pub record HaveParts {E H : Type 0} (m : MessageShape E H) : Type 0 where

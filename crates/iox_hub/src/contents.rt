@@ -1,15 +1,38 @@
 //! What is lent and written in the pools of a hub.
-ghost use Rattle.std.specs.Prelude.{◌≡◌, ◌<◌, ◌≤◌, Bool, IsSome, false, flat_map, length, true};
-ghost use Rattle.iox_store.specs.Stored.{filled_with, room_with, stored_at, with_stored};
+ghost use Rattle.std.specs.Prelude.{◌≡◌, ◌<◌, ◌≤◌, ◌∷◌, [], Bool, IsSome, false, flat_map, length, true};
+ghost use Rattle.iox_store.specs.Stored.{filled_with, lent_uninit, room_with, stored_at, with_stored};
 ghost use Rattle.iox_hub.specs.Fits.{are_requests_in, count_in, longest_in};
 ghost use Rattle.iox_hub.specs.Lending.{first_stored, with_message};
 ghost use Rattle.iox_hub.specs.Shapes.{shape_of};
-ghost use Rattle.iox_hub.specs.Words.{all_carried, stored_in};
+ghost use Rattle.iox_hub.specs.Words.{stored_in};
 
-use crate::shape::MessageShape;
-use crate::words::PoolWords;
+use crate::all_words::AllWords;
+use crate::known_shape::KnownShape;
 use iox_store::{Spare, Store};
 use iox_words::Words;
+
+/// Lends the message in that slot for so many elements, none of which is filled. Where it has no
+/// room for them, it takes the room that is given.
+#[inline(always)]
+fn lend_unfilled<E: Words, H: Words>(
+    store: &mut Store<E, H>,
+    slot: usize,
+    elements: usize,
+    user: H,
+    spare: Option<Spare<E>>,
+)
+    requires there { slot < length store.old.messages }
+    requires room { elements ≤ room_with store.old.longest spare }
+    ensures { store.new ≡ with_stored store.old slot
+        (lent_uninit (stored_at store.old slot) elements (H.words user)) }
+{
+    if spare.is_none() {
+        store.lend_own(slot, elements, user);
+        return;
+    }
+    let _room = store.room(slot);
+    store.lend_uninit(slot, elements, user, spare);
+}
 
 /// Lends the message in that slot for so many elements: unfilled, or each filled with its default.
 /// Where it has no room for them, it takes the room that is given.
@@ -19,7 +42,7 @@ fn lend_in<E: Words, H: Words>(
     slot: usize,
     elements: usize,
     uninit: bool,
-    shape: &MessageShape<E, H>,
+    shape: &KnownShape<E, H>,
     spare: Option<Spare<E>>,
 )
     requires there { slot < length store.old.messages }
@@ -29,109 +52,131 @@ fn lend_in<E: Words, H: Words>(
         (first_stored (shape_of many E.WORDS E.words H.words shape.now) uninit elements
         (stored_at store.old slot)) }
 {
-    let _room = store.room(slot);
     if uninit {
-        store.lend_uninit(slot, elements, shape.user_header, spare);
+        lend_unfilled(store, slot, elements, shape.user_header(), spare);
         return;
     }
-    let Some(value) = shape.default else {
+    let _room = store.room(slot);
+    let Some(value) = shape.default() else {
         unreachable!();
     };
-    store.lend(slot, elements, shape.user_header, value, spare);
+    store.lend(slot, elements, shape.user_header(), value, spare);
 }
 
 /// Lends the request in that slot of the pool in this place. Where it has no room for so many
 /// elements, it takes the room that is given.
 #[inline(always)]
 pub(crate) fn lend_request_in<QE: Words, QH: Words, PE: Words, PH: Words>(
-    words: &mut Vec<Option<PoolWords<QE, QH, PE, PH>>>,
+    words: &mut AllWords<QE, QH, PE, PH>,
     pool: usize,
     slot: usize,
     elements: usize,
     uninit: bool,
-    shape: &MessageShape<QE, QH>,
+    shape: &KnownShape<QE, QH>,
     spare: Option<Spare<QE>>,
 )
-    requires requests { are_requests_in (all_carried words.old.items) pool ≡ true }
-    requires there { slot < count_in (all_carried words.old.items) pool }
-    requires room { elements ≤ room_with (longest_in (all_carried words.old.items) pool) spare }
+    requires requests { are_requests_in words.old.pools pool ≡ true }
+    requires there { slot < count_in words.old.pools pool }
+    requires room { elements ≤ room_with (longest_in words.old.pools pool) spare }
     requires default { uninit ≡ false → IsSome shape.now.default }
-    ensures { (many : Bool) → all_carried words.new.items
-        ≡ with_message (all_carried words.old.items) pool slot
+    ensures { (many : Bool) → words.new.pools ≡ with_message words.old.pools pool slot
         (first_stored (shape_of many QE.WORDS QE.words QH.words shape.now) uninit elements
-        (stored_in (all_carried words.old.items) pool slot)) }
+        (stored_in words.old.pools pool slot)) }
 {
-    match &mut words[pool] {
-        Some(PoolWords::Requests(store)) => lend_in(store, slot, elements, uninit, shape, spare),
-        _ => unreachable!(),
-    }
+    let requests = &mut words.requests[pool];
+    lend_in(requests, slot, elements, uninit, shape, spare);
 }
 
 /// Lends the response in that slot of the pool in this place. Where it has no room for so many
 /// elements, it takes the room that is given.
 #[inline(always)]
 pub(crate) fn lend_response_in<QE: Words, QH: Words, PE: Words, PH: Words>(
-    words: &mut Vec<Option<PoolWords<QE, QH, PE, PH>>>,
+    words: &mut AllWords<QE, QH, PE, PH>,
     pool: usize,
     slot: usize,
     elements: usize,
     uninit: bool,
-    shape: &MessageShape<PE, PH>,
+    shape: &KnownShape<PE, PH>,
     spare: Option<Spare<PE>>,
 )
-    requires responses { are_requests_in (all_carried words.old.items) pool ≡ false }
-    requires there { slot < count_in (all_carried words.old.items) pool }
-    requires room { elements ≤ room_with (longest_in (all_carried words.old.items) pool) spare }
+    requires responses { are_requests_in words.old.pools pool ≡ false }
+    requires there { slot < count_in words.old.pools pool }
+    requires room { elements ≤ room_with (longest_in words.old.pools pool) spare }
     requires default { uninit ≡ false → IsSome shape.now.default }
-    ensures { (many : Bool) → all_carried words.new.items
-        ≡ with_message (all_carried words.old.items) pool slot
+    ensures { (many : Bool) → words.new.pools ≡ with_message words.old.pools pool slot
         (first_stored (shape_of many PE.WORDS PE.words PH.words shape.now) uninit elements
-        (stored_in (all_carried words.old.items) pool slot)) }
+        (stored_in words.old.pools pool slot)) }
 {
-    match &mut words[pool] {
-        Some(PoolWords::Responses(store)) => lend_in(store, slot, elements, uninit, shape, spare),
-        _ => unreachable!(),
-    }
+    let responses = &mut words.responses[pool];
+    lend_in(responses, slot, elements, uninit, shape, spare);
 }
 
 /// Fills the request in that slot with copies of these elements.
 pub(crate) fn write_request_in<QE: Words, QH: Words, PE: Words, PH: Words>(
-    words: &mut Vec<Option<PoolWords<QE, QH, PE, PH>>>,
+    words: &mut AllWords<QE, QH, PE, PH>,
     pool: usize,
     slot: usize,
     values: &[QE],
 )
-    requires requests { are_requests_in (all_carried words.old.items) pool ≡ true }
-    requires there { slot < count_in (all_carried words.old.items) pool }
-    requires equal { length values.now
-        ≡ (stored_in (all_carried words.old.items) pool slot).elements }
-    ensures { all_carried words.new.items ≡ with_message (all_carried words.old.items) pool slot
-        (filled_with (stored_in (all_carried words.old.items) pool slot)
-        (flat_map QE.words values.now)) }
+    requires requests { are_requests_in words.old.pools pool ≡ true }
+    requires there { slot < count_in words.old.pools pool }
+    requires equal { length values.now ≡ (stored_in words.old.pools pool slot).elements }
+    ensures { words.new.pools ≡ with_message words.old.pools pool slot
+        (filled_with (stored_in words.old.pools pool slot) (flat_map QE.words values.now)) }
 {
-    match &mut words[pool] {
-        Some(PoolWords::Requests(store)) => store.write_from_slice(slot, values),
-        _ => unreachable!(),
-    }
+    let requests = &mut words.requests[pool];
+    requests.write_from_slice(slot, values);
 }
 
 /// Fills the response in that slot with copies of these elements.
 pub(crate) fn write_response_in<QE: Words, QH: Words, PE: Words, PH: Words>(
-    words: &mut Vec<Option<PoolWords<QE, QH, PE, PH>>>,
+    words: &mut AllWords<QE, QH, PE, PH>,
     pool: usize,
     slot: usize,
     values: &[PE],
 )
-    requires responses { are_requests_in (all_carried words.old.items) pool ≡ false }
-    requires there { slot < count_in (all_carried words.old.items) pool }
-    requires equal { length values.now
-        ≡ (stored_in (all_carried words.old.items) pool slot).elements }
-    ensures { all_carried words.new.items ≡ with_message (all_carried words.old.items) pool slot
-        (filled_with (stored_in (all_carried words.old.items) pool slot)
-        (flat_map PE.words values.now)) }
+    requires responses { are_requests_in words.old.pools pool ≡ false }
+    requires there { slot < count_in words.old.pools pool }
+    requires equal { length values.now ≡ (stored_in words.old.pools pool slot).elements }
+    ensures { words.new.pools ≡ with_message words.old.pools pool slot
+        (filled_with (stored_in words.old.pools pool slot) (flat_map PE.words values.now)) }
 {
-    match &mut words[pool] {
-        Some(PoolWords::Responses(store)) => store.write_from_slice(slot, values),
-        _ => unreachable!(),
-    }
+    let responses = &mut words.responses[pool];
+    responses.write_from_slice(slot, values);
+}
+
+/// Fills the request in that slot, which has one element, with that element.
+#[inline(always)]
+pub(crate) fn write_one_request_in<QE: Words, QH: Words, PE: Words, PH: Words>(
+    words: &mut AllWords<QE, QH, PE, PH>,
+    pool: usize,
+    slot: usize,
+    value: QE,
+)
+    requires requests { are_requests_in words.old.pools pool ≡ true }
+    requires there { slot < count_in words.old.pools pool }
+    requires one { (stored_in words.old.pools pool slot).elements ≡ 1 }
+    ensures { words.new.pools ≡ with_message words.old.pools pool slot
+        (filled_with (stored_in words.old.pools pool slot) (flat_map QE.words (value ∷ []))) }
+{
+    let requests = &mut words.requests[pool];
+    requests.write_payload(slot, value);
+}
+
+/// Fills the response in that slot, which has one element, with that element.
+#[inline(always)]
+pub(crate) fn write_one_response_in<QE: Words, QH: Words, PE: Words, PH: Words>(
+    words: &mut AllWords<QE, QH, PE, PH>,
+    pool: usize,
+    slot: usize,
+    value: PE,
+)
+    requires responses { are_requests_in words.old.pools pool ≡ false }
+    requires there { slot < count_in words.old.pools pool }
+    requires one { (stored_in words.old.pools pool slot).elements ≡ 1 }
+    ensures { words.new.pools ≡ with_message words.old.pools pool slot
+        (filled_with (stored_in words.old.pools pool slot) (flat_map PE.words (value ∷ []))) }
+{
+    let responses = &mut words.responses[pool];
+    responses.write_payload(slot, value);
 }

@@ -4,9 +4,10 @@ ghost use Rattle.iox_store.specs.Stored.{room_with, stored_at, with_stored};
 ghost use Rattle.iox_hub.specs.Copying.{copied_stored};
 ghost use Rattle.iox_hub.specs.Fits.{are_requests_in, count_in, longest_in};
 ghost use Rattle.iox_hub.specs.Lending.{with_message};
-ghost use Rattle.iox_hub.specs.Words.{all_carried, stored_in};
+ghost use Rattle.iox_hub.specs.Words.{stored_in};
 
-use crate::words::PoolWords;
+use crate::all_words::AllWords;
+use crate::known_shape::KnownShape;
 use iox_control_request_copies::Place;
 use iox_store::{Spare, Store};
 use iox_words::Words;
@@ -34,49 +35,41 @@ fn copy_in<E: Words, H: Words>(
 /// Copies these elements into the request in that place. Where it has no room for them, it takes
 /// the room that is given.
 pub(crate) fn copy_request_in<QE: Words, QH: Words, PE: Words, PH: Words>(
-    words: &mut Vec<Option<PoolWords<QE, QH, PE, PH>>>,
+    words: &mut AllWords<QE, QH, PE, PH>,
     place: Place,
     values: &[QE],
-    user: QH,
+    shape: &KnownShape<QE, QH>,
     spare: Option<Spare<QE>>,
 )
-    requires requests { are_requests_in (all_carried words.old.items) place.pool ≡ true }
-    requires there { place.slot < count_in (all_carried words.old.items) place.pool }
-    requires room { length values.now
-        ≤ room_with (longest_in (all_carried words.old.items) place.pool) spare }
-    ensures { all_carried words.new.items
-        ≡ with_message (all_carried words.old.items) place.pool place.slot
-        (copied_stored (QH.words user) (length values.now) (flat_map QE.words values.now)
-        (stored_in (all_carried words.old.items) place.pool place.slot)) }
+    requires requests { are_requests_in words.old.pools place.pool ≡ true }
+    requires there { place.slot < count_in words.old.pools place.pool }
+    requires room { length values.now ≤ room_with (longest_in words.old.pools place.pool) spare }
+    ensures { words.new.pools ≡ with_message words.old.pools place.pool place.slot
+        (copied_stored (QH.words shape.now.user_header) (length values.now)
+        (flat_map QE.words values.now) (stored_in words.old.pools place.pool place.slot)) }
 {
     let slot = place.slot as usize;
-    match &mut words[place.pool] {
-        Some(PoolWords::Requests(store)) => copy_in(store, slot, values, user, spare),
-        _ => unreachable!(),
-    }
+    let requests = &mut words.requests[place.pool];
+    copy_in(requests, slot, values, shape.user_header(), spare);
 }
 
 /// Copies these elements into the response in that place. Where it has no room for them, it takes
 /// the room that is given.
 pub(crate) fn copy_response_in<QE: Words, QH: Words, PE: Words, PH: Words>(
-    words: &mut Vec<Option<PoolWords<QE, QH, PE, PH>>>,
+    words: &mut AllWords<QE, QH, PE, PH>,
     place: Place,
     values: &[PE],
-    user: PH,
+    shape: &KnownShape<PE, PH>,
     spare: Option<Spare<PE>>,
 )
-    requires responses { are_requests_in (all_carried words.old.items) place.pool ≡ false }
-    requires there { place.slot < count_in (all_carried words.old.items) place.pool }
-    requires room { length values.now
-        ≤ room_with (longest_in (all_carried words.old.items) place.pool) spare }
-    ensures { all_carried words.new.items
-        ≡ with_message (all_carried words.old.items) place.pool place.slot
-        (copied_stored (PH.words user) (length values.now) (flat_map PE.words values.now)
-        (stored_in (all_carried words.old.items) place.pool place.slot)) }
+    requires responses { are_requests_in words.old.pools place.pool ≡ false }
+    requires there { place.slot < count_in words.old.pools place.pool }
+    requires room { length values.now ≤ room_with (longest_in words.old.pools place.pool) spare }
+    ensures { words.new.pools ≡ with_message words.old.pools place.pool place.slot
+        (copied_stored (PH.words shape.now.user_header) (length values.now)
+        (flat_map PE.words values.now) (stored_in words.old.pools place.pool place.slot)) }
 {
     let slot = place.slot as usize;
-    match &mut words[place.pool] {
-        Some(PoolWords::Responses(store)) => copy_in(store, slot, values, user, spare),
-        _ => unreachable!(),
-    }
+    let responses = &mut words.responses[place.pool];
+    copy_in(responses, slot, values, shape.user_header(), spare);
 }

@@ -95,8 +95,7 @@ impl<Q: Payload, QH: Words, P: Payload, PH: Words, H: Backpressure> Hub<Q, QH, P
             place,
         } = copied
         {
-            let user = self.request.user_header;
-            copy_request_in(&mut self.words, place, values, user, spare);
+            copy_request_in(&mut self.words, place, values, &self.request, spare);
         } else {
             let_go(spare);
         }
@@ -150,8 +149,7 @@ impl<Q: Payload, QH: Words, P: Payload, PH: Words, H: Backpressure> Hub<Q, QH, P
             fails,
         );
         if let Some(place) = place_of(answered) {
-            let user = self.response.user_header;
-            copy_response_in(&mut self.words, place, values, user, spare);
+            copy_response_in(&mut self.words, place, values, &self.response, spare);
         } else {
             let_go(spare);
         }

@@ -6,10 +6,11 @@ ghost use Rattle.iox_hub.specs.Fillings.{SuitsShape};
 ghost use Rattle.iox_hub.specs.Fits.{are_requests_in, count_in};
 ghost use Rattle.iox_hub.specs.Lending.{with_message};
 ghost use Rattle.iox_hub.specs.Shapes.{shape_of};
-ghost use Rattle.iox_hub.specs.Words.{all_carried, stored_in};
+ghost use Rattle.iox_hub.specs.Words.{stored_in};
 
-use crate::shape::MessageShape;
-use crate::words::PoolWords;
+use crate::all_words::AllWords;
+use crate::known_shape::KnownShape;
+use crate::reads::{requests_in, responses_in};
 use iox_store::Store;
 use iox_words::Words;
 
@@ -17,13 +18,13 @@ use iox_words::Words;
 pub(crate) fn known_in<E: Words, H: Words>(
     store: &Store<E, H>,
     slot: usize,
-    shape: &MessageShape<E, H>,
+    shape: &KnownShape<E, H>,
 )
     requires { slot < length store.now.messages }
     ensures { (many : Bool) → SuitsShape (shape_of many E.WORDS E.words H.words shape.now)
         (stored_at store.now slot) }
 {
-    shape.user_header.known();
+    shape.user_header().known();
     store.user_header(slot);
     store.payload(slot);
     store.filled(slot);
@@ -42,97 +43,88 @@ fn is_full_in<E: Words, H: Words>(store: &Store<E, H>, slot: usize) -> bool
 
 /// Whether all elements of the message in that slot of the pool in this place are filled.
 pub(crate) fn is_filled_in<QE: Words, QH: Words, PE: Words, PH: Words>(
-    words: &[Option<PoolWords<QE, QH, PE, PH>>],
+    words: &AllWords<QE, QH, PE, PH>,
     pool: usize,
     slot: usize,
 ) -> bool
-    requires { slot < count_in (all_carried words.now) pool }
-    ensures filled { IsTrue result ↔ (stored_in (all_carried words.now) pool slot).filled
-        ≡ (stored_in (all_carried words.now) pool slot).elements }
-    ensures within { (stored_in (all_carried words.now) pool slot).filled
-        ≤ (stored_in (all_carried words.now) pool slot).elements }
+    requires { slot < count_in words.now.pools pool }
+    ensures filled { IsTrue result ↔ (stored_in words.now.pools pool slot).filled
+        ≡ (stored_in words.now.pools pool slot).elements }
+    ensures within { (stored_in words.now.pools pool slot).filled
+        ≤ (stored_in words.now.pools pool slot).elements }
 {
-    match words.get(pool) {
-        Some(Some(PoolWords::Requests(store))) => is_full_in(store, slot),
-        Some(Some(PoolWords::Responses(store))) => is_full_in(store, slot),
-        _ => unreachable!(),
+    if words.are_requests(pool) {
+        return is_full_in(requests_in(words, pool), slot);
     }
+    is_full_in(responses_in(words, pool), slot)
 }
 
 /// Gives the request in that slot another user header.
 pub(crate) fn set_request_header_in<QE: Words, QH: Words, PE: Words, PH: Words>(
-    words: &mut Vec<Option<PoolWords<QE, QH, PE, PH>>>,
+    words: &mut AllWords<QE, QH, PE, PH>,
     pool: usize,
     slot: usize,
     user: QH,
 )
-    requires requests { are_requests_in (all_carried words.old.items) pool ≡ true }
-    requires there { slot < count_in (all_carried words.old.items) pool }
-    ensures { all_carried words.new.items ≡ with_message (all_carried words.old.items) pool slot
-        (with_user (stored_in (all_carried words.old.items) pool slot) (QH.words user)) }
+    requires requests { are_requests_in words.old.pools pool ≡ true }
+    requires there { slot < count_in words.old.pools pool }
+    ensures { words.new.pools ≡ with_message words.old.pools pool slot
+        (with_user (stored_in words.old.pools pool slot) (QH.words user)) }
 {
-    match &mut words[pool] {
-        Some(PoolWords::Requests(store)) => store.set_user_header(slot, user),
-        _ => unreachable!(),
-    }
+    let requests = &mut words.requests[pool];
+    requests.set_user_header(slot, user);
 }
 
 /// Gives the response in that slot another user header.
 pub(crate) fn set_response_header_in<QE: Words, QH: Words, PE: Words, PH: Words>(
-    words: &mut Vec<Option<PoolWords<QE, QH, PE, PH>>>,
+    words: &mut AllWords<QE, QH, PE, PH>,
     pool: usize,
     slot: usize,
     user: PH,
 )
-    requires responses { are_requests_in (all_carried words.old.items) pool ≡ false }
-    requires there { slot < count_in (all_carried words.old.items) pool }
-    ensures { all_carried words.new.items ≡ with_message (all_carried words.old.items) pool slot
-        (with_user (stored_in (all_carried words.old.items) pool slot) (PH.words user)) }
+    requires responses { are_requests_in words.old.pools pool ≡ false }
+    requires there { slot < count_in words.old.pools pool }
+    ensures { words.new.pools ≡ with_message words.old.pools pool slot
+        (with_user (stored_in words.old.pools pool slot) (PH.words user)) }
 {
-    match &mut words[pool] {
-        Some(PoolWords::Responses(store)) => store.set_user_header(slot, user),
-        _ => unreachable!(),
-    }
+    let responses = &mut words.responses[pool];
+    responses.set_user_header(slot, user);
 }
 
 /// Fills the next element of the request in that slot.
 pub(crate) fn write_next_request_in<QE: Words, QH: Words, PE: Words, PH: Words>(
-    words: &mut Vec<Option<PoolWords<QE, QH, PE, PH>>>,
+    words: &mut AllWords<QE, QH, PE, PH>,
     pool: usize,
     slot: usize,
     value: QE,
 )
-    requires requests { are_requests_in (all_carried words.old.items) pool ≡ true }
-    requires there { slot < count_in (all_carried words.old.items) pool }
-    requires room { (stored_in (all_carried words.old.items) pool slot).filled
-        < (stored_in (all_carried words.old.items) pool slot).elements }
-    ensures { all_carried words.new.items ≡ with_message (all_carried words.old.items) pool slot
-        (written_next (stored_in (all_carried words.old.items) pool slot) (QE.words value)) }
+    requires requests { are_requests_in words.old.pools pool ≡ true }
+    requires there { slot < count_in words.old.pools pool }
+    requires room { (stored_in words.old.pools pool slot).filled
+        < (stored_in words.old.pools pool slot).elements }
+    ensures { words.new.pools ≡ with_message words.old.pools pool slot
+        (written_next (stored_in words.old.pools pool slot) (QE.words value)) }
 {
-    match &mut words[pool] {
-        Some(PoolWords::Requests(store)) => store.write_next(slot, value),
-        _ => unreachable!(),
-    }
+    let requests = &mut words.requests[pool];
+    requests.write_next(slot, value);
 }
 
 /// Fills the next element of the response in that slot.
 pub(crate) fn write_next_response_in<QE: Words, QH: Words, PE: Words, PH: Words>(
-    words: &mut Vec<Option<PoolWords<QE, QH, PE, PH>>>,
+    words: &mut AllWords<QE, QH, PE, PH>,
     pool: usize,
     slot: usize,
     value: PE,
 )
-    requires responses { are_requests_in (all_carried words.old.items) pool ≡ false }
-    requires there { slot < count_in (all_carried words.old.items) pool }
-    requires room { (stored_in (all_carried words.old.items) pool slot).filled
-        < (stored_in (all_carried words.old.items) pool slot).elements }
-    ensures { all_carried words.new.items ≡ with_message (all_carried words.old.items) pool slot
-        (written_next (stored_in (all_carried words.old.items) pool slot) (PE.words value)) }
+    requires responses { are_requests_in words.old.pools pool ≡ false }
+    requires there { slot < count_in words.old.pools pool }
+    requires room { (stored_in words.old.pools pool slot).filled
+        < (stored_in words.old.pools pool slot).elements }
+    ensures { words.new.pools ≡ with_message words.old.pools pool slot
+        (written_next (stored_in words.old.pools pool slot) (PE.words value)) }
 {
-    match &mut words[pool] {
-        Some(PoolWords::Responses(store)) => store.write_next(slot, value),
-        _ => unreachable!(),
-    }
+    let responses = &mut words.responses[pool];
+    responses.write_next(slot, value);
 }
 
 /// Fills all elements of the request in that slot, each with what the closure answers for its
@@ -143,21 +135,17 @@ pub(crate) fn write_request_from_fn_in<
     PE: Words,
     PH: Words,
     F: FnMut(usize) -> QE,
->(words: &mut Vec<Option<PoolWords<QE, QH, PE, PH>>>, pool: usize, slot: usize, f: F)
-    requires requests { are_requests_in (all_carried words.old.items) pool ≡ true }
-    requires there { slot < count_in (all_carried words.old.items) pool }
+>(words: &mut AllWords<QE, QH, PE, PH>, pool: usize, slot: usize, f: F)
+    requires requests { are_requests_in words.old.pools pool ≡ true }
+    requires there { slot < count_in words.old.pools pool }
     requires callable { F.IsAlwaysCallable f }
     ensures filled { FillsByAnswers QE.words F.step f
-        (stored_in (all_carried words.old.items) pool slot)
-        (stored_in (all_carried words.new.items) pool slot) }
-    ensures only { all_carried words.new.items
-        ≡ with_message (all_carried words.old.items) pool slot
-        (stored_in (all_carried words.new.items) pool slot) }
+        (stored_in words.old.pools pool slot) (stored_in words.new.pools pool slot) }
+    ensures only { words.new.pools ≡ with_message words.old.pools pool slot
+        (stored_in words.new.pools pool slot) }
 {
-    match &mut words[pool] {
-        Some(PoolWords::Requests(store)) => store.write_from_fn(slot, f),
-        _ => unreachable!(),
-    }
+    let requests = &mut words.requests[pool];
+    requests.write_from_fn(slot, f);
 }
 
 /// Fills all elements of the response in that slot, each with what the closure answers for its
@@ -168,19 +156,15 @@ pub(crate) fn write_response_from_fn_in<
     PE: Words,
     PH: Words,
     F: FnMut(usize) -> PE,
->(words: &mut Vec<Option<PoolWords<QE, QH, PE, PH>>>, pool: usize, slot: usize, f: F)
-    requires responses { are_requests_in (all_carried words.old.items) pool ≡ false }
-    requires there { slot < count_in (all_carried words.old.items) pool }
+>(words: &mut AllWords<QE, QH, PE, PH>, pool: usize, slot: usize, f: F)
+    requires responses { are_requests_in words.old.pools pool ≡ false }
+    requires there { slot < count_in words.old.pools pool }
     requires callable { F.IsAlwaysCallable f }
     ensures filled { FillsByAnswers PE.words F.step f
-        (stored_in (all_carried words.old.items) pool slot)
-        (stored_in (all_carried words.new.items) pool slot) }
-    ensures only { all_carried words.new.items
-        ≡ with_message (all_carried words.old.items) pool slot
-        (stored_in (all_carried words.new.items) pool slot) }
+        (stored_in words.old.pools pool slot) (stored_in words.new.pools pool slot) }
+    ensures only { words.new.pools ≡ with_message words.old.pools pool slot
+        (stored_in words.new.pools pool slot) }
 {
-    match &mut words[pool] {
-        Some(PoolWords::Responses(store)) => store.write_from_fn(slot, f),
-        _ => unreachable!(),
-    }
+    let responses = &mut words.responses[pool];
+    responses.write_from_fn(slot, f);
 }

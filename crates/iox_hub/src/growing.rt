@@ -7,11 +7,10 @@ ghost use Rattle.iox_tables.specs.HubLoans.Lenders.{lender_of_request, lender_of
 ghost use Rattle.iox_hub.specs.Fits.{are_requests_in, count_in};
 ghost use Rattle.iox_hub.specs.Growing.{LoanHasRoom, WantsRoom};
 ghost use Rattle.iox_hub.specs.Hubs.{HasValue};
-ghost use Rattle.iox_hub.specs.Words.{all_carried};
 
+use crate::all_words::AllWords;
 use crate::hub::Hub;
 use crate::lending::asked_of;
-use crate::words::PoolWords;
 use iox_backpressure::Backpressure;
 use iox_control_request_copies::{request_may_be_made, response_may_be_made};
 use iox_store::{Payload, Spare};
@@ -25,37 +24,33 @@ pub(crate) fn let_go<E: Words>(_spare: Option<Spare<E>>) {}
 /// Room for a request of so many elements, from the pool in this place. The words that there are
 /// stay.
 fn spare_of_requests<QE: Words, QH: Words, PE: Words, PH: Words>(
-    words: &mut Vec<Option<PoolWords<QE, QH, PE, PH>>>,
+    words: &mut AllWords<QE, QH, PE, PH>,
     pool: usize,
     elements: usize,
 ) -> Result<Spare<QE>, AllocError>
-    requires there { 0 < count_in (all_carried words.old.items) pool }
-    requires requests { are_requests_in (all_carried words.old.items) pool ≡ true }
+    requires there { 0 < count_in words.old.pools pool }
+    requires requests { are_requests_in words.old.pools pool ≡ true }
     ensures room { IfOk result (λ spare. elements ≤ spare) }
-    ensures unchanged { all_carried words.new.items ≡ all_carried words.old.items }
+    ensures unchanged { words.new.pools ≡ words.old.pools }
 {
-    match &mut words[pool] {
-        Some(PoolWords::Requests(store)) => store.spare(elements),
-        _ => unreachable!(),
-    }
+    let requests = &mut words.requests[pool];
+    requests.spare(elements)
 }
 
 /// Room for a response of so many elements, from the pool in this place. The words that there are
 /// stay.
 fn spare_of_responses<QE: Words, QH: Words, PE: Words, PH: Words>(
-    words: &mut Vec<Option<PoolWords<QE, QH, PE, PH>>>,
+    words: &mut AllWords<QE, QH, PE, PH>,
     pool: usize,
     elements: usize,
 ) -> Result<Spare<PE>, AllocError>
-    requires there { 0 < count_in (all_carried words.old.items) pool }
-    requires responses { are_requests_in (all_carried words.old.items) pool ≡ false }
+    requires there { 0 < count_in words.old.pools pool }
+    requires responses { are_requests_in words.old.pools pool ≡ false }
     ensures room { IfOk result (λ spare. elements ≤ spare) }
-    ensures unchanged { all_carried words.new.items ≡ all_carried words.old.items }
+    ensures unchanged { words.new.pools ≡ words.old.pools }
 {
-    match &mut words[pool] {
-        Some(PoolWords::Responses(store)) => store.spare(elements),
-        _ => unreachable!(),
-    }
+    let responses = &mut words.responses[pool];
+    responses.spare(elements)
 }
 
 impl<Q: Payload, QH: Words, P: Payload, PH: Words, H: Backpressure> Hub<Q, QH, P, PH, H> {

@@ -6,9 +6,10 @@ ghost use Rattle.iox_hub.specs.Hubs.{IsReached};
 ghost use Rattle.iox_hub.specs.Shapes.{HaveParts, shape_of};
 ghost use Rattle.iox_hub.specs.Starts.{new_hub};
 
+use crate::all_words::AllWords;
+use crate::known_shape::KnownShape;
 use crate::settings::started;
-use crate::shape::{MessageShape, known};
-use crate::words::PoolWords;
+use crate::shape::MessageShape;
 use iox_backpressure::{Backpressure, Handlers};
 use iox_control::{Control, Settings};
 use iox_store::Payload;
@@ -25,22 +26,21 @@ use std::marker::Model;
 pub struct Hub<Q: Payload, QH: Words, P: Payload, PH: Words, H: Backpressure = ()> {
     pub(crate) control: Control,
     // Beside each pool of the tables.
-    pub(crate) words: Vec<Option<PoolWords<Q::Element, QH, P::Element, PH>>>,
-    pub(crate) request: MessageShape<Q::Element, QH>,
-    pub(crate) response: MessageShape<P::Element, PH>,
+    pub(crate) words: AllWords<Q::Element, QH, P::Element, PH>,
+    pub(crate) request: KnownShape<Q::Element, QH>,
+    pub(crate) response: KnownShape<P::Element, PH>,
     pub(crate) handlers: Handlers<H>,
 }
 
 impl<Q: Payload, QH: Words, P: Payload, PH: Words, H: Backpressure> Model for Hub<Q, QH, P, PH, H> {
     ghost use Rattle.iox_hub.specs.Hubs.{HubState, IsHub};
     ghost use Rattle.iox_hub.specs.Shapes.{shape_of};
-    ghost use Rattle.iox_hub.specs.Words.{all_carried};
 
     ghost Value = { HubState };
 
     ghost view = { λ h. record {
       control = h.control;
-      words = all_carried h.words.items;
+      words = h.words.pools;
       request = shape_of Q.MANY Q.Element.WORDS Q.Element.words QH.words h.request;
       response = shape_of P.MANY P.Element.WORDS P.Element.words PH.words h.response;
       handlers = h.handlers.list;
@@ -48,7 +48,7 @@ impl<Q: Payload, QH: Words, P: Payload, PH: Words, H: Backpressure> Model for Hu
 
     ghost invariant = { λ h. IsHub (record {
       control = h.control;
-      words = all_carried h.words.items;
+      words = h.words.pools;
       request = shape_of Q.MANY Q.Element.WORDS Q.Element.words QH.words h.request;
       response = shape_of P.MANY P.Element.WORDS P.Element.words PH.words h.response;
       handlers = h.handlers.list;
@@ -73,9 +73,9 @@ impl<Q: Payload, QH: Words, P: Payload, PH: Words, H: Backpressure> Hub<Q, QH, P
         let control = Control::new(alloc, started(settings))?;
         Ok(Hub {
             control,
-            words: Vec::new(alloc),
-            request: known(request),
-            response: known(response),
+            words: AllWords::new(alloc),
+            request: KnownShape::new(request),
+            response: KnownShape::new(response),
             handlers: Handlers::new(alloc),
         })
     }

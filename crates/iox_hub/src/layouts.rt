@@ -1,5 +1,5 @@
 //! Whether a message can be addressed.
-ghost use Rattle.std.specs.Prelude.{◌≡◌, ◌+◌, ◌-◌, ◌<◌, ◌^◌, IsTrue, nat_lt};
+ghost use Rattle.std.specs.Prelude.{ℕ, ◌≡◌, ◌+◌, ◌-◌, ◌<◌, ◌^◌, IsTrue, nat_lt, true};
 ghost use Rattle.iox_types.specs.Parts.{size_of_parts};
 ghost use Rattle.iox_hub.specs.Shapes.{part_of};
 
@@ -60,4 +60,17 @@ pub(crate) fn has_layout(header: Part, user: Part, element: Part, elements: u64)
         return true;
     }
     can_be_addressed(header, user, element, elements)
+}
+
+/// Messages of such parts that have fewer elements than so many can be addressed. This is 0 where
+/// the parts are large.
+pub(crate) fn few_of(header: Part, user: Part, element: Part) -> u64
+    ensures { (k : ℕ) → k < result
+        → nat_lt (size_of_parts (part_of header) (part_of user) (part_of element) k) (2 ^ 63)
+        ≡ true }
+{
+    if is_small(header) && is_small(user) && is_small(element) {
+        return (1 << 60) / (element.size as u64 + 1);
+    }
+    0
 }

@@ -21,8 +21,7 @@ ghost use Rattle.iox_hub.specs.Lending.{HasLent, IsAskedFor, LeavesLent};
 use crate::contents::{lend_request_in, lend_response_in};
 use crate::growing::let_go;
 use crate::hub::Hub;
-use crate::layouts::has_layout;
-use crate::shape::MessageShape;
+use crate::known_shape::KnownShape;
 use iox_backpressure::Backpressure;
 use iox_control_request_copies::{Asked, Lent, LoanRefusal, lend_request_of, lend_response_of};
 use iox_handles::Entry;
@@ -33,7 +32,7 @@ use iox_words::Words;
 /// What is asked of a loan of such messages.
 #[inline(always)]
 pub(crate) fn asked_of<Q: Payload, H: Words>(
-    shape: &MessageShape<Q::Element, H>,
+    shape: &KnownShape<Q::Element, H>,
     elements: usize,
     uninit: bool,
 ) -> Asked
@@ -44,23 +43,20 @@ pub(crate) fn asked_of<Q: Payload, H: Words>(
         elements: elements as u64,
         uninit,
         is_count: is_length::<Q>(elements),
-        has_layout: has_layout(
-            shape.header_part,
-            shape.user_part,
-            shape.element_part,
-            elements as u64,
-        ),
+        has_layout: shape.has_layout(elements as u64),
     }
 }
 
 impl<Q: Payload, QH: Words, P: Payload, PH: Words, H: Backpressure> Hub<Q, QH, P, PH, H> {
-    /// Lends a request of that client, of which this is said, for so many elements, where its
-    /// message has room for them: its own, or that which is given.
+    /// Lends a request of that client, of which this is said, and which is looked for at the hint
+    /// first, for so many elements, where its message has room for them: its own, or that which is
+    /// given.
     #[inline(always)]
     fn lend_request_in_room(
         &mut self,
         node: u64,
         client: u64,
+        at: usize,
         port: PortInfo,
         elements: usize,
         uninit: bool,
@@ -80,7 +76,7 @@ impl<Q: Payload, QH: Words, P: Payload, PH: Words, H: Backpressure> Hub<Q, QH, P
         ensures memory { result ≡ Refused WantOfMemory → ⊥ }
     {
         let asked = asked_of::<Q, QH>(&self.request, elements, uninit);
-        let lent = lend_request_of(&mut self.control, node, client, port, asked);
+        let lent = lend_request_of(&mut self.control, node, client, at, port, asked);
         if let Lent::Handle(l) = lent {
             let slot = l.slot as usize;
             lend_request_in(
@@ -123,7 +119,7 @@ impl<Q: Payload, QH: Words, P: Payload, PH: Words, H: Backpressure> Hub<Q, QH, P
         let Some(port) = self.control.ports().find(client) else {
             unreachable!();
         };
-        self.lend_request_in_room(node, client, port, elements, uninit, spare)
+        self.lend_request_in_room(node, client, 0, port, elements, uninit, spare)
     }
 
     /// Lends a response to that active request, of whose handle and of whose port this is said, for
@@ -134,6 +130,7 @@ impl<Q: Payload, QH: Words, P: Payload, PH: Words, H: Backpressure> Hub<Q, QH, P
         node: u64,
         number: u64,
         entry: Entry,
+        at: usize,
         port: PortInfo,
         elements: usize,
         uninit: bool,
@@ -158,7 +155,7 @@ impl<Q: Payload, QH: Words, P: Payload, PH: Words, H: Backpressure> Hub<Q, QH, P
         ensures memory { result ≡ Refused WantOfMemory → ⊥ }
     {
         let asked = asked_of::<P, PH>(&self.response, elements, uninit);
-        let lent = lend_response_of(&mut self.control, node, number, entry, port, asked);
+        let lent = lend_response_of(&mut self.control, node, number, entry, at, port, asked);
         if let Lent::Handle(l) = lent {
             let slot = l.slot as usize;
             lend_response_in(
@@ -208,7 +205,7 @@ impl<Q: Payload, QH: Words, P: Payload, PH: Words, H: Backpressure> Hub<Q, QH, P
         let Some(port) = self.control.ports().find(entry.port) else {
             unreachable!();
         };
-        self.lend_response_in_room(node, number, entry, port, elements, uninit, spare)
+        self.lend_response_in_room(node, number, entry, 0, port, elements, uninit, spare)
     }
 
     /// Lends a request of that client for so many elements, for which its message may have to grow.
@@ -239,10 +236,18 @@ impl<Q: Payload, QH: Words, P: Payload, PH: Words, H: Backpressure> Hub<Q, QH, P
         }
     }
 
-    /// Lends a request of that client for so many elements, unfilled or each with its default. Past
-    /// the greatest length the message grows, where the client's do, and that takes memory.
+    /// Lends a request of that client, which is looked for at the hint first, for so many elements,
+    /// unfilled or each with its default. Past the greatest length the message grows, where the
+    /// client's do, and that takes memory.
     #[inline(always)]
-    pub fn lend_request(&mut self, node: u64, client: u64, elements: usize, uninit: bool) -> Lent
+    pub fn lend_request(
+        &mut self,
+        node: u64,
+        client: u64,
+        hint: usize,
+        elements: usize,
+        uninit: bool,
+    ) -> Lent
         requires has { HasValue self.old node client Client }
         requires default { uninit ≡ false → IsSome self.old.request.default }
         ensures left { LeavesLent self.old self.old.request uninit elements result self.new }
@@ -256,11 +261,12 @@ impl<Q: Payload, QH: Words, P: Payload, PH: Words, H: Backpressure> Hub<Q, QH, P
             → WantsRoom self.old (lender_of_request p 0) self.old.request elements }
     {
         self.is_in_order();
-        let Some(port) = self.control.ports().find(client) else {
+        let at = self.control.likely_place(client, hint);
+        let Some(port) = self.control.ports().find_near(client, at) else {
             unreachable!();
         };
         if elements as u64 <= port.longest {
-            return self.lend_request_in_room(node, client, port, elements, uninit, None);
+            return self.lend_request_in_room(node, client, at, port, elements, uninit, None);
         }
         self.lend_request_growing(node, client, elements, uninit)
     }
@@ -324,14 +330,15 @@ impl<Q: Payload, QH: Words, P: Payload, PH: Words, H: Backpressure> Hub<Q, QH, P
             self.old.response elements }
     {
         self.is_in_order();
-        let Some(entry) = self.control.entry(node, number, hint) else {
-            unreachable!();
-        };
-        let Some(port) = self.control.ports().find(entry.port) else {
+        let entry = self.control.known(node, number, hint);
+        let at = self.control.likely_place(entry.port, entry.at as usize);
+        let Some(port) = self.control.ports().find_near(entry.port, at) else {
             unreachable!();
         };
         if port.longest >= elements as u64 {
-            return self.lend_response_in_room(node, number, entry, port, elements, uninit, None);
+            return self.lend_response_in_room(
+                node, number, entry, at, port, elements, uninit, None,
+            );
         }
         self.lend_response_growing(node, number, hint, elements, uninit)
     }

@@ -2,6 +2,7 @@
 //! and a service and its hub can reach the state that a hub shows.
 #![tactic(auto)]
 
+mod all_words;
 mod asking;
 mod backpressure;
 mod cleaning;
@@ -14,6 +15,7 @@ mod growing;
 mod headers;
 mod hub;
 mod invariant;
+mod known_shape;
 mod layouts;
 mod lending;
 mod listings;
@@ -54,7 +56,7 @@ pub use iox_control::{Received, Settings};
 pub use iox_control_making::NotMade;
 pub use iox_control_questions::{Asked, NotBegun};
 pub use iox_control_request_copies::{
-    Answered, Copied, Lent, LoanRefusal, Requested, Responded, Written,
+    Answered, Copied, Lent, LoanRefusal, Place, Requested, Responded, Written,
 };
 pub use options::Options;
 pub use overrides::{PreallocatedRequestsOverride, PreallocatedResponseOverride};

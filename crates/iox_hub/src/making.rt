@@ -1,5 +1,5 @@
 //! Ports are made.
-ghost use Rattle.std.specs.Prelude.{ℕ, ◌≡◌, ◌<◌, ◌≤◌, ◌^◌, ◌&&◌, IfOk, IfSome, IsErr, OnErr, OnOk, true, vec_capacity};
+ghost use Rattle.std.specs.Prelude.{ℕ, ◌≡◌, ◌≤◌, ◌^◌, ◌&&◌, IfOk, IfSome, IsErr, OnErr, OnOk, true};
 ghost use Rattle.std.specs.Option.{option_map};
 ghost use Rattle.iox_types.specs.Layouts.{as_usize};
 ghost use Rattle.iox_model.specs.declared.kind.Kind.{Kind};
@@ -12,10 +12,10 @@ ghost use Rattle.iox_backpressure.specs.Handlers.{handlers_with};
 ghost use Rattle.iox_control_making.specs.Making.{AsksFor};
 ghost use Rattle.iox_hub.specs.Hubs.{HasValue, given_by};
 ghost use Rattle.iox_hub.specs.Keeping.{KeepsAll};
-ghost use Rattle.iox_hub.specs.Making.{AreWordsPut, IsAllowed, IsFormOf, IsWholeMaking, IsWithoutMemory, LeavesMessages, StaysAs};
+ghost use Rattle.iox_hub.specs.Making.{IsAllowed, IsFormOf, IsWholeMaking, IsWithoutMemory, LeavesMessages, StaysAs};
 ghost use Rattle.iox_hub.specs.Making.{options_of, shape_in, words_made};
 ghost use Rattle.iox_hub.specs.Sending.{HasNothing};
-ghost use Rattle.iox_hub.specs.Words.{all_carried, carried};
+ghost use Rattle.iox_hub.specs.Words.{carried};
 
 use crate::hub::Hub;
 use crate::options::Options;
@@ -42,54 +42,14 @@ fn next_place(pools: &Pools) -> Option<usize>
     None
 }
 
-/// Makes room for words in this place. The words that there are stay.
-fn make_room<QE: Words, QH: Words, PE: Words, PH: Words>(
-    words: &mut Vec<Option<PoolWords<QE, QH, PE, PH>>>,
-    place: usize,
-) -> Result<(), AllocError>
-    ensures room { OnOk result (place < vec_capacity words.new) }
-    ensures unchanged { words.new.items ≡ words.old.items }
-{
-    let Some(more) = place.saturating_sub(words.len()).checked_add(1) else {
-        return Err(AllocError);
-    };
-    words.reserve(more)
-}
-
-/// Puts words in this place, for which there is room.
-fn put<QE: Words, QH: Words, PE: Words, PH: Words>(
-    words: &mut Vec<Option<PoolWords<QE, QH, PE, PH>>>,
-    place: usize,
-    new: PoolWords<QE, QH, PE, PH>,
-)
-    requires room { place < vec_capacity words.old }
-    ensures { AreWordsPut (all_carried words.old.items) place (carried new)
-        (all_carried words.new.items) }
-{
-    while words.len() <= place {
-        words.push_reserved(None);
-    }
-    words[place] = Some(new);
-}
-
 impl<Q: Payload, QH: Words, P: Payload, PH: Words, H: Backpressure> Hub<Q, QH, P, PH, H> {
     /// What the size of a port of that role depends on.
     fn form(&self, role: Role) -> Form
         ensures { IsFormOf result (shape_in self.now role) }
     {
         match role {
-            Role::Client => Form {
-                many: Q::MANY,
-                header: self.request.header_part,
-                user: self.request.user_part,
-                element: self.request.element_part,
-            },
-            Role::Server => Form {
-                many: P::MANY,
-                header: self.response.header_part,
-                user: self.response.user_part,
-                element: self.response.element_part,
-            },
+            Role::Client => self.request.form(Q::MANY),
+            Role::Server => self.response.form(P::MANY),
         }
     }
 
@@ -136,13 +96,13 @@ impl<Q: Payload, QH: Words, P: Payload, PH: Words, H: Backpressure> Hub<Q, QH, P
                 alloc,
                 size,
                 longest,
-                self.request.user_header,
+                self.request.user_header(),
             )?)),
             Role::Server => Ok(PoolWords::Responses(Store::new(
                 alloc,
                 size,
                 longest,
-                self.response.user_header,
+                self.response.user_header(),
             )?)),
         }
     }
@@ -187,7 +147,7 @@ impl<Q: Payload, QH: Words, P: Payload, PH: Words, H: Backpressure> Hub<Q, QH, P
         let Ok(words) = self.words_for(alloc, role, asked.size, asked.longest as usize) else {
             return Err(NotMade::DataSegment);
         };
-        if make_room(&mut self.words, place).is_err() {
+        if self.words.make_room(place).is_err() {
             return Err(NotMade::DataSegment);
         }
         if self.handlers.make_room(handler).is_err() {
@@ -197,7 +157,7 @@ impl<Q: Payload, QH: Words, P: Payload, PH: Words, H: Backpressure> Hub<Q, QH, P
             Ok(number) => number,
             Err(reason) => return Err(reason),
         };
-        put(&mut self.words, place, words);
+        self.words.put(place, words);
         self.handlers.set(self.control.ports(), number, handler);
         Ok(number)
     }

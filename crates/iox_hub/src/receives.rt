@@ -15,8 +15,9 @@ use iox_store::Payload;
 use iox_words::Words;
 
 impl<Q: Payload, QH: Words, P: Payload, PH: Words, H: Backpressure> Hub<Q, QH, P, PH, H> {
-    /// Receives a request for that server.
-    pub fn receive_request(&mut self, node: u64, server: u64) -> Received
+    /// Receives a request for that server, which is looked for at the hint first.
+    #[inline(always)]
+    pub fn receive_request(&mut self, node: u64, server: u64, hint: usize) -> Received
         requires has { HasValue self.old node server Server }
         requires calls { self.old.control.tables.calls < 2 ^ 56 }
         ensures left { self.new ≡ with_control self.old self.new.control }
@@ -26,10 +27,11 @@ impl<Q: Payload, QH: Words, P: Payload, PH: Words, H: Backpressure> Hub<Q, QH, P
         ensures new { IsNew self.old node result }
         ensures keeps { KeepsAll self.old self.new }
     {
-        self.control.receive_request(node, server)
+        self.control.receive_request(node, server, hint)
     }
 
     /// Receives a response for that pending response, whose handle is looked for at the hint first.
+    #[inline(always)]
     pub fn receive_response(&mut self, node: u64, number: u64, hint: usize) -> Received
         requires has { HasValue self.old node number PendingResponse }
         requires calls { self.old.control.tables.calls < 2 ^ 56 }

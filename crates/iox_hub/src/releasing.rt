@@ -15,8 +15,8 @@ ghost use Rattle.iox_hub.specs.Reads.{HasOf};
 ghost use Rattle.iox_hub.specs.Releases.{StillHas};
 ghost use Rattle.iox_hub.specs.Sending.{HasNothing, is_handle, with_words_left};
 
+use crate::all_words::AllWords;
 use crate::hub::Hub;
-use crate::words::PoolWords;
 use iox_backpressure::Backpressure;
 use iox_control_releasing::Ending;
 use iox_model::kind::Kind;
@@ -27,14 +27,12 @@ use iox_words::Words;
 #[cold]
 #[inline(never)]
 fn vacate<QE: Words, QH: Words, PE: Words, PH: Words>(
-    words: &mut Vec<Option<PoolWords<QE, QH, PE, PH>>>,
+    words: &mut AllWords<QE, QH, PE, PH>,
     place: usize,
 )
-    ensures { words.new.items ≡ slice_set words.old.items place None }
+    ensures { words.new.pools ≡ slice_set words.old.pools place None }
 {
-    if place < words.len() {
-        words[place] = None;
-    }
+    words.vacate(place);
 }
 
 impl<Q: Payload, QH: Words, P: Payload, PH: Words, H: Backpressure> Hub<Q, QH, P, PH, H> {

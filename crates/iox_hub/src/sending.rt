@@ -43,9 +43,7 @@ impl<Q: Payload, QH: Words, P: Payload, PH: Words, H: Backpressure> Hub<Q, QH, P
         ensures keeps { KeepsOthers self.old node number self.new }
         ensures tidy { StaysTidy self.old.control.tables self.new.control.tables }
     {
-        let Some(entry) = self.control.entry(node, number, hint) else {
-            unreachable!();
-        };
+        let entry = self.control.known(node, number, hint);
         let fails = fails_without_overflow(&self.control, &self.handlers, entry);
         let responded = iox_control_request_copies::send_response(
             &mut self.control,
@@ -78,9 +76,7 @@ impl<Q: Payload, QH: Words, P: Payload, PH: Words, H: Backpressure> Hub<Q, QH, P
         ensures keeps { KeepsOthers self.old node number self.new }
         ensures tidy { StaysTidy self.old.control.tables self.new.control.tables }
     {
-        let Some(entry) = self.control.entry(node, number, hint) else {
-            unreachable!();
-        };
+        let entry = self.control.known(node, number, hint);
         let by = asked_of_client(&self.control, &self.handlers, entry.port);
         let requested = iox_control_request_copies::send_request(
             &mut self.control,

@@ -38,7 +38,7 @@ pub fn receives_if_it_may(
     ensures reached { IsReached hub.new }
 {
     if hub.calls() < 1 << 56 && hub.has(node, number, Kind::Server, 0) {
-        let received = hub.receive_request(node, number);
+        let received = hub.receive_request(node, number, 0);
         hub.calls();
         return received;
     }
@@ -67,7 +67,7 @@ pub fn reads_what_it_receives(
     requires has { HasValue hub.old node server Server }
     requires calls { hub.old.control.tables.calls < 2 ^ 56 }
 {
-    match hub.receive_request(node, server) {
+    match hub.receive_request(node, server, 0) {
         Received::Handle(number) => hub.request(node, number, 0).len(),
         _ => 0,
     }

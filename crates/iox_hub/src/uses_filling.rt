@@ -35,7 +35,7 @@ pub fn fills_one(
     requires { HasValue hub.old node client Client }
     ensures { IfSome result (λ read. flat_map (λ n. n ∷ []) read.now ≡ 1234 ∷ []) }
 {
-    let Lent::Handle(loan) = hub.lend_request(node, client, 1, true) else {
+    let Lent::Handle(loan) = hub.lend_request(node, client, 0, 1, true) else {
         return None;
     };
     hub.write_next_request(node, loan.number, 0, 1234);
@@ -54,7 +54,7 @@ pub fn writes_over(
     requires { HasValue hub.old node client Client }
     ensures { IfSome result (λ read. flat_map (λ n. n ∷ []) read.now ≡ 456 ∷ []) }
 {
-    let Lent::Handle(loan) = hub.lend_request(node, client, 1, true) else {
+    let Lent::Handle(loan) = hub.lend_request(node, client, 0, 1, true) else {
         return None;
     };
     hub.write_next_request(node, loan.number, 0, 1234);

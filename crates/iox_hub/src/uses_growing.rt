@@ -16,7 +16,7 @@ pub fn is_left_without_memory(
     requires { HasValue hub.old node client Client }
     ensures { result ≡ true → hub.new ≡ hub.old }
 {
-    match hub.lend_request(node, client, elements, true) {
+    match hub.lend_request(node, client, 0, elements, true) {
         Lent::Refused(LoanRefusal::WantOfMemory) => true,
         _ => false,
     }

@@ -44,6 +44,6 @@ pub fn receives_beside(
     requires calls { hub.old.control.tables.calls < 2 ^ 56 }
     ensures { KeepsAll hub.old hub.new }
 {
-    hub.receive_request(node, server);
+    hub.receive_request(node, server, 0);
     hub.is_connected(node, request, 0)
 }

@@ -19,7 +19,7 @@ pub fn writes_and_reads_request<'a, E: Words>(
     requires { HasValue hub.old node client Client }
     ensures { IfSome result (λ read. flat_map E.words read.now ≡ flat_map E.words values.now) }
 {
-    let Lent::Handle(loan) = hub.lend_request(node, client, values.len(), true) else {
+    let Lent::Handle(loan) = hub.lend_request(node, client, 0, values.len(), true) else {
         return None;
     };
     let Written::Done(_) = hub.write_request(node, loan.number, 0, values) else {
@@ -54,7 +54,7 @@ pub fn writes_456(
     requires { HasValue hub.old node client Client }
     ensures { IfSome result (λ read. flat_map (λ n. n ∷ []) read.now ≡ 456 ∷ []) }
 {
-    let Lent::Handle(loan) = hub.lend_request(node, client, 1, true) else {
+    let Lent::Handle(loan) = hub.lend_request(node, client, 0, 1, true) else {
         return None;
     };
     let Written::Done(_) = hub.write_request(node, loan.number, 0, &[456]) else {

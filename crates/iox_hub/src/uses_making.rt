@@ -127,7 +127,7 @@ pub fn receives_with_a_new_server(
     match hub.make_port(alloc, node, Role::Server, id, options, None) {
         Ok(server) => {
             if hub.calls() < 1 << 56 && hub.has(node, server, Kind::Server, 0) {
-                return Ok(hub.receive_request(node, server));
+                return Ok(hub.receive_request(node, server, 0));
             }
             Ok(Received::Nothing)
         }

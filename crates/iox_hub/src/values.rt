@@ -1,11 +1,12 @@
 //! Which values nodes have.
-ghost use Rattle.std.specs.Prelude.{◌≡◌, ◌↔◌, IsTrue, Some, true};
+ghost use Rattle.std.specs.Prelude.{◌≡◌, ◌↔◌, ◌==◌, ◌&&◌, IsTrue, Some, true};
 ghost use Rattle.iox_tables.specs.HubLoans.Questions.{kind_in, kind_of_role};
 ghost use Rattle.iox_hub.specs.Hubs.{HasValue};
 ghost use Rattle.iox_hub.specs.Sending.{is_handle};
 
 use crate::hub::Hub;
 use iox_backpressure::Backpressure;
+use iox_hub_ports::info::PortInfo;
 use iox_model::kind::{Kind, Role};
 use iox_store::Payload;
 use iox_words::Words;
@@ -18,6 +19,14 @@ fn kind_of(role: Role) -> Kind
         Role::Client => Kind::Client,
         Role::Server => Kind::Server,
     }
+}
+
+/// Whether the port of which that is said is the node's, and not released.
+#[inline(always)]
+fn is_held_by(port: PortInfo, node: u64) -> bool
+    ensures { result ≡ (port.held && (port.node == node)) }
+{
+    port.held && port.node == node
 }
 
 impl<Q: Payload, QH: Words, P: Payload, PH: Words, H: Backpressure> Hub<Q, QH, P, PH, H> {
@@ -40,28 +49,76 @@ impl<Q: Payload, QH: Words, P: Payload, PH: Words, H: Backpressure> Hub<Q, QH, P
         }
     }
 
-    /// Whether the node has a port or a handle of that number and kind, which is not released. A
-    /// handle is looked for at the hint first.
+    /// Where the handle that came last is: it may be looked for there first.
+    #[inline(always)]
+    pub fn last_place(&self) -> usize {
+        self.control.last_place()
+    }
+
+    /// Where the port of that number stands: it may be looked for there first.
+    pub fn place_of(&self, number: u64) -> usize {
+        self.control.likely_place(number, 0)
+    }
+
+    /// Whether the node has a port or a handle of that number and kind, which is not released. It
+    /// is looked for at the hint first.
+    #[inline(always)]
     pub fn has(&self, node: u64, number: u64, kind: Kind, hint: usize) -> bool
         ensures { IsTrue result ↔ HasValue self.now node number kind }
     {
         match kind {
-            Kind::Client | Kind::Server => match self.kind(node, number, hint) {
-                Some(other) => other == kind,
-                None => false,
-            },
+            Kind::Client | Kind::Server => self.has_port(node, number, kind, hint),
             _ => self.has_handle(node, number, kind, hint),
+        }
+    }
+
+    /// The same, where a port is looked for at the hint first.
+    #[inline(always)]
+    fn has_port(&self, node: u64, number: u64, kind: Kind, hint: usize) -> bool
+        ensures { IsTrue result ↔ HasValue self.now node number kind }
+    {
+        match self.control.ports().near(number, hint) {
+            Some(port) => {
+                if is_held_by(port, node) {
+                    return kind_of(port.role) == kind;
+                }
+                false
+            }
+            None => self.has_far(node, number, kind),
+        }
+    }
+
+    /// The same, where no port is at the hint. A call of its own, so that the others are short.
+    #[inline(never)]
+    fn has_far(&self, node: u64, number: u64, kind: Kind) -> bool
+        ensures { IsTrue result ↔ HasValue self.now node number kind }
+    {
+        match self.kind(node, number, 0) {
+            Some(other) => other == kind,
+            None => false,
         }
     }
 
     /// Whether the node has a handle of that number and kind. It is looked for at the hint first,
     /// and no port is.
-    #[inline]
+    #[inline(always)]
     fn has_handle(&self, node: u64, number: u64, kind: Kind, hint: usize) -> bool
         requires { is_handle kind ≡ true }
         ensures { IsTrue result ↔ HasValue self.now node number kind }
     {
-        match self.control.entry(node, number, hint) {
+        match self.control.near(node, number, hint) {
+            Some(entry) => entry.kind == kind,
+            None => self.has_handle_far(node, number, kind),
+        }
+    }
+
+    /// The same, where it is not at the hint. A call of its own, so that the others are short.
+    #[inline(never)]
+    fn has_handle_far(&self, node: u64, number: u64, kind: Kind) -> bool
+        requires { is_handle kind ≡ true }
+        ensures { IsTrue result ↔ HasValue self.now node number kind }
+    {
+        match self.control.entry(node, number, 0) {
             Some(entry) => entry.kind == kind,
             None => false,
         }

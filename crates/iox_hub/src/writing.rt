@@ -1,23 +1,27 @@
 //! Writes to loans.
-ghost use Rattle.std.specs.Prelude.{flat_map, length};
+ghost use Rattle.std.specs.Prelude.{◌≡◌, ◌∷◌, [], flat_map, length};
 ghost use Rattle.iox_model.specs.declared.call.Call.TheVariants.{Write};
 ghost use Rattle.iox_model.specs.declared.kind.Kind.TheVariants.{RequestMut, ResponseMut};
 ghost use Rattle.iox_model.specs.declared.kind.Role.TheVariants as roles;
+ghost use Rattle.iox_model.specs.declared.reply.Reply.TheVariants.{Done};
 ghost use Rattle.iox_model.specs.Handles.{is_request_loan, is_response_loan};
 ghost use Rattle.iox_model.specs.WholeCalls.{IsWholeCall};
 ghost use Rattle.iox_tables.specs.HubStates.States.{Given};
 ghost use Rattle.iox_control.specs.Controls.{IsControl};
 ghost use Rattle.iox_control_request_copies.specs.Fills.{IsLoan, reply_of_write};
+ghost use Rattle.iox_control_request_copies.specs.Written.TheVariants as written;
 ghost use Rattle.iox_hub.specs.Hubs.{state_of_hub};
 ghost use Rattle.iox_hub.specs.Keeping.{KeepsOthers};
-ghost use Rattle.iox_hub.specs.Lending.{HasWritten, IsWrite, LeavesWritten, payload_of};
-ghost use Rattle.iox_hub.specs.Reads.{HasOf};
+ghost use Rattle.iox_hub.specs.Lending.{HasWritten, IsWrite, IsWritten, LeavesWritten, payload_of};
+ghost use Rattle.iox_hub.specs.Reads.{HasOf, message_in};
 
-use crate::contents::{write_request_in, write_response_in};
+use crate::contents::{
+    write_one_request_in, write_one_response_in, write_request_in, write_response_in,
+};
 use crate::hub::Hub;
 use iox_backpressure::Backpressure;
 use iox_control::Control;
-use iox_control_request_copies::{Written, write};
+use iox_control_request_copies::{Place, Written, write};
 use iox_store::Payload;
 use iox_words::Words;
 
@@ -84,5 +88,61 @@ impl<Q: Payload, QH: Words, P: Payload, PH: Words, H: Backpressure> Hub<Q, QH, P
             write_response_in(&mut self.words, place.pool, place.slot as usize, values);
         }
         written
+    }
+
+    /// Fills a loaned request of one element with that element, whatever was filled, and tells where
+    /// its message lies. Its handle is looked for at the hint first.
+    #[inline(always)]
+    pub fn write_one_request(
+        &mut self,
+        node: u64,
+        number: u64,
+        hint: usize,
+        value: Q::Element,
+    ) -> Place
+        requires has { HasOf is_request_loan self.old node number }
+        requires one { (message_in self.old node number).elements ≡ 1 }
+        ensures left { LeavesWritten self.old (flat_map Q.Element.words (value ∷ []))
+            (written.Done result) self.new }
+        ensures whole { (x : Given) → IsWholeCall (state_of_hub x self.old) node
+            (Write number (payload_of roles.Client 1 (flat_map Q.Element.words (value ∷ [])))) Done
+            (state_of_hub x self.new) }
+        ensures has { IsWritten self.old node number RequestMut 1
+            (flat_map Q.Element.words (value ∷ [])) self.new }
+        ensures keeps { KeepsOthers self.old node number self.new }
+    {
+        let Written::Done(place) = write_loan(&mut self.control, node, number, hint, 1) else {
+            unreachable!();
+        };
+        write_one_request_in(&mut self.words, place.pool, place.slot as usize, value);
+        place
+    }
+
+    /// Fills a loaned response of one element with that element, whatever was filled, and tells where
+    /// its message lies. Its handle is looked for at the hint first.
+    #[inline(always)]
+    pub fn write_one_response(
+        &mut self,
+        node: u64,
+        number: u64,
+        hint: usize,
+        value: P::Element,
+    ) -> Place
+        requires has { HasOf is_response_loan self.old node number }
+        requires one { (message_in self.old node number).elements ≡ 1 }
+        ensures left { LeavesWritten self.old (flat_map P.Element.words (value ∷ []))
+            (written.Done result) self.new }
+        ensures whole { (x : Given) → IsWholeCall (state_of_hub x self.old) node
+            (Write number (payload_of roles.Server 1 (flat_map P.Element.words (value ∷ [])))) Done
+            (state_of_hub x self.new) }
+        ensures has { IsWritten self.old node number ResponseMut 1
+            (flat_map P.Element.words (value ∷ [])) self.new }
+        ensures keeps { KeepsOthers self.old node number self.new }
+    {
+        let Written::Done(place) = write_loan(&mut self.control, node, number, hint, 1) else {
+            unreachable!();
+        };
+        write_one_response_in(&mut self.words, place.pool, place.slot as usize, value);
+        place
     }
 }

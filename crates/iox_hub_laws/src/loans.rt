@@ -25,6 +25,7 @@ pub fn lend_request<Q: Payload, QH: Words, P: Payload, PH: Words, H: Backpressur
     hub: &mut Hub<Q, QH, P, PH, H>,
     node: u64,
     client: u64,
+    hint: usize,
     elements: usize,
     uninit: bool,
 ) -> Lent
@@ -41,7 +42,7 @@ pub fn lend_request<Q: Payload, QH: Words, P: Payload, PH: Words, H: Backpressur
     ensures has { HasLent hub.new node roles.Client hub.old.request uninit elements result }
 {
     hub.is_in_order();
-    hub.lend_request(node, client, elements, uninit)
+    hub.lend_request(node, client, hint, elements, uninit)
 }
 
 /// Lends a response to that active request for so many elements, unfilled or each with its default.

@@ -23,6 +23,7 @@ pub fn receive_request<Q: Payload, QH: Words, P: Payload, PH: Words, H: Backpres
     hub: &mut Hub<Q, QH, P, PH, H>,
     node: u64,
     server: u64,
+    hint: usize,
 ) -> Received
     requires has { HasValue hub.old node server Server }
     requires calls { hub.old.control.tables.calls < 2 ^ 56 }
@@ -37,7 +38,7 @@ pub fn receive_request<Q: Payload, QH: Words, P: Payload, PH: Words, H: Backpres
     ensures keeps { KeepsAll hub.old hub.new }
 {
     hub.is_in_order();
-    hub.receive_request(node, server)
+    hub.receive_request(node, server, hint)
 }
 
 /// Receives a response for that pending response, wherever one waits that it can receive: one to

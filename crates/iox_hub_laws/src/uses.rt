@@ -30,7 +30,7 @@ pub fn reads_what_was_delivered<E: Words>(
         × ((r : IsReached hub.old) → IsOneOf (handle_of new h).message
         (messages_put_on (way_of (handle_of new h)) (beats_of hub.old r)))) }
 {
-    match receive_request(hub, node, server) {
+    match receive_request(hub, node, server, 0) {
         Received::Handle(number) => Some(hub.request(node, number, 0)),
         _ => None,
     }
@@ -48,7 +48,7 @@ pub fn receives_what_can_come<Q: Payload, QH: Words, P: Payload, PH: Words, H: B
         × CanCome hub.old (server_of server) client m }
     ensures { HasValue hub.new node result ActiveRequest }
 {
-    match receive_request(hub, node, server) {
+    match receive_request(hub, node, server, 0) {
         Received::Handle(number) => number,
         _ => unreachable!(),
     }
@@ -64,7 +64,7 @@ pub fn receives_nothing<Q: Payload, QH: Words, P: Payload, PH: Words, H: Backpre
     requires calls { hub.old.control.tables.calls < 2 ^ 56 }
     requires none { NothingWaits hub.old (server_of server) }
 {
-    match receive_request(hub, node, server) {
+    match receive_request(hub, node, server, 0) {
         Received::Nothing => {}
         _ => unreachable!(),
     }
@@ -82,7 +82,7 @@ pub fn lends_within_limits(
         × IsWithinLimits hub.old.control.tables hub.old.request p elements }
     requires pools { HasFullPools hub.old node }
 {
-    match lend_request(hub, node, client, elements, true) {
+    match lend_request(hub, node, client, 0, elements, true) {
         Lent::Handle(loan) => loan.number,
         _ => unreachable!(),
     }

@@ -118,7 +118,7 @@ from_nobody p s none neither =
     ∙ ap (λ o. or_else o (pipe_from p.incoming.pipes s)) (sym (none_first (λ q. q.sender) p.expired.pipes s 0 none))
     ∙ sym (first_append (λ q. q.sender) p.expired.pipes p.incoming.pipes s)
 
-lane_there : {A : Type 0} (f : LaneState → A) (none : A) (lane : ℕ) (o : Option PipeState)
+pub lane_there : {A : Type 0} (f : LaneState → A) (none : A) (lane : ℕ) (o : Option PipeState)
     → option_map_or (λ q. on_lane f none q lane) o none ≡ option_map_or f (slice_get (option_map_or (λ q. q.lanes) o []) lane) none
 lane_there f none lane (Some q) = refl
 lane_there f none lane None = refl

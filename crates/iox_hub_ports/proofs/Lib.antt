@@ -7,6 +7,12 @@ pub mod Keeping
 pub mod Sound
 pub mod Finding
 pub mod Nexts
+pub mod Listing
+pub mod InPlace
+pub mod Rounds
+pub mod Apart
+pub mod AtPlaces
+pub mod Hinted
 -- what the crates above cite of those below
 pub use Rattle.iox_tables.proofs.HubStates
 pub use Rattle.iox_tables.proofs.HubBooks

@@ -1,3 +1,4 @@
+pub mod InPlace
 pub mod Ports
 -- what the crates above cite of those below
 pub use Rattle.iox_tables.specs.HubStates

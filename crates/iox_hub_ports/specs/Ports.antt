@@ -3,6 +3,7 @@ use Rattle.std.specs.Prelude.{◌≡◌, ℕ, ◌+◌, ◌-◌, ◌<◌, ◌≤�
 use Rattle.std.specs.List.{position_from}
 use Rattle.std.specs.Option.{option_map, option_map_or}
 use Rattle.iox_model.specs.declared.kind.Role.{Role}
+use Rattle.iox_model.specs.declared.kind.Role.TheVariants.{Client, Server}
 use Rattle.iox_model.specs.declared.way.Way.{Way}
 use Rattle.iox_model.specs.declared.way.RequestState.{RequestState}
 use Rattle.iox_model.specs.declared.way.RequestState.TheVariants.{Closed}
@@ -16,6 +17,7 @@ use Rattle.iox_tables.specs.HubStates.Tables.{PortState, numbers_of, pipe_from, 
 use Rattle.iox_tables.specs.HubStates.Ways.{lane_on, lanes_from, state_on, states_from, with_lane_on, with_pipe_of, with_pipes}
 use Rattle.iox_tables.specs.HubStates.Wirings.{numbers_of_role}
 use Rattle.iox_hub_ports.specs.declared.info.PortInfo.{PortInfo}
+use Rattle.iox_hub_ports.specs.InPlace.{RolePlacesState, places_of}
 use Rattle.iox_tables.specs.HubMaking.Expirings.{gone_with}
 use Rattle.iox_tables.specs.HubMaking.OneByOne.{without_first_by}
 
@@ -213,8 +215,12 @@ abbrev pub is_at : ℕ → List PortState → ℕ → Bool
 is_at n ports place = option_map_or (λ p. p.number == n) (slice_get ports place) false
 
 -- No two ports have one number, none has a greater one than the last, and there is memory for those
--- that may be added.
-pub record IsPorts (ports : List PortState) (room last capacity : ℕ) : Type 0 where
+-- that may be added. The lists of the places of clients and of servers are right.
+pub record IsPorts (ports : List PortState) (room last capacity : ℕ) (lists : RolePlacesState) :
+    Type 0 where
   pub apart : AreDistinct (numbers_of ports)
   pub none_above : (n : ℕ) → last < n → has_number n (numbers_of ports) ≡ false
   pub fits : length ports + room ≤ capacity
+  pub clients : lists.clients ≡ places_of Client ports
+  pub servers : lists.servers ≡ places_of Server ports
+  pub lists_fit : length ports + room ≤ lists.most

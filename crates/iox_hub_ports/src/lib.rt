@@ -3,8 +3,10 @@
 #![tactic(auto)]
 
 pub mod info;
+pub mod pipe_steps;
 pub mod port;
 pub mod ports;
+mod role_places;
 pub mod steps;
 pub mod uses;
 pub mod walks;

@@ -14,6 +14,8 @@ ghost use Rattle.iox_tables.specs.HubMaking.OneByOne.{without_first_pipe};
 ghost use Rattle.iox_hub_ports.specs.Ports.{gone_from, info_of, lane_to_get_on, on_lane_from, port_of, state_from, with_connected};
 ghost use Rattle.iox_hub_ports.specs.Ports.{with_lane_from, with_loan_counted, with_state_from, without_pipe_from, without_value};
 
+mod near;
+
 use crate::info::PortInfo;
 use iox_model::kind::Role;
 use iox_model::way::RequestState;
@@ -29,6 +31,8 @@ use std::marker::Model;
 #[derive(Drop)]
 pub struct Port {
     info: PortInfo,
+    // Where the pipes from it likely stand among those that lead to others.
+    rank: usize,
     expired: Expired,
     incoming: Incoming,
 }
@@ -60,6 +64,7 @@ impl Port {
     {
         Port {
             info,
+            rank: 0,
             expired,
             incoming,
         }
@@ -211,6 +216,7 @@ impl Port {
         ensures more { IfSome result (λ n.
             n.more ≡ is_some (lane_to_get_on (pipes_of self.new) sender)) }
         ensures number { self.new.number ≡ self.old.number }
+        ensures role { self.new.role ≡ self.old.role }
         ensures unchanged { result ≡ None → self.new ≡ self.old }
     {
         match self.expired.rank(sender) {

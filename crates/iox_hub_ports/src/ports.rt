@@ -15,11 +15,14 @@ ghost use Rattle.iox_tables.specs.HubStates.Ways.{with_lane_on, with_port, with_
 ghost use Rattle.iox_hub_ports.specs.Ports.{gone_from, info_at, info_in, kept_at, no_ports, on_way, place_in, with_connected, with_loan_counted};
 ghost use Rattle.iox_hub_ports.specs.Ports.{with_port_added, with_port_removed, with_ports, without_value};
 
+mod in_place;
+mod near;
 mod sender;
 mod states;
 
 use crate::info::PortInfo;
 use crate::port::Port;
+use crate::role_places::{RolePlaces, arrange};
 use crate::steps::Release;
 use crate::walks::{is_at, place_of};
 use iox_model::way::Way;
@@ -46,6 +49,8 @@ pub struct Ports {
     last: u64,
     // By the remainder of its number, where a port is.
     latest: [usize; REMAINDERS],
+    // Where the clients are, and the servers.
+    lists: RolePlaces,
 }
 
 impl Model for Ports {
@@ -56,7 +61,8 @@ impl Model for Ports {
 
     ghost view = { λ s. record { room = s.room; ports = s.ports.items } };
 
-    ghost invariant = { λ s. IsPorts s.ports.items s.room s.last (vec_capacity s.ports) };
+    ghost invariant = { λ s. IsPorts s.ports.items s.room s.last (vec_capacity s.ports)
+        s.lists };
 }
 
 /// The remainder of a port's number.
@@ -124,6 +130,7 @@ impl Ports {
             room,
             last: 0,
             latest: [0; REMAINDERS],
+            lists: RolePlaces::new(alloc, room)?,
         })
     }
 
@@ -153,7 +160,11 @@ impl Ports {
         let Some(room) = self.room.checked_add(more) else {
             return Err(AllocError);
         };
+        let Some(most) = self.ports.len().checked_add(room) else {
+            return Err(AllocError);
+        };
         self.ports.reserve(room)?;
+        self.lists.reserve(most)?;
         self.room = room;
         Ok(())
     }
@@ -169,6 +180,7 @@ impl Ports {
         self.last = self.last.max(number);
         self.latest[remainder(number)] = self.ports.len();
         self.ports.push_reserved(port);
+        arrange(&mut self.ports, &mut self.lists);
     }
 
     /// Takes the port of that number out, if there is one.
@@ -183,6 +195,7 @@ impl Ports {
                 self.room += 1;
                 let port = self.ports.remove(place);
                 self.latest = latest_of(&self.ports);
+                arrange(&mut self.ports, &mut self.lists);
                 Some(port)
             }
         }

@@ -5,6 +5,7 @@ ghost use Rattle.iox_model.specs.Maps.{AreDistinct};
 ghost use Rattle.iox_model.specs.Settings.{same_role};
 ghost use Rattle.iox_tables.specs.HubStates.Tables.{numbers_of};
 ghost use Rattle.iox_tables.specs.HubStates.Ways.{with_lanes_on, with_states_on};
+ghost use Rattle.iox_hub_ports.specs.InPlace.{roles_of};
 ghost use Rattle.iox_hub_ports.specs.Ports.{if_role, is_at, on_way_at, place_in, state_ways};
 ghost use Rattle.iox_hub_ports.specs.Ports.{ways_from, with_lane_at, with_lane_from, with_state_from};
 
@@ -62,6 +63,7 @@ pub fn on_lane_at<S: LaneStep>(
     ensures changed { ports.new.items
         ≡ with_lane_at (S.changed step.now) ports.old.items place sender lane }
     ensures numbers { numbers_of ports.new.items ≡ numbers_of ports.old.items }
+    ensures roles { roles_of ports.new.items ≡ roles_of ports.old.items }
     ensures capacity { vec_capacity ports.new ≡ vec_capacity ports.old }
 {
     if place < ports.len() {
@@ -107,6 +109,7 @@ pub fn on_each_lane<S: LaneStep>(
         ≡ with_lanes_on (S.changed step.now) ports.old.items
         (ways_from sender lane role ports.old.items) }
     ensures numbers { numbers_of ports.new.items ≡ numbers_of ports.old.items }
+    ensures roles { roles_of ports.new.items ≡ roles_of ports.old.items }
     ensures capacity { vec_capacity ports.new ≡ vec_capacity ports.old }
 {
     for i in 0..ports.len() {
@@ -128,6 +131,7 @@ pub fn on_each_state<S: StateStep>(
         ≡ with_states_on (S.changed step.now) ports.old.items
         (state_ways receiver lane role ports.old.items) }
     ensures numbers { numbers_of ports.new.items ≡ numbers_of ports.old.items }
+    ensures roles { roles_of ports.new.items ≡ roles_of ports.old.items }
     ensures capacity { vec_capacity ports.new ≡ vec_capacity ports.old }
 {
     for i in 0..ports.len() {

@@ -1,10 +1,15 @@
--- What callers may cite: when there is room, and that places stay where a lane changes.
-use Rattle.std.proofs.Common.{◌≡◌, ◌<◌, ◌+◌, ◌-◌, ◌^◌, ◌==◌, ◌||◌, ◌&&◌, if◌then◌else◌, ℕ, suc, Bool, true, false, cond, List, [], ◌∷◌, ◌++◌, length, get_or, Some, None, Option, is_some, unwrap_or, refl, sym, ap, ◌∙◌, arith}
-use Rattle.std.proofs.lemmas.Bool.{false≢true, eqb-true, lt-ltb}
+-- What callers may cite: when there is room, that places stay where a lane changes, and which pipe is the first from its sender.
+use Rattle.std.proofs.Common.{◌≡◌, ◌<◌, ◌+◌, ◌-◌, ◌^◌, ◌==◌, ◌||◌, ◌&&◌, if◌then◌else◌, ℕ, zero, suc, Bool, true, false, cond, List, [], ◌∷◌, ◌++◌, length, map, get_or, Some, None, Option, is_some, unwrap_or, refl, sym, ap, ◌∙◌, arith}
+use Rattle.std.proofs.lemmas.Bool.{false≢true, eq-eqb, eqb-true, lt-ltb}
+use Rattle.std.proofs.lemmas.Option.{none-some, same_Some}
 use Rattle.std.proofs.lemmas.List.Sorted.{IsPermutation-swap_remove, list_any-IsPermutation}
 use Rattle.std.proofs.lemmas.List.Sums.{sum_by-swap_remove}
 use Rattle.std.specs.Option.{option_map_or}
 use Rattle.std.specs.List.{list_any, position_from, sum_by, swap_remove}
+use Rattle.std.specs.Prelude.{slice_get}
+use Rattle.iox_model.specs.Maps.{AreDistinct, has_number}
+use Rattle.iox_lanes.specs.Incomings.{IsFirstAt}
+use Rattle.iox_lanes.specs.Pipes.{PipeState}
 use Rattle.iox_lanes.specs.Lanes.{LaneState, IsSound, has_room, is_taken, outstanding, rank_in, without_taken}
 use Rattle.iox_lanes.specs.Searches.{after_wanted, before_wanted, first_wanted}
 
@@ -96,3 +101,44 @@ all_searched test (k ∷ ks) =
       | true ↦ refl
       | false ↦ ap (λ (zs : List ℕ). k ∷ zs) (all_searched test ks)
     ]
+
+-- ---- the first pipe from a sender
+
+not_left : (a b : Bool) → (a || b) ≡ false → a ≡ false
+not_left true b h = h
+not_left false b h = refl
+
+not_right : (a b : Bool) → (a || b) ≡ false → b ≡ false
+not_right true b h = absurd (false≢true (sym h))
+not_right false b h = h
+
+another : (n : ℕ) (ps : List PipeState) (i : ℕ) (p : PipeState) → has_number n (map (λ q. q.sender) ps) ≡ false → slice_get ps i ≡ Some p
+    → (p.sender == n) ≡ false
+another n [] i p h e = absurd (none-some p e)
+another n (x ∷ xs) zero p h e =
+    ap (λ (q : PipeState). q.sender == n) (sym (same_Some x p e)) ∙ not_left (x.sender == n) (has_number n (map (λ q. q.sender) xs)) h
+another n (x ∷ xs) (suc i) p h e = another n xs i p (not_right (x.sender == n) (has_number n (map (λ q. q.sender) xs)) h) e
+
+turned : (m n : ℕ) → (m == n) ≡ false → (n == m) ≡ false
+turned m n h = over (n == m) refl
+  where
+    over : (b : Bool) → (n == m) ≡ b → b ≡ false
+    over true e = absurd (false≢true (sym h ∙ eq-eqb m n (sym (eqb-true n m e))))
+    over false e = refl
+
+first_from : (ps : List PipeState) (n i : ℕ) (p : PipeState) → AreDistinct (map (λ q. q.sender) ps) → slice_get ps i ≡ Some p
+    → position_from (λ q. q.sender == p.sender) n ps ≡ Some (i + n)
+first_from [] n i p d e = absurd (none-some p e)
+first_from (x ∷ xs) n zero p d e =
+    ap (λ (b : Bool). cond b (Some n) (position_from (λ q. q.sender == p.sender) (n + 1) xs))
+    (eq-eqb x.sender p.sender (ap (λ (q : PipeState). q.sender) (same_Some x p e)))
+    ∙ ap (λ (k : ℕ). Some k) (omega arith)
+first_from (x ∷ xs) n (suc i) p d e =
+    ap (λ (b : Bool). cond b (Some n) (position_from (λ q. q.sender == p.sender) (n + 1) xs))
+    (turned p.sender x.sender (another x.sender xs i p d.0 e))
+    ∙ first_from xs (n + 1) i p d.1 e
+    ∙ ap (λ (k : ℕ). Some k) (omega arith)
+
+-- where no sender comes twice, each pipe is the first from its sender
+pub first_where_apart : (ps : List PipeState) (rank : ℕ) → AreDistinct (map (λ q. q.sender) ps) → IsFirstAt ps rank
+first_where_apart ps rank d p e = first_from ps 0 rank p d e ∙ ap (λ (k : ℕ). Some k) (omega arith)

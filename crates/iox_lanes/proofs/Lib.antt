@@ -1,4 +1,8 @@
 pub mod CallerLemmas
+pub mod Bits
+pub mod InCells
+pub mod Lone
+pub mod OneLane
 pub mod Returns
 pub mod Visiting
 pub mod Sound

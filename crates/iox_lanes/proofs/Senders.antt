@@ -1,11 +1,11 @@
 -- The first pipe from a sender, and its rank.
 use Rattle.std.proofs.Common.{◌≡◌, ◌==◌, ◌+◌, ◌<◌, ℕ, zero, suc, Bool, true, false, cond, List, [], ◌∷◌, Option, Some, None, drop, length, get_or, slice_set, refl, sym, ap, ◌∙◌, arith, add-one}
 use Rattle.std.proofs.lemmas.Bool.{eq-eqb, eqb-true}
-use Rattle.std.proofs.lemmas.Option.{slice_get_within}
+use Rattle.std.proofs.lemmas.Option.{slice_get_read, slice_get_within}
 use Rattle.std.specs.List.{position_from}
 use Rattle.std.specs.Option.{option_map_or}
 use Rattle.std.specs.Prelude.{IfSome, slice_get}
-use Rattle.iox_lanes.specs.Incomings.{IncomingState, on_pipe_by, rank_from}
+use Rattle.iox_lanes.specs.Incomings.{IncomingState, IsFirstAt, on_pipe_by, rank_from}
 use Rattle.iox_lanes.specs.Lanes.{LaneState}
 use Rattle.iox_lanes.specs.Pipes.{PipeState, with_lane}
 use Rattle.iox_lanes.proofs.Kept.{there}
@@ -34,6 +34,12 @@ module _ (ps : List PipeState) (s i : ℕ) (p : PipeState) (e : Some p ≡ slice
       other : (b : Bool) → (b ≡ true → ⊥) → b ≡ false
       other true h = absurd (h refl)
       other false h = refl
+
+-- where the hint is right, the pipe there is the first from its sender
+pub first_at : (ps : List PipeState) (rank sender : ℕ) (p : PipeState) → IsFirstAt ps rank → rank < length ps → p ≡ get_or ps rank p
+    → p.sender ≡ sender → Some rank ≡ rank_from ps sender
+first_at ps rank sender p once h e is =
+    sym (ap (λ (s : ℕ). rank_from ps s) (sym is) ∙ once p (slice_get_read ps (length ps) rank p refl h e))
 
 -- ---- a pipe is changed
 

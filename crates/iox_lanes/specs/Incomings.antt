@@ -1,5 +1,5 @@
 -- What comes to one port, as its callers see it.
-use Rattle.std.specs.Prelude.{ℕ, Bool, false, ◌==◌, List, [], ◌∷◌, ◌++◌, if◌then◌else◌, drop, length, nat_lt, Option, Some, None, slice_get, slice_set}
+use Rattle.std.specs.Prelude.{◌≡◌, ℕ, Bool, false, ◌==◌, List, [], ◌∷◌, ◌++◌, if◌then◌else◌, drop, length, nat_lt, Option, Some, None, slice_get, slice_set}
 use Rattle.std.specs.List.{list_any, position_from, remove}
 use Rattle.std.specs.Option.{option_map_or}
 use Rattle.iox_lanes.specs.declared.wanted.Wanted.{Wanted}
@@ -22,6 +22,10 @@ no_pipes most = record { most = most; pipes = [] }
 -- where the first pipe from this sender stands
 abbrev pub rank_from : List PipeState → ℕ → Option ℕ
 rank_from ps sender = position_from (λ p. p.sender == sender) 0 ps
+
+-- the pipe of that rank, if there is one, is the first from its sender
+abbrev pub IsFirstAt : List PipeState → ℕ → Type 0
+IsFirstAt ps rank = (p : PipeState) → slice_get ps rank ≡ Some p → rank_from ps p.sender ≡ Some rank
 
 -- there is room for one more pipe
 abbrev pub has_room_for : IncomingState → Bool

@@ -1,9 +1,9 @@
 -- A lane, as its callers see it: lists of places in its sender's pool.
-use Rattle.std.specs.Prelude.{◌≡◌, ℕ, ◌+◌, ◌-◌, ◌<◌, ◌≤◌, ◌^◌, Bool, ◌&&◌, if◌then◌else◌, ◌==◌, List, [], ◌∷◌, ◌++◌, length, drop, filter, Option, slice_get, is_some, nat_le, nat_lt, not}
+use Rattle.std.specs.Prelude.{ℕ, ◌+◌, ◌-◌, ◌<◌, ◌≤◌, ◌^◌, Bool, ◌&&◌, if◌then◌else◌, ◌==◌, List, [], ◌∷◌, ◌++◌, length, drop, filter, Option, slice_get, is_some, nat_le, nat_lt, not}
 use Rattle.std.specs.List.{position_from, swap_remove}
 use Rattle.std.specs.Option.{option_map_or}
-use Rattle.iox_queues.specs.BoundedQueues.{BoundedQueue}
 use Rattle.iox_model.specs.Maps.{is_empty}
+use Rattle.iox_lanes.specs.Cells.{CellsState}
 
 -- One lane: where its messages are, how many it may have, and how many it ever had.
 pub record LaneState : Type 0 where
@@ -153,20 +153,15 @@ HasOneInHand l =
     (outstanding l < l.buffer + l.limit)
     × (l.returns + length l.taken + length l.waiting < l.deliveries)
 
--- the lane that queues, a list and numbers show
-abbrev pub lane_of : ℕ → BoundedQueue → BoundedQueue → List ℕ → ℕ → ℕ → LaneState
-lane_of pool waiting returned taken buffer limit = record {
+-- the lane that cells, a list and numbers show
+abbrev pub lane_of : ℕ → CellsState → CellsState → List ℕ → ℕ → ℕ → ℕ → LaneState
+lane_of pool waiting returned taken limit deliveries returns = record {
   pool = pool;
-  waiting = waiting.waiting;
-  returned = returned.waiting;
+  waiting = waiting.places;
+  returned = returned.places;
   taken = taken;
-  buffer = buffer;
+  buffer = waiting.capacity;
   limit = limit;
-  deliveries = waiting.pushed;
-  returns = returned.pushed;
+  deliveries = deliveries;
+  returns = returns;
 }
-
--- the queues have room for as many as may wait, and as may be outstanding
-abbrev pub HaveCapacity : BoundedQueue → BoundedQueue → ℕ → ℕ → Type 0
-HaveCapacity waiting returned buffer limit =
-    (waiting.capacity ≡ buffer) × (returned.capacity ≡ buffer + limit)

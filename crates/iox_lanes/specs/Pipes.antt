@@ -1,5 +1,5 @@
 -- All lanes from one port to another, as callers see them.
-use Rattle.std.specs.Prelude.{◌≡◌, ◌<◌, ◌≤◌, ℕ, Bool, false, List, Option, Some, slice_get, slice_set, replicate}
+use Rattle.std.specs.Prelude.{◌≡◌, ℕ, Bool, false, List, Option, Some, slice_get, slice_set, replicate}
 use Rattle.std.specs.List.{list_any, position_from}
 use Rattle.std.specs.Option.{option_map_or}
 use Rattle.iox_model.specs.declared.way.RequestState.{RequestState}
@@ -66,17 +66,3 @@ closed p lane id = with_state (λ s. closed_for s id) p lane
 -- its client lost interest, if it is open
 abbrev pub hinted : PipeState → ℕ → ℕ → PipeState
 hinted p lane id = with_state (λ s. hinted_for s id) p lane
-
--- ---- only for proofs of this crate
-
--- whether something is left to get back on the lane of that number
-abbrev pub has_returned_at : List LaneState → ℕ → Bool
-has_returned_at lanes k = option_map_or has_returned (slice_get lanes k) false
-
--- on no lane below that number is anything left to get back
-abbrev pub NoneToGetBelow : ℕ → List LaneState → Type 0
-NoneToGetBelow n lanes = (k : ℕ) → k < n → has_returned_at lanes k ≡ false
-
--- on no lane from that number on is anything left to get back
-abbrev pub NoneToGetFrom : ℕ → List LaneState → Type 0
-NoneToGetFrom n lanes = (k : ℕ) → n ≤ k → has_returned_at lanes k ≡ false

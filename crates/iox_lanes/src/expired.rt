@@ -9,7 +9,7 @@ ghost use Rattle.iox_lanes.specs.Incomings.{IncomingState, all_visited_of, given
 use crate::incoming::Visits;
 use crate::pipe::{Next, Pipe};
 use crate::search::LaneVisit;
-use crate::steps::{LaneStep, StateStep};
+use crate::steps::{LaneStep, PipeStep, StateStep};
 use crate::wanted::{Labels, Wanted};
 use circular_buffer::HeapCircularBuffer;
 use std::alloc::{AllocError, Global};
@@ -129,6 +129,18 @@ impl Expired {
         ensures { option_copied result ≡ slice_get self.now.pipes rank }
     {
         self.pipes.get(rank)
+    }
+
+    /// Takes a step on the pipe of that rank.
+    #[inline]
+    pub fn on_pipe<S: PipeStep>(&mut self, rank: usize, step: &S) -> S::Answer
+        ensures told { result ≡ on_pipe (S.told step.now) (S.none step.now) self.old rank }
+        ensures changed { self.new ≡ with_pipe (S.changed step.now) self.old rank }
+    {
+        let Some(pipe) = self.pipes.get_mut(rank) else {
+            return step.nothing();
+        };
+        step.step(pipe)
     }
 
     /// Takes a step on that lane of the pipe of that rank.

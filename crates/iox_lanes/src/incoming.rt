@@ -5,11 +5,11 @@ ghost use Rattle.std.specs.Vec.{vec_capacity};
 ghost use Rattle.iox_lanes.specs.Lanes.{without_returned};
 ghost use Rattle.iox_lanes.specs.Pipes.{lane_to_get, on_lane, with_lane, with_state};
 ghost use Rattle.iox_lanes.specs.Visited.{all_visited, all_visits};
-ghost use Rattle.iox_lanes.specs.Incomings.{IncomingState, all_visited_of, connected, disconnected, has_room_for, has_waiting_from_any, no_pipes, on_pipe_by, rank_from, with_pipe_by};
+ghost use Rattle.iox_lanes.specs.Incomings.{IncomingState, IsFirstAt, all_visited_of, connected, disconnected, has_room_for, has_waiting_from_any, no_pipes, on_pipe_by, rank_from, with_pipe_by};
 
 use crate::pipe::{Next, Pipe};
 use crate::search::LaneVisit;
-use crate::steps::{LaneStep, StateStep};
+use crate::steps::{LaneStep, PipeStep, StateStep};
 use crate::wanted::{Labels, Wanted};
 use std::alloc::{AllocError, Global};
 use std::marker::Model;
@@ -98,6 +98,22 @@ impl Incoming {
         self.pipes.iter().position(|pipe| pipe.sender() == sender)
     }
 
+    /// The same, which is looked for at the hint first.
+    #[inline]
+    #[tactic(auto, using(crate::proofs::Senders::first_at))]
+    pub fn rank_at(&self, sender: u64, hint: usize) -> Option<usize>
+        requires once { IsFirstAt self.now.pipes hint }
+        ensures first { result ≡ rank_from self.now.pipes sender }
+        ensures within { IfSome result (λ rank. rank < length self.now.pipes) }
+    {
+        if hint < self.pipes.len() {
+            if self.pipes[hint].sender() == sender {
+                return Some(hint);
+            }
+        }
+        self.rank(sender)
+    }
+
     /// Connects one more port, and says whether there was room.
     pub fn connect(&mut self, pipe: Pipe) -> bool
         ensures room { result ≡ has_room_for self.old }
@@ -143,6 +159,32 @@ impl Incoming {
             Some(rank) => Some(&self.pipes[rank]),
             None => None,
         }
+    }
+
+    /// Takes a step on the pipe from this sender.
+    #[inline]
+    pub fn on_pipe<S: PipeStep>(&mut self, sender: u64, step: &S) -> S::Answer
+        ensures told { result ≡ on_pipe_by (S.told step.now) (S.none step.now) self.old sender }
+        ensures changed { self.new ≡ with_pipe_by (S.changed step.now) self.old sender }
+    {
+        let Some(rank) = self.rank(sender) else {
+            return step.nothing();
+        };
+        step.step(&mut self.pipes[rank])
+    }
+
+    /// The same, where the pipe is looked for at the hint first.
+    #[inline]
+    pub fn on_pipe_at<S: PipeStep>(&mut self, sender: u64, hint: usize, step: &S) -> S::Answer
+        requires once { IsFirstAt self.old.pipes hint }
+        ensures told { result ≡ on_pipe_by (S.told step.now) (S.none step.now) self.old sender }
+        ensures changed { self.new ≡ with_pipe_by (S.changed step.now) self.old sender }
+    {
+        let Some(rank) = self.rank_at(sender, hint) else {
+            return step.nothing();
+        };
+        let pipe = &mut self.pipes[rank];
+        step.step(pipe)
     }
 
     /// Takes a step on that lane of the pipe from this sender.

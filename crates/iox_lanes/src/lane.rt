@@ -1,9 +1,11 @@
 //! What waits for a receiver, what it has, and what it gave back.
-ghost use Rattle.std.specs.Prelude.{◌≡◌, ◌+◌, ◌-◌, ◌<◌, ◌≤◌, ◌^◌, ◌==◌, if◌then◌else◌, IfOk, IfSome, OnSome, length, slice_get};
+ghost use Rattle.std.specs.Bool.{OnTrue};
+ghost use Rattle.std.specs.Prelude.{◌≡◌, [], ◌∷◌, ◌+◌, ◌-◌, ◌<◌, ◌≤◌, ◌^◌, ◌==◌, if◌then◌else◌, IfOk, IfSome, OnSome, Some, length, slice_get, true};
 ghost use Rattle.iox_model.specs.Maps.{is_empty};
 ghost use Rattle.iox_lanes.specs.Lanes.{HasOneInHand, IsSound, offered, empty_lane, has_returned, has_room, is_at_limit, is_full, is_taken, oldest, oldest_returned, oldest_taken, outstanding, places, rank_in, released, returned_times, with_returned, with_taken, without_first, without_oldest, without_returned, without_taken};
+ghost use Rattle.iox_lanes.specs.PipeSteps.{pushed, pushed_out};
 
-use iox_queues::spsc::index_queue::IndexQueue;
+use crate::cells::Cells;
 use std::alloc::{AllocError, Global};
 use std::marker::Model;
 
@@ -14,25 +16,29 @@ use std::marker::Model;
 #[derive(Drop)]
 pub struct Lane {
     pool: usize,
-    waiting: IndexQueue,
-    returned: IndexQueue,
+    waiting: Cells,
+    returned: Cells,
     taken: Vec<u64>,
-    buffer: usize,
     limit: usize,
+    // how many messages were ever delivered, and how many were ever given back
+    deliveries: u64,
+    returns: u64,
 }
 
 impl Model for Lane {
     ghost use Rattle.std.specs.Prelude.{◌≡◌, ◌+◌, ◌≤◌};
     ghost use Rattle.std.specs.Vec.{vec_capacity};
-    ghost use Rattle.iox_lanes.specs.Lanes.{HaveCapacity, IsSound, LaneState, lane_of};
+    ghost use Rattle.iox_lanes.specs.Lanes.{IsSound, LaneState, lane_of};
 
     ghost Value = { LaneState };
 
-    ghost view = { λ l. lane_of l.pool l.waiting l.returned l.taken.items l.buffer l.limit };
+    ghost view = { λ l.
+        lane_of l.pool l.waiting l.returned l.taken.items l.limit l.deliveries l.returns };
 
-    ghost invariant = { λ l. HaveCapacity l.waiting l.returned l.buffer l.limit
+    ghost invariant = { λ l. (l.returned.capacity ≡ l.waiting.capacity + l.limit)
         × (l.limit ≤ vec_capacity l.taken)
-        × IsSound (lane_of l.pool l.waiting l.returned l.taken.items l.buffer l.limit) };
+        × IsSound (lane_of l.pool l.waiting l.returned l.taken.items
+        l.limit l.deliveries l.returns) };
 }
 
 fn rank_of(places: &[u64], place: u64) -> Option<usize>
@@ -40,6 +46,18 @@ fn rank_of(places: &[u64], place: u64) -> Option<usize>
     ensures within { IfSome result (λ rank. rank < length places.now) }
 {
     places.iter().position(|other| *other == place)
+}
+
+/// Whether this is the only place.
+#[inline]
+#[tactic(auto, using(crate::proofs::Lone::one_place))]
+fn is_only(places: &[u64], place: u64) -> bool
+    ensures { OnTrue result (places.now ≡ place ∷ []) }
+{
+    if places.len() == 1 {
+        return places[0] == place;
+    }
+    false
 }
 
 /// One time more, if both places are one.
@@ -61,11 +79,12 @@ impl Lane {
     {
         Ok(Lane {
             pool,
-            waiting: IndexQueue::new(alloc, buffer)?,
-            returned: IndexQueue::new(alloc, buffer + limit)?,
+            waiting: Cells::new(alloc, buffer)?,
+            returned: Cells::new(alloc, buffer + limit)?,
             taken: Vec::with_capacity(alloc, limit)?,
-            buffer,
             limit,
+            deliveries: 0,
+            returns: 0,
         })
     }
 
@@ -110,7 +129,7 @@ impl Lane {
         ensures full { result ≡ is_full self.now }
         ensures sound { IsSound self.now }
     {
-        self.buffer <= self.waiting.len()
+        self.waiting.capacity() <= self.waiting.len()
     }
 
     /// Whether its receiver has as many messages as it may.
@@ -143,6 +162,18 @@ impl Lane {
         times
     }
 
+    /// Whether a message can be delivered.
+    #[inline]
+    fn has_room(&self) -> bool
+        ensures { result ≡ has_room self.now }
+    {
+        let most = self.returned.capacity();
+        let waiting = self.waiting.len();
+        waiting < self.waiting.capacity()
+            && waiting + self.returned.len() + self.taken.len() < most
+            && self.deliveries < u64::MAX
+    }
+
     // ---- its sender
 
     /// Puts a message last in line, and says whether there was room.
@@ -153,9 +184,10 @@ impl Lane {
         ensures room { result ≡ has_room self.old }
         ensures delivered { self.new ≡ offered self.old place }
     {
-        let most = self.returned.capacity();
-        if self.waiting.len() + self.returned.len() + self.taken.len() < most {
-            return self.waiting.push(place);
+        if self.has_room() {
+            self.waiting.push(place);
+            self.deliveries += 1;
+            return true;
         }
         false
     }
@@ -169,6 +201,23 @@ impl Lane {
         self.pull()
     }
 
+    /// Puts a message last in line. Where as many wait as may, the oldest is pushed out first: it
+    /// is its sender's again.
+    #[inline]
+    #[tactic(auto, unfolding(crate::specs::PipeSteps::pushed, crate::specs::PipeSteps::pushed_out))]
+    pub fn push(&mut self, place: u64) -> Option<u64>
+        ensures oldest { result ≡ pushed_out self.old }
+        ensures pushed { self.new ≡ pushed self.old place }
+    {
+        if self.is_full() {
+            let oldest = self.evict();
+            self.deliver(place);
+            return oldest;
+        }
+        self.deliver(place);
+        None
+    }
+
     /// Gets back the oldest message of those that were given back, if there is one.
     #[inline]
     pub fn get_back(&mut self) -> Option<u64>
@@ -176,6 +225,17 @@ impl Lane {
         ensures got_back { self.new ≡ without_returned self.old }
     {
         self.returned.pop()
+    }
+
+    /// Gets back the oldest message of those that were given back. There is one.
+    #[inline]
+    #[tactic(auto, using(crate::proofs::Returns::some_there))]
+    pub(crate) fn get_one_back(&mut self) -> u64
+        requires some { has_returned self.old ≡ true }
+        ensures oldest { Some result ≡ slice_get self.old.returned 0 }
+        ensures got_back { self.new ≡ without_returned self.old }
+    {
+        self.returned.take_first()
     }
 
     // ---- its receiver
@@ -204,6 +264,7 @@ impl Lane {
     }
 
     /// Gives a message back that its receiver has, and says whether it had it.
+    #[inline]
     pub fn release(&mut self, place: u64) -> bool
         ensures taken { result ≡ is_taken self.old place }
         ensures released { self.new ≡ released self.old place }
@@ -216,7 +277,21 @@ impl Lane {
     }
 
     /// Takes a message from its receiver, and says whether it had it.
+    #[inline]
     fn let_go(&mut self, place: u64) -> bool
+        ensures taken { result ≡ is_taken self.old place }
+        ensures left { self.new ≡ without_taken self.old place }
+        ensures hand { OnSome (rank_in self.old.taken place) (HasOneInHand self.new) }
+    {
+        if is_only(&self.taken, place) {
+            self.taken.take_last();
+            return true;
+        }
+        self.let_go_of(place)
+    }
+
+    /// The same, where it may have several.
+    fn let_go_of(&mut self, place: u64) -> bool
         ensures taken { result ≡ is_taken self.old place }
         ensures left { self.new ≡ without_taken self.old place }
         ensures hand { OnSome (rank_in self.old.taken place) (HasOneInHand self.new) }
@@ -268,9 +343,8 @@ impl Lane {
         requires hand { HasOneInHand self.old }
         ensures { self.new ≡ with_returned self.old place }
     {
-        if !self.returned.push(place) {
-            unreachable!();
-        }
+        self.returned.push(place);
+        self.returns += 1;
     }
 
     /// Counts the message that is in its receiver's hand.
@@ -280,9 +354,6 @@ impl Lane {
         requires hand { HasOneInHand self.old }
         ensures { self.new ≡ with_taken self.old place }
     {
-        match self.taken.push(place) {
-            Ok(()) => {}
-            Err(_) => unreachable!(),
-        }
+        self.taken.push_reserved(place);
     }
 }

@@ -2,10 +2,13 @@
 //! A lane takes its memory when it is made, and never again.
 #![tactic(auto)]
 
+mod cells;
 pub mod expired;
 pub mod incoming;
 pub mod lane;
+mod marks;
 pub mod pipe;
+pub mod pipe_steps;
 pub mod search;
 pub mod states;
 pub mod steps;

@@ -2,11 +2,14 @@
 ghost use Rattle.std.specs.Option.{option_map};
 ghost use Rattle.std.specs.Prelude.{◌≡◌, ◌+◌, ◌-◌, ◌^◌, ◌<◌, ◌≤◌, IfOk, IfSome, None, Some, false, is_some, length, replicate, slice_get, take, true};
 ghost use Rattle.iox_lanes.specs.Lanes.{offered, empty_lane, has_room, has_waiting, is_full, is_taken, oldest, released, without_oldest, without_returned, returned_times};
-ghost use Rattle.iox_lanes.specs.Pipes.{IsSoundAt, NoneToGetBelow, PipeState, closed, has_returned_at, has_waiting_on_any, hinted, lane_to_get, new_pipe, on_lane, opened, with_lane};
+ghost use Rattle.iox_lanes.specs.Marks.{has_returned_at};
+ghost use Rattle.iox_lanes.specs.Pipes.{IsSoundAt, PipeState, closed, has_waiting_on_any, hinted, lane_to_get, new_pipe, on_lane, opened, with_lane};
+ghost use Rattle.iox_lanes.specs.PipeSteps.{pushed, pushed_out};
 ghost use Rattle.iox_lanes.specs.Searches.{state_on};
 ghost use Rattle.iox_lanes.specs.Visited.{pipe_visit, pipe_visited, pool_on};
 
 use crate::lane::Lane;
+use crate::marks::{MOST, next_to_get, with_mark, without_mark};
 use crate::search::{LaneVisit, visit_lane};
 use crate::states::{after_close, after_hint, state_of};
 use crate::wanted::{Labels, Wanted};
@@ -34,15 +37,13 @@ pub struct Pipe {
     sender: u64,
     lanes: Vec<Lane>,
     states: Vec<RequestState>,
-    // on no lane below is anything left to get back
-    none_below: usize,
-    // and on none from there on
-    none_from: usize,
+    // on which lanes something is left to get back
+    marks: u64,
 }
 
 impl Model for Pipe {
-    ghost use Rattle.std.specs.Prelude.{length, ◌≤◌};
-    ghost use Rattle.iox_lanes.specs.Pipes.{NoneToGetBelow, NoneToGetFrom, PipeState};
+    ghost use Rattle.iox_lanes.specs.Marks.{AreMarked};
+    ghost use Rattle.iox_lanes.specs.Pipes.{PipeState};
 
     ghost Value = { PipeState };
 
@@ -52,8 +53,7 @@ impl Model for Pipe {
       states = p.states.items;
     } };
 
-    ghost invariant = { λ p. NoneToGetBelow p.none_below p.lanes.items
-        × NoneToGetFrom p.none_from p.lanes.items × (p.none_from ≤ length p.lanes.items) };
+    ghost invariant = { λ p. AreMarked p.marks p.lanes.items };
 }
 
 fn new_lanes(
@@ -73,23 +73,12 @@ fn new_lanes(
     Ok(lanes)
 }
 
-/// The first lane between those numbers on which something is left to get back, or a number past
-/// the last of them.
-fn next_to_get(lanes: &[Lane], from: usize, to: usize) -> usize
-    requires below { NoneToGetBelow from lanes.now }
-    requires within { to ≤ length lanes.now }
-    ensures none { NoneToGetBelow result lanes.now }
-    ensures found { result < to → has_returned_at lanes.now result ≡ true }
+/// Takes the last lane out, if there is one.
+fn take_last(lanes: &mut Vec<Lane>) -> Option<Lane>
+    ensures last { result ≡ slice_get lanes.old.items (length lanes.old.items - 1) }
+    ensures left { lanes.new.items ≡ take (length lanes.old.items - 1) lanes.old.items }
 {
-    for lane in from..to {
-        if lanes[lane].has_returned() {
-            return lane;
-        }
-    }
-    if from < to {
-        return to;
-    }
-    from
+    lanes.pop()
 }
 
 impl Pipe {
@@ -111,8 +100,7 @@ impl Pipe {
             sender,
             lanes: new_lanes(alloc, lanes, pool, buffer, limit)?,
             states: vec![in alloc; RequestState::Closed; states]?,
-            none_below: 0,
-            none_from: lanes,
+            marks: 0,
         })
     }
 
@@ -199,7 +187,6 @@ impl Pipe {
 
     /// Puts a message last in line on that lane, and says whether there was room.
     #[inline]
-    #[tactic(auto, using(crate::proofs::Returns::kept))]
     pub fn deliver(&mut self, lane: usize, place: u64) -> bool
         ensures room { result ≡ on_lane has_room false self.old lane }
         ensures delivered { self.new ≡ with_lane (λ l. offered l place) self.old lane }
@@ -212,7 +199,6 @@ impl Pipe {
 
     /// Pushes the oldest message of that lane out, if any waits: it is its sender's again.
     #[inline]
-    #[tactic(auto, using(crate::proofs::Returns::kept))]
     pub fn evict(&mut self, lane: usize) -> Option<u64>
         ensures oldest { result ≡ on_lane oldest None self.old lane }
         ensures evicted { self.new ≡ with_lane without_oldest self.old lane }
@@ -223,33 +209,71 @@ impl Pipe {
         None
     }
 
-    /// Gets back the oldest message of those that were given back on that lane, if there is one.
+    /// Puts a message last in line on that lane. Where as many wait as may, the oldest is pushed
+    /// out first: it is its sender's again.
     #[inline]
-    #[tactic(auto, using(crate::proofs::Returns::kept))]
-    pub fn get_back(&mut self, lane: usize) -> Option<u64>
-        ensures oldest { result ≡ on_lane (λ l. slice_get l.returned 0) None self.old lane }
-        ensures got_back { self.new ≡ with_lane without_returned self.old lane }
+    pub fn push(&mut self, lane: usize, place: u64) -> Option<u64>
+        ensures oldest { result ≡ on_lane pushed_out None self.old lane }
+        ensures pushed { self.new ≡ with_lane (λ l. pushed l place) self.old lane }
     {
         if lane < self.lanes.len() {
-            return self.lanes[lane].get_back();
+            return self.lanes[lane].push(place);
         }
         None
     }
 
+    /// Gets back the oldest message of those that were given back on that lane, if there is one.
+    #[inline]
+    pub fn get_back(&mut self, lane: usize) -> Option<u64>
+        ensures oldest { result ≡ on_lane (λ l. slice_get l.returned 0) None self.old lane }
+        ensures got_back { self.new ≡ with_lane without_returned self.old lane }
+    {
+        if self.lanes.len() <= lane {
+            return None;
+        }
+        let l = &mut self.lanes[lane];
+        let oldest = l.get_back();
+        if l.has_returned() {
+            return oldest;
+        }
+        self.marks = without_mark(self.marks, lane);
+        oldest
+    }
+
+    /// Gets back the oldest message of those that were given back on that lane. There is one.
+    #[inline]
+    fn get_one_back(&mut self, lane: usize) -> u64
+        requires some { has_returned_at self.old.lanes lane ≡ true }
+        ensures oldest { on_lane (λ l. slice_get l.returned 0) None self.old lane ≡ Some result }
+        ensures got_back { self.new ≡ with_lane without_returned self.old lane }
+    {
+        let l = &mut self.lanes[lane];
+        let place = l.get_one_back();
+        if l.has_returned() {
+            return place;
+        }
+        self.marks = without_mark(self.marks, lane);
+        place
+    }
+
     /// The lowest lane on which something that was given back is left to get back, if there is one.
     #[inline]
-    #[tactic(auto, using(crate::proofs::Returns::to_get))]
     pub fn lane_to_get(&mut self) -> Option<usize>
         ensures lowest { result ≡ lane_to_get self.old }
         ensures unchanged { self.new ≡ self.old }
     {
-        let lane = next_to_get(&self.lanes, self.none_below, self.none_from);
-        if lane < self.none_from {
-            self.none_below = lane;
+        if self.marks == 0 {
+            return None;
+        }
+        let mark = self.marks.trailing_zeros() as usize;
+        if mark < MOST {
+            return Some(mark);
+        }
+        let lane = next_to_get(&self.lanes, MOST, self.lanes.len());
+        if lane < self.lanes.len() {
             return Some(lane);
         }
-        self.none_below = usize::MAX;
-        self.none_from = 0;
+        self.marks = 0;
         None
     }
 
@@ -266,9 +290,7 @@ impl Pipe {
         ensures unchanged { result ≡ None → self.new ≡ self.old }
     {
         let lane = self.lane_to_get()?;
-        let Some(place) = self.get_back(lane) else {
-            unreachable!();
-        };
+        let place = self.get_one_back(lane);
         let more = self.lane_to_get().is_some();
         Some(Next { lane, place, more })
     }
@@ -278,32 +300,33 @@ impl Pipe {
     /// Takes the oldest message on that lane that is wanted, unless the receiver has as many as it
     /// may.
     #[inline(always)]
-    #[tactic(auto, using(crate::proofs::Returns::kept))]
     pub fn visit<L: Labels>(&mut self, lane: usize, wanted: Wanted, labels: &L) -> LaneVisit
         ensures visit { result ≡ pipe_visit wanted (L.label_of labels.now) lane self.old }
         ensures visited { self.new ≡ pipe_visited wanted (L.label_of labels.now) lane self.old }
     {
-        if lane < self.lanes.len() {
-            self.none_below = self.none_below.min(lane);
-            self.none_from = self.none_from.max(lane + 1);
-            let l = &mut self.lanes[lane];
-            return visit_lane(l, wanted, labels, &self.states);
+        if self.lanes.len() <= lane {
+            return LaneVisit::Nothing;
         }
-        LaneVisit::Nothing
+        let l = &mut self.lanes[lane];
+        let visit = visit_lane(l, wanted, labels, &self.states);
+        if l.has_returned() {
+            self.marks = with_mark(self.marks, lane);
+            return visit;
+        }
+        visit
     }
 
     /// Gives a message of that lane back that the receiver has, and says whether it had it.
-    #[tactic(auto, using(crate::proofs::Returns::kept))]
     pub fn release(&mut self, lane: usize, place: u64) -> bool
         ensures taken { result ≡ on_lane (λ l. is_taken l place) false self.old lane }
         ensures released { self.new ≡ with_lane (λ l. released l place) self.old lane }
     {
-        if lane < self.lanes.len() {
-            let lower = self.none_below.min(lane);
-            let upper = self.none_from.max(lane + 1);
-            self.none_below = lower;
-            self.none_from = upper;
-            return self.lanes[lane].release(place);
+        if self.lanes.len() <= lane {
+            return false;
+        }
+        if self.lanes[lane].release(place) {
+            self.marks = with_mark(self.marks, lane);
+            return true;
         }
         false
     }
@@ -316,9 +339,8 @@ impl Pipe {
         ensures left { self.new
             ≡ record (self.old) { lanes = take (length self.old.lanes - 1) self.old.lanes } }
     {
-        let last = self.lanes.pop();
-        self.none_below = 0;
-        self.none_from = self.lanes.len();
+        let last = take_last(&mut self.lanes);
+        self.marks = without_mark(self.marks, self.lanes.len());
         last
     }
 

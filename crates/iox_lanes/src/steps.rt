@@ -1,8 +1,8 @@
-//! What is done to one lane, or to one request state, of a pipe.
+//! What is done to a pipe, to one of its lanes, or to one of its request states.
 ghost use Rattle.std.specs.Prelude.{◌≡◌};
 ghost use Rattle.iox_model.specs.declared.way.RequestState.{RequestState};
 ghost use Rattle.iox_lanes.specs.Lanes.{LaneState};
-ghost use Rattle.iox_lanes.specs.Pipes.{on_lane, with_lane, with_state};
+ghost use Rattle.iox_lanes.specs.Pipes.{PipeState, on_lane, with_lane, with_state};
 
 use crate::pipe::Pipe;
 
@@ -30,4 +30,22 @@ pub trait StateStep {
 
     fn step(&self, pipe: &mut Pipe, lane: usize)
         ensures { pipe.new ≡ with_state (changed self.now) pipe.old lane };
+}
+
+/// A step of a sender or a receiver on one pipe, and what it is told.
+pub trait PipeStep {
+    type Answer: Drop;
+
+    ghost changed: { Self → PipeState → PipeState };
+
+    ghost told: { Self → PipeState → Self.Answer };
+    // what is told where there is no such pipe
+    ghost none: { Self → Self.Answer };
+
+    fn nothing(&self) -> Self::Answer
+        ensures { result ≡ none self.now };
+
+    fn step(&self, pipe: &mut Pipe) -> Self::Answer
+        ensures told { result ≡ told self.now pipe.old }
+        ensures changed { pipe.new ≡ changed self.now pipe.old };
 }

@@ -41,7 +41,7 @@ pub(crate) fn loan<Q: Payload, QH: Words, P: Payload, PH: Words, H: Backpressure
         Kind::Client,
         Kind::ActiveRequest,
     ) {
-        Ok(Kind::Client) => lent(hub.lend_request(node, number, count, false)),
+        Ok(Kind::Client) => lent(hub.lend_request(node, number, NOWHERE, count, false)),
         Ok(Kind::ActiveRequest) => lent(hub.lend_response(node, number, NOWHERE, count, false)),
         Ok(_) => unreachable!(),
         Err(reply) => Ok(reply),

@@ -30,7 +30,7 @@ pub fn receive<Q: Payload, QH: Words, P: Payload, PH: Words, H: Backpressure, C>
         Kind::Server,
         Kind::PendingResponse,
     ) {
-        Ok(Kind::Server) => received(hub.receive_request(node, number)),
+        Ok(Kind::Server) => received(hub.receive_request(node, number, NOWHERE)),
         Ok(Kind::PendingResponse) => received(hub.receive_response(node, number, NOWHERE)),
         Ok(_) => unreachable!(),
         Err(reply) => reply,

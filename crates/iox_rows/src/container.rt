@@ -1,68 +1,150 @@
-//! The containers of one thread. A test calls them by helpers that promise nothing, since what it
-//! knows of each call would stand in the proof of all that come after.
-mod asked;
+//! The containers of one thread. A test is a list of what is asked and of what has to be answered,
+//! which `plays` asks: what is known of each answer would else stand in the proof of all that come
+//! after.
 mod callers;
 mod capacity_fixed;
 mod last_ticket;
 
-use crate::expected::{equal, holds};
+use crate::expected::holds;
+use crate::rows::{Answers, Row, plays};
+use crate::sets::callers::seventh;
 use iox_container::mpmc::container::{
     Container, ContainerAddFailure, ContainerHandle, ContainerRemoveError, ContainerState,
 };
 use iox_sets::mpmc::robust_unique_index_set::OwnerId;
-use iox_sets::mpmc::unique_index_set_enums::{
-    ReleaseMode, ReleaseState, UniqueIndexSetAcquireFailure, UniqueIndexSetNewError,
-};
+use iox_sets::mpmc::unique_index_set_enums::{ReleaseMode, ReleaseState, UniqueIndexSetNewError};
 use iox_words::CallbackProgression;
 use std::alloc::Global;
-use std::process::Abort;
-use std::test::Fail;
+use std::mem;
+
+/// What is asked, and what has to be answered. Owners and handles are told by their numbers.
+enum Asked {
+    Capacity(usize),
+    Len(usize),
+    IsEmpty(bool),
+    IsLocked(bool),
+    /// A value is added for an owner. Its handle gets this number, and its slot is this.
+    Add(u64, u64, usize, Result<usize, ContainerAddFailure>),
+    Remove(usize, ReleaseMode, Result<ReleaseState, ContainerRemoveError>),
+    /// Two handles differ.
+    Differ(usize, usize),
+    /// The handle of the first entry of a value, and how many were asked about.
+    Find(u64, Option<usize>, u8),
+    /// The same of the entry of a handle.
+    FindAt(usize, u8),
+    /// The entries of an owner are removed, or those of a value: which values were asked about
+    /// last, and how many.
+    Recover(u64, Option<u64>, ReleaseMode, ReleaseState, [u64; 2], u8),
+    /// The other container is asked from here on.
+    Turn,
+    /// A state is taken.
+    GetState,
+    /// Whether the state was brought up to date.
+    Update(bool),
+    IsStateOf(bool),
+    StateGet(usize, Option<u64>),
+    /// The slots and values of the entries that were told last, up to the value 0, the handle of
+    /// the last, and how many. What is lacking to two is `NONE` and 0.
+    Tells([usize; 2], [u64; 2], usize, u8),
+}
 
 const NOT_OWNED: ContainerRemoveError = ContainerRemoveError::ContainerHandleNotOwnedByContainer;
 
-fn made(alloc: Global, capacity: usize, id: u64) -> Result<Container<u64>, Fail> {
-    Ok(Container::<u64>::new(alloc, capacity, id)?)
+/// The handles that were answered, by their numbers.
+type Handles = [Option<ContainerHandle>; 4];
+
+/// The handle of a number, if there is one.
+fn handle(handles: &Handles, number: Option<usize>) -> Option<ContainerHandle> {
+    match number {
+        Some(number) if number < 4 => handles[number],
+        _ => None,
+    }
 }
 
-fn owner_of(number: u64) -> Result<OwnerId, Fail> {
-    Ok(OwnerId::new(number)?)
+/// Keeps a handle under a number, and tells its slot.
+fn keep(
+    handles: &mut Handles,
+    number: usize,
+    added: Result<ContainerHandle, ContainerAddFailure>,
+) -> Result<usize, ContainerAddFailure> {
+    match added {
+        Ok(handle) => {
+            if number < 4 {
+                handles[number] = Some(handle);
+            }
+            Ok(handle.index())
+        }
+        Err(failure) => Err(failure),
+    }
 }
 
-fn add(
-    container: &mut Container<u64>,
-    value: u64,
-    owner: OwnerId,
-) -> Result<ContainerHandle, ContainerAddFailure> {
-    container.add(value, owner)
+/// Whether the handle of a number was found, or none if no number is given.
+fn is_handle(handles: &Handles, number: Option<usize>, found: Option<ContainerHandle>) -> bool {
+    found.is_some() == number.is_some() && found == handle(handles, number)
 }
 
-fn remove(
-    container: &mut Container<u64>,
-    handle: ContainerHandle,
-) -> Result<ReleaseState, ContainerRemoveError> {
-    container.remove(handle, ReleaseMode::Default)
+/// The owner of this number, if it is not the greatest.
+fn owner(number: u64) -> Option<OwnerId> {
+    match OwnerId::new(number) {
+        Ok(owner) => Some(owner),
+        Err(_) => None,
+    }
 }
 
-fn find(container: &Container<u64>, wanted: u64) -> Option<ContainerHandle> {
-    container.find(|value, _| value == wanted)
-}
-
-fn find_any(container: &Container<u64>) -> Option<ContainerHandle> {
-    container.find(|_, _| true)
-}
-
-fn recover_all(container: &mut Container<u64>, owner: OwnerId) -> ReleaseState {
-    container.recover(owner, |_| true, ReleaseMode::LockIfLastIndex)
-}
-
-/// What a state shows of its first entry.
-fn shown(state: &ContainerState<u64>) -> [Option<(usize, u64)>; 2] {
-    let mut shown = [None; 2];
-    state.for_each(|handle, value| {
-        shown = [shown[1], Some((handle.index(), value))];
-        CallbackProgression::Continue
+/// The handle of the first entry of this value, and how many were asked about.
+fn found(container: &Container<u64>, wanted: u64) -> (Option<ContainerHandle>, u8) {
+    let mut calls = 0u8;
+    let found = container.find(|value, _| {
+        calls = calls.saturating_add(1);
+        value == wanted
     });
-    shown
+    (found, calls)
+}
+
+/// What a recovery answers, and which values it asked about last, and how many. It accepts all, or
+/// one.
+fn recovered(
+    container: &mut Container<u64>,
+    owner: OwnerId,
+    only: Option<u64>,
+    mode: ReleaseMode,
+) -> (ReleaseState, [u64; 2], u8) {
+    let mut asked = [0; 2];
+    let mut calls = 0u8;
+    let state = container.recover(
+        owner,
+        |value| {
+            asked = [asked[1], value];
+            calls = calls.saturating_add(1);
+            only == None || only == Some(value)
+        },
+        mode,
+    );
+    (state, asked, calls)
+}
+
+/// No slot.
+const NONE: usize = usize::MAX;
+
+/// The slots and values that a state tells last, if a listing stops at the value 0, the last one's
+/// handle, and how many.
+fn told(state: &ContainerState<u64>) -> ([usize; 2], [u64; 2], Option<ContainerHandle>, u8) {
+    let mut slots = [NONE; 2];
+    let mut values = [0; 2];
+    let mut last = None;
+    let mut calls = 0u8;
+    state.for_each(|handle, value| {
+        slots = [slots[1], handle.index()];
+        values = [values[1], value];
+        last = Some(handle);
+        calls = calls.saturating_add(1);
+        if value == 0 {
+            CallbackProgression::Stop
+        } else {
+            CallbackProgression::Continue
+        }
+    });
+    (slots, values, last, calls)
 }
 
 /// Whether the state is of the container, and was not up to date. It is now.
@@ -70,169 +152,230 @@ fn is_brought_up_to_date(container: &Container<u64>, state: &mut ContainerState<
     container.is_state_of(state) && container.update_state(state)
 }
 
-/// Removes what a state shows, and then brings the state up to date.
-fn state_lags(
-    rt: &impl Abort,
-    container: &mut Container<u64>,
-    handle: ContainerHandle,
-    state: &mut ContainerState<u64>,
-) {
-    equal(rt, state.get(0), Some(5));
-    equal(rt, shown(state), [None, Some((0, 5))]);
-    equal(rt, remove(container, handle), Ok(ReleaseState::Unlocked));
-    holds(rt, container.is_empty());
-    equal(rt, state.get(0), Some(5));
-    holds(rt, is_brought_up_to_date(container, state));
-    equal(rt, state.get(0), None);
-    equal(rt, state.get(2), None);
-    holds(rt, container.is_state_of(state));
-    holds(rt, !is_brought_up_to_date(container, state));
+/// Two containers of so many slots, a state of one, and handles of both.
+#[derive(Drop)]
+struct Watched {
+    alloc: Global,
+    container: Container<u64>,
+    other: Container<u64>,
+    state: ContainerState<u64>,
+    handles: Handles,
 }
 
-#[test]
-fn a_state_shows_an_entry_until_it_is_brought_up_to_date(rt: HostRuntime) -> Result<(), Fail> {
-    let mut container = made(rt.alloc(), 2, 1)?;
-    equal(&rt, container.capacity(), 2);
-    holds(&rt, container.is_empty());
-    let handle = add(&mut container, 5, owner_of(7)?)?;
-    equal(&rt, container.len(), 1);
-    let mut state = container.get_state(rt.alloc())?;
-    state_lags(&rt, &mut container, handle, &mut state);
-    let other = made(rt.alloc(), 2, 2)?;
-    holds(&rt, !other.is_state_of(&state));
-    Ok(())
-}
-
-fn foreign_is_refused(
-    rt: &impl Abort,
-    container: &mut Container<u64>,
-    other: &mut Container<u64>,
-) -> Result<(), Fail> {
-    let owner = owner_of(7)?;
-    let handle = add(container, 5, owner)?;
-    let foreign = add(other, 5, owner)?;
-    equal(rt, remove(container, foreign), Err(NOT_OWNED));
-    equal(rt, find_any(container), Some(handle));
-    equal(rt, find_any(other), Some(foreign));
-    Ok(())
-}
-
-#[test]
-fn a_handle_of_another_container_removes_nothing(rt: HostRuntime) -> Result<(), Fail> {
-    let mut container = made(rt.alloc(), 2, 1)?;
-    let mut other = made(rt.alloc(), 2, 2)?;
-    foreign_is_refused(&rt, &mut container, &mut other)
-}
-
-/// What the recovery answers, and what it asked about, if that is two values. It accepts only 7.
-fn recover_sevens(container: &mut Container<u64>, owner: OwnerId) -> (ReleaseState, [u64; 2]) {
-    let mut asked = [0; 2];
-    let state = container.recover(
-        owner,
-        |value| {
-            asked = [asked[1], value];
-            value == 7
+/// Whether that is answered of a state.
+fn answers_of_state(it: &mut Watched, asked: &Asked) -> bool {
+    match asked {
+        Asked::GetState => match it.container.get_state(it.alloc) {
+            Ok(state) => {
+                it.state = state;
+                true
+            }
+            Err(_) => false,
         },
-        ReleaseMode::LockIfLastIndex,
-    );
-    (state, asked)
-}
-
-fn owners_are_told_apart(rt: &impl Abort, container: &mut Container<u64>) -> Result<(), Fail> {
-    let first = owner_of(1)?;
-    let second = owner_of(2)?;
-    let kept = add(container, 5, first)?;
-    let other = add(container, 6, second)?;
-    let gone = add(container, 7, first)?;
-    let answer = recover_sevens(container, first);
-    equal(rt, answer, (ReleaseState::Unlocked, [5, 7]));
-    equal(rt, container.len(), 2);
-    equal(rt, remove(container, gone), Err(NOT_OWNED));
-    equal(rt, find(container, 6), Some(other));
-    equal(rt, recover_all(container, second), ReleaseState::Unlocked);
-    equal(rt, find_any(container), Some(kept));
-    equal(rt, recover_all(container, first), ReleaseState::Locked);
-    holds(rt, container.is_locked());
-    Ok(())
-}
-
-#[test]
-fn a_recovery_removes_what_its_owner_has(rt: HostRuntime) -> Result<(), Fail> {
-    let mut container = made(rt.alloc(), 4, 1)?;
-    owners_are_told_apart(&rt, &mut container)
-}
-
-/// The handle that is told last, and how many are, if a listing stops at the value 0.
-fn told_until_zero(state: &ContainerState<u64>) -> (Option<ContainerHandle>, u8) {
-    let mut last = None;
-    let mut calls = 0u8;
-    state.for_each(|handle, value| {
-        calls = calls.saturating_add(1);
-        last = Some(handle);
-        if value == 0 {
-            CallbackProgression::Stop
-        } else {
-            CallbackProgression::Continue
+        Asked::Update(wanted) => { is_brought_up_to_date(&it.container, &mut it.state) == *wanted }
+        Asked::IsStateOf(wanted) => it.container.is_state_of(&it.state) == *wanted,
+        Asked::StateGet(slot, wanted) => it.state.get(*slot) == *wanted,
+        Asked::Tells(slots, values, last, calls) => {
+            let last = handle(&it.handles, Some(*last));
+            told(&it.state) == (*slots, *values, last, *calls)
         }
-    });
-    (last, calls)
+        Asked::Turn => {
+            mem::swap(&mut it.container, &mut it.other);
+            true
+        }
+        _ => false,
+    }
 }
 
-/// Three entries, of which the second has the value 0. The handle of that is answered.
-fn add_three(container: &mut Container<u64>) -> Result<ContainerHandle, Fail> {
-    let owner = owner_of(7)?;
-    let _first = add(container, 1, owner)?;
-    let second = add(container, 0, owner)?;
-    let _third = add(container, 1, owner)?;
-    Ok(second)
+impl Answers<usize, Asked, UniqueIndexSetNewError> for Watched {
+    fn made(alloc: Global, capacity: usize) -> Result<Self, UniqueIndexSetNewError> {
+        let container = Container::<u64>::new(alloc, capacity, 1)?;
+        Ok(Watched {
+            alloc,
+            other: Container::<u64>::new(alloc, capacity, 2)?,
+            state: container.get_state(alloc)?,
+            container,
+            handles: [None; 4],
+        })
+    }
+
+    fn answers(&mut self, asked: &Asked) -> bool {
+        match asked {
+            Asked::Capacity(wanted) => self.container.capacity() == *wanted,
+            Asked::Len(wanted) => self.container.len() == *wanted,
+            Asked::IsEmpty(wanted) => self.container.is_empty() == *wanted,
+            Asked::IsLocked(wanted) => self.container.is_locked() == *wanted,
+            Asked::Add(value, of, number, wanted) => match owner(*of) {
+                Some(owner) => {
+                    let added = self.container.add(*value, owner);
+                    keep(&mut self.handles, *number, added) == *wanted
+                }
+                None => false,
+            },
+            Asked::Remove(number, mode, wanted) => match handle(&self.handles, Some(*number)) {
+                Some(handle) => self.container.remove(handle, *mode) == *wanted,
+                None => false,
+            },
+            Asked::Find(value, number, calls) => {
+                let (found, asked) = found(&self.container, *value);
+                is_handle(&self.handles, *number, found) && asked == *calls
+            }
+            Asked::Recover(of, only, mode, wanted, last, calls) => match owner(*of) {
+                Some(owner) => {
+                    let recovered = recovered(&mut self.container, owner, *only, *mode);
+                    recovered == (*wanted, *last, *calls)
+                }
+                None => false,
+            },
+            _ => answers_of_state(self, asked),
+        }
+    }
 }
 
 #[test]
-fn a_listing_stops_where_it_is_told(rt: HostRuntime) -> Result<(), Fail> {
-    let mut container = made(rt.alloc(), 3, 1)?;
-    let second = add_three(&mut container)?;
-    let state = container.get_state(rt.alloc())?;
-    equal(&rt, told_until_zero(&state), (Some(second), 2));
-    Ok(())
+fn containers_answer(rt: HostRuntime) {
+    const ROWS: &[Row<'_, usize, Asked, UniqueIndexSetNewError>] = &[
+        (
+            "a state shows an entry until it is brought up to date",
+            2,
+            &[
+                Asked::Capacity(2),
+                Asked::IsEmpty(true),
+                Asked::Add(5, 7, 0, Ok(0)),
+                Asked::Len(1),
+                Asked::GetState,
+                Asked::StateGet(0, Some(5)),
+                Asked::Tells([NONE, 0], [0, 5], 0, 1),
+                Asked::Remove(0, ReleaseMode::Default, Ok(ReleaseState::Unlocked)),
+                Asked::IsEmpty(true),
+                Asked::StateGet(0, Some(5)),
+                Asked::Update(true),
+                Asked::StateGet(0, None),
+                Asked::StateGet(2, None),
+                Asked::IsStateOf(true),
+                Asked::Update(false),
+                Asked::Turn,
+                Asked::IsStateOf(false),
+            ],
+            None,
+        ),
+        (
+            "a handle of another container removes nothing",
+            2,
+            &[
+                Asked::Add(5, 7, 0, Ok(0)),
+                Asked::Turn,
+                Asked::Add(5, 7, 1, Ok(0)),
+                Asked::Turn,
+                Asked::Remove(1, ReleaseMode::Default, Err(NOT_OWNED)),
+                Asked::Find(5, Some(0), 1),
+                Asked::Turn,
+                Asked::Find(5, Some(1), 1),
+            ],
+            None,
+        ),
+        (
+            "a recovery removes what its owner has",
+            4,
+            &[
+                Asked::Add(5, 1, 0, Ok(0)),
+                Asked::Add(6, 2, 1, Ok(1)),
+                Asked::Add(7, 1, 2, Ok(2)),
+                Asked::Recover(
+                    1,
+                    Some(7),
+                    ReleaseMode::LockIfLastIndex,
+                    ReleaseState::Unlocked,
+                    [5, 7],
+                    2,
+                ),
+                Asked::Len(2),
+                Asked::Remove(2, ReleaseMode::Default, Err(NOT_OWNED)),
+                Asked::Find(6, Some(1), 2),
+                Asked::Recover(
+                    2,
+                    None,
+                    ReleaseMode::LockIfLastIndex,
+                    ReleaseState::Unlocked,
+                    [0, 6],
+                    1,
+                ),
+                Asked::Find(5, Some(0), 1),
+                Asked::Recover(
+                    1,
+                    None,
+                    ReleaseMode::LockIfLastIndex,
+                    ReleaseState::Locked,
+                    [0, 5],
+                    1,
+                ),
+                Asked::IsLocked(true),
+            ],
+            None,
+        ),
+        (
+            "a listing stops where it is told",
+            3,
+            &[
+                Asked::Add(1, 7, 0, Ok(0)),
+                Asked::Add(0, 7, 1, Ok(1)),
+                Asked::Add(1, 7, 2, Ok(2)),
+                Asked::GetState,
+                Asked::Tells([0, 1], [1, 0], 1, 2),
+            ],
+            None,
+        ),
+        (
+            "each entry is asked about once, and none after a yes",
+            4,
+            &[
+                Asked::Add(5, 1, 0, Ok(0)),
+                Asked::Add(6, 2, 1, Ok(1)),
+                Asked::Add(7, 1, 2, Ok(2)),
+                Asked::Find(6, Some(1), 2),
+                Asked::Recover(
+                    1,
+                    Some(9),
+                    ReleaseMode::Default,
+                    ReleaseState::Unlocked,
+                    [5, 7],
+                    2,
+                ),
+                Asked::Len(3),
+            ],
+            None,
+        ),
+        (
+            "a capacity of zero is refused",
+            0,
+            &[],
+            Some(UniqueIndexSetNewError::CapacityIsZero),
+        ),
+        (
+            "a capacity past the greatest is refused",
+            16_777_215,
+            &[],
+            Some(UniqueIndexSetNewError::CapacityTooLarge),
+        ),
+    ];
+    plays::<usize, Asked, UniqueIndexSetNewError, Watched>(&rt, rt.alloc(), ROWS);
+}
+
+/// Whether an entry has the value yes.
+fn is_yes(value: bool, _: ContainerHandle) -> bool {
+    value
+}
+
+/// Whether a value that is no number is found again.
+fn comes_back(container: &mut Container<bool>, owner: OwnerId) -> bool {
+    match container.add(true, owner) {
+        Ok(handle) => container.find(is_yes) == Some(handle),
+        Err(_) => false,
+    }
 }
 
 #[test]
-fn a_value_that_is_no_number_comes_back(rt: HostRuntime) -> Result<(), Fail> {
-    let mut container = Container::<bool>::new(rt.alloc(), 1, 1)?;
-    let handle = container.add(true, OwnerId::new(7)?)?;
-    equal(&rt, container.find(|value, _| value), Some(handle));
-    Ok(())
-}
-
-#[test]
-fn capacities_are_refused_by_name(rt: HostRuntime) -> Result<(), Fail> {
-    let none = Container::<u64>::new(rt.alloc(), 0, 1);
-    equal(
-        &rt,
-        none.err(),
-        Some(UniqueIndexSetNewError::CapacityIsZero),
-    );
-    let many = Container::<u64>::new(rt.alloc(), 16_777_215, 1);
-    equal(
-        &rt,
-        many.err(),
-        Some(UniqueIndexSetNewError::CapacityTooLarge),
-    );
-    Ok(())
-}
-
-#[test]
-fn a_refusal_prints_its_name(rt: HostRuntime) -> Result<(), Fail> {
-    let full = ContainerAddFailure::from(UniqueIndexSetAcquireFailure::OutOfIndices);
-    let text = full.to_string(rt.alloc())?;
-    equal(&rt, text.as_str(), "ContainerAddFailure::OutOfSpace");
-    let locked = ContainerAddFailure::from(UniqueIndexSetAcquireFailure::IsLocked);
-    equal(&rt, locked, ContainerAddFailure::IsLocked);
-    let text = NOT_OWNED.to_string(rt.alloc())?;
-    equal(
-        &rt,
-        text.as_str(),
-        "ContainerRemoveError::ContainerHandleNotOwnedByContainer",
-    );
-    Ok(())
+fn a_value_that_is_no_number_comes_back(rt: HostRuntime) {
+    let mut container = Container::<bool>::new(rt.alloc(), 1, 1).expect(&rt, "a container");
+    holds(&rt, comes_back(&mut container, seventh()));
 }

@@ -8,7 +8,11 @@ mod container;
 #[cfg(test)]
 mod expected;
 #[cfg(test)]
+mod names;
+#[cfg(test)]
 mod queues;
+#[cfg(test)]
+mod rows;
 #[cfg(test)]
 mod sets;
 #[cfg(test)]

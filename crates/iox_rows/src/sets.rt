@@ -1,6 +1,6 @@
 //! The sets of one thread.
 mod bit_set;
-mod callers;
+pub mod callers;
 mod counting_bit_set;
 mod robust_unique_index_set;
 mod unique_index_set;

@@ -1,10 +1,8 @@
 ghost use Rattle.std.specs.Prelude.{◌≡◌, Some, length};
 
-use crate::expected::equal;
+use crate::expected::{equal, holds};
 use iox_words::{Words, ZeroCopySend};
-use std::fmt::Debug;
 use std::process::Abort;
-use std::test::Fail;
 
 /// Stores the words of a value in a list of their number, and reads the value back.
 fn there_and_back<T: Words>(value: T, list: &mut [u64]) -> Option<T>
@@ -18,16 +16,25 @@ fn there_and_back<T: Words>(value: T, list: &mut [u64]) -> Option<T>
     T::of_words(list)
 }
 
-fn has_words<T: Words + PartialEq + Debug>(rt: &impl Abort, value: T, words: &[u64]) {
-    assert_eq!(rt; T::WORDS, words.len());
-    for (index, word) in words.iter().enumerate() {
-        equal(rt, value.word(index), *word);
+/// Whether these are the words of the value, and the value is read back from them.
+fn is_told_by<T: Words + PartialEq>(value: T, words: &[u64]) -> bool {
+    if T::WORDS != words.len() {
+        return false;
     }
-    assert!(rt; T::of_words(words) == Some(value));
+    for index in 0..words.len() {
+        if value.word(index) != words[index] {
+            return false;
+        }
+    }
+    T::of_words(words) == Some(value)
 }
 
-fn has_no_value<T: Words + PartialEq + Debug>(rt: &impl Abort, words: &[u64]) {
-    assert!(rt; T::of_words(words).is_none());
+fn has_words<T: Words + PartialEq>(rt: &impl Abort, value: T, words: &[u64]) {
+    holds(rt, is_told_by(value, words));
+}
+
+fn has_no_value<T: Words>(rt: &impl Abort, words: &[u64]) {
+    holds(rt, T::of_words(words).is_none());
 }
 
 #[test]

@@ -52,7 +52,7 @@ fn lent<Q: Payload, QH: Words, P: Payload, PH: Words>(
     elements: usize,
 ) -> Option<Result<u64, LoanRefusal>> {
     is_so(rt, hub.has(0, client, Kind::Client, 0));
-    match hub.lend_request(0, client, elements, true) {
+    match hub.lend_request(0, client, 0, elements, true) {
         Lent::Handle(loan) => Some(Ok(loan.number)),
         Lent::Refused(refusal) => Some(Err(refusal)),
         Lent::OutOfMemory => None,

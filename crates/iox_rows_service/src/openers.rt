@@ -1,143 +1,225 @@
 //! What an opener and a creator are refused.
 mod callers;
 
-use crate::expected::{equal, holds};
+use crate::attributes::{Pair, is_missing, key, specifier, verifier};
+use crate::expected::equal;
 use callers::suits;
-use iox_attributes::{AttributeSpecifier, AttributeVerificationError, AttributeVerifier};
+use iox_attributes::{AttributeVerificationError, AttributeVerifier};
 use iox_model::reply::Refusal;
-use iox_names::attribute::{AttributeKey, AttributeValue};
 use iox_openers::{MessageTypes, ServiceDescription};
 use iox_types::{MessageTypeDetails, TypeDetail, TypeVariant};
-use std::test::Fail;
+use std::alloc::Global;
+use std::process::Abort;
 
 /// Messages of one number, whose place is a multiple of `alignment`.
-fn details(alignment: usize) -> Result<MessageTypeDetails, Fail> {
-    let details = MessageTypeDetails::from::<i64, (), i64>(TypeVariant::FixedSize)?;
-    let payload = TypeDetail::from_parts(TypeVariant::FixedSize, "i64", 8, alignment)?;
-    Ok(MessageTypeDetails { payload, ..details })
+fn details(rt: &impl Abort, alignment: usize) -> MessageTypeDetails {
+    let details = MessageTypeDetails::from::<i64, (), i64>(TypeVariant::FixedSize);
+    let payload = TypeDetail::from_parts(TypeVariant::FixedSize, "i64", 8, alignment);
+    MessageTypeDetails {
+        payload: payload.expect(rt, "a type"),
+        ..details.expect(rt, "types")
+    }
 }
 
-fn types(request: usize, response: usize) -> Result<MessageTypes, Fail> {
-    Ok(MessageTypes {
-        request: details(request)?,
-        response: details(response)?,
-    })
+/// The types of requests and responses with these alignments.
+fn types(rt: &impl Abort, alignments: (usize, usize)) -> MessageTypes {
+    MessageTypes {
+        request: details(rt, alignments.0),
+        response: details(rt, alignments.1),
+    }
 }
 
 /// A service with these alignments, and with the pairs (a, 1) and (b, 2).
-fn service(request: usize, response: usize) -> Result<ServiceDescription, Fail> {
-    let mut attributes = AttributeSpecifier::new();
-    for (key, value) in [("a", "1"), ("b", "2")] {
-        let (key, value) = (AttributeKey::new(key)?, AttributeValue::new(value)?);
-        attributes.try_define(&key, &value)?;
+fn service(rt: &impl Abort, alignments: (usize, usize)) -> ServiceDescription {
+    ServiceDescription {
+        types: types(rt, alignments),
+        attributes: specifier(rt, &[("a", "1"), ("b", "2")]),
     }
-    Ok(ServiceDescription {
-        types: types(request, response)?,
-        attributes,
-    })
 }
 
-fn verifier(pairs: &[(&str, &str)], keys: &[&str]) -> Result<AttributeVerifier, Fail> {
-    let mut verifier = AttributeVerifier::new();
-    for (key, value) in pairs {
-        let (key, value) = (AttributeKey::new(key)?, AttributeValue::new(value)?);
-        verifier.try_require(&key, &value)?;
+/// What comes of it.
+#[derive(Clone, Copy)]
+enum Came<'a> {
+    Fits,
+    OtherRequests,
+    OtherResponses,
+    Missing(&'a str),
+}
+
+/// An opener of a service with these alignments, and what is required.
+struct Row<'a> {
+    service: (usize, usize),
+    opener: (usize, usize),
+    pairs: &'a [Pair<'a>],
+    keys: &'a [&'a str],
+    came: Came<'a>,
+}
+
+/// Ends the test where the refusal of the row at that place is another one.
+fn is_refused(
+    rt: &impl Abort,
+    alloc: Global,
+    place: usize,
+    refusal: &Option<Refusal<AttributeVerificationError<'_>>>,
+    came: Came<'_>,
+) {
+    match (refusal, came) {
+        (None, Came::Fits) => (),
+        (Some(Refusal::IncompatibleRequestTypes), Came::OtherRequests) => (),
+        (Some(Refusal::IncompatibleResponseTypes), Came::OtherResponses) => (),
+        (Some(Refusal::IncompatibleAttributes(error)), Came::Missing(text)) => {
+            is_missing(rt, alloc, Some(error), Some(text));
+        }
+        _ => equal(rt, (place, false), (place, true)),
     }
-    for key in keys {
-        let key = AttributeKey::new(key)?;
-        verifier.try_require_key(&key)?;
+}
+
+/// Asks a service what an opener is refused, and ends the test where it is another refusal.
+fn asks(
+    rt: &impl Abort,
+    alloc: Global,
+    service: &ServiceDescription,
+    verifier: &AttributeVerifier,
+    place: usize,
+    row: &Row<'_>,
+) {
+    let types = types(rt, row.opener);
+    is_refused(
+        rt,
+        alloc,
+        place,
+        &service.opener_refusal(&types, verifier),
+        row.came,
+    );
+    equal(
+        rt,
+        (place, suits(service, &types, verifier)),
+        (place, matches!(row.came, Came::Fits)),
+    );
+}
+
+/// The same of a new service.
+fn opens(rt: &impl Abort, alloc: Global, place: usize, row: &Row<'_>) {
+    let service = service(rt, row.service);
+    let verifier = verifier(rt, row.pairs, row.keys);
+    asks(rt, alloc, &service, &verifier, place, row);
+}
+
+/// A service and an opener of the same types, which requires no attributes.
+const TYPES: Row<'static> = Row {
+    service: (8, 8),
+    opener: (8, 8),
+    pairs: &[],
+    keys: &[],
+    came: Came::Fits,
+};
+
+#[test]
+fn an_opener_is_told_what_it_lacks_first(rt: HostRuntime) {
+    const ROWS: &[Row<'static>] = &[
+        Row {
+            pairs: &[("b", "3"), ("a", "2")],
+            keys: &["c"],
+            came: Came::Missing("AttributeVerificationError::IncompatibleAttribute(a, 2)"),
+            ..TYPES
+        },
+        Row {
+            pairs: &[("a", "1"), ("a", "1")],
+            keys: &["d", "c"],
+            came: Came::Missing("AttributeVerificationError::NonExistingKey(d)"),
+            ..TYPES
+        },
+        Row {
+            pairs: &[("b", "2"), ("a", "1")],
+            keys: &["b", "a"],
+            ..TYPES
+        },
+        Row {
+            service: (16, 16),
+            ..TYPES
+        },
+        Row {
+            service: (16, 16),
+            opener: (16, 16),
+            ..TYPES
+        },
+        Row {
+            opener: (16, 8),
+            came: Came::OtherRequests,
+            ..TYPES
+        },
+        Row {
+            opener: (8, 16),
+            came: Came::OtherResponses,
+            ..TYPES
+        },
+        Row {
+            opener: (16, 16),
+            came: Came::OtherRequests,
+            ..TYPES
+        },
+        Row {
+            opener: (16, 8),
+            pairs: &[("b", "3")],
+            keys: &["c"],
+            came: Came::OtherRequests,
+            ..TYPES
+        },
+        Row {
+            opener: (8, 16),
+            pairs: &[("b", "3")],
+            keys: &["c"],
+            came: Came::OtherResponses,
+            ..TYPES
+        },
+    ];
+    for (place, row) in ROWS.iter().enumerate() {
+        opens(&rt, rt.alloc(), place, row);
     }
-    Ok(verifier)
 }
 
 #[test]
-fn an_opener_is_told_the_least_missing_pair(rt: HostRuntime) -> Result<(), Fail> {
-    let service = service(8, 8)?;
-    let verifier = verifier(&[("b", "3"), ("a", "2")], &["c"])?;
-    let refusal = service.opener_refusal(&types(8, 8)?, &verifier);
-    let (a, two) = (AttributeKey::new("a")?, AttributeValue::new("2")?);
-    let missing = AttributeVerificationError::IncompatibleAttribute(&a, &two);
-    equal(&rt, refusal, Some(Refusal::IncompatibleAttributes(missing)));
-    Ok(())
-}
-
-#[test]
-fn an_opener_is_told_the_first_missing_key(rt: HostRuntime) -> Result<(), Fail> {
-    let service = service(8, 8)?;
-    let verifier = verifier(&[("a", "1"), ("a", "1")], &["d", "c"])?;
-    let refusal = service.opener_refusal(&types(8, 8)?, &verifier);
-    let d = AttributeKey::new("d")?;
-    let missing = AttributeVerificationError::NonExistingKey(&d);
-    equal(&rt, refusal, Some(Refusal::IncompatibleAttributes(missing)));
-    holds(&rt, !suits(&service, &types(8, 8)?, &verifier));
-    Ok(())
-}
-
-#[test]
-fn an_opener_that_fits_is_not_refused(rt: HostRuntime) -> Result<(), Fail> {
-    let service = service(8, 8)?;
-    let verifier = verifier(&[("b", "2"), ("a", "1")], &["b", "a"])?;
-    equal(&rt, service.opener_refusal(&types(8, 8)?, &verifier), None);
-    holds(&rt, suits(&service, &types(8, 8)?, &verifier));
-    Ok(())
-}
-
-#[test]
-fn an_opener_is_compared_to_the_service(rt: HostRuntime) -> Result<(), Fail> {
-    let nothing = AttributeVerifier::new();
-    let wide = service(16, 16)?;
-    equal(&rt, wide.opener_refusal(&types(8, 8)?, &nothing), None);
-    equal(&rt, wide.opener_refusal(&types(16, 16)?, &nothing), None);
-    let requests = Some(Refusal::IncompatibleRequestTypes);
-    let responses = Some(Refusal::IncompatibleResponseTypes);
-    let narrow = service(8, 8)?;
+fn a_missing_key_is_that_of_the_opener(rt: HostRuntime) {
+    let service = service(&rt, (8, 8));
+    let verifier = verifier(&rt, &[("a", "1")], &["d", "c"]);
+    let d = key(&rt, "d");
+    let error = AttributeVerificationError::NonExistingKey(&d);
     equal(
         &rt,
-        narrow.opener_refusal(&types(16, 8)?, &nothing),
-        requests,
+        service.opener_refusal(&types(&rt, (8, 8)), &verifier),
+        Some(Refusal::IncompatibleAttributes(error)),
     );
-    equal(
-        &rt,
-        narrow.opener_refusal(&types(8, 16)?, &nothing),
-        responses,
+}
+
+/// Ends the test where a creator with these alignments is refused otherwise by what it gives.
+fn creates(
+    rt: &impl Abort,
+    alloc: Global,
+    place: usize,
+    given: (usize, usize),
+    own: (usize, usize),
+    came: Came<'_>,
+) {
+    let given = service(rt, given);
+    is_refused(
+        rt,
+        alloc,
+        place,
+        &given.creator_refusal(&types(rt, own)),
+        came,
     );
-    equal(
-        &rt,
-        narrow.opener_refusal(&types(16, 16)?, &nothing),
-        requests,
-    );
-    Ok(())
 }
 
 #[test]
-fn types_are_tested_before_attributes(rt: HostRuntime) -> Result<(), Fail> {
-    let service = service(8, 8)?;
-    let missing = verifier(&[("b", "3")], &["c"])?;
-    let requests = Some(Refusal::IncompatibleRequestTypes);
-    let responses = Some(Refusal::IncompatibleResponseTypes);
-    equal(
-        &rt,
-        service.opener_refusal(&types(16, 8)?, &missing),
-        requests,
-    );
-    equal(
-        &rt,
-        service.opener_refusal(&types(8, 16)?, &missing),
-        responses,
-    );
-    Ok(())
-}
-
-#[test]
-fn a_creator_is_compared_to_what_it_gives(rt: HostRuntime) -> Result<(), Fail> {
-    let given = service(16, 16)?;
-    equal(&rt, given.creator_refusal(&types(8, 8)?), None);
-    equal(&rt, given.creator_refusal(&types(16, 16)?), None);
-    let requests = Some(Refusal::IncompatibleRequestTypes);
-    let responses = Some(Refusal::IncompatibleResponseTypes);
-    let given = service(8, 8)?;
-    equal(&rt, given.creator_refusal(&types(16, 16)?), requests);
-    equal(&rt, given.creator_refusal(&types(16, 8)?), requests);
-    equal(&rt, given.creator_refusal(&types(8, 16)?), responses);
-    Ok(())
+fn a_creator_is_compared_to_what_it_gives(rt: HostRuntime) {
+    const ROWS: &[((usize, usize), (usize, usize), Came<'static>)] = &[
+        ((16, 16), (8, 8), Came::Fits),
+        ((16, 16), (16, 16), Came::Fits),
+        ((8, 8), (16, 16), Came::OtherRequests),
+        ((8, 8), (16, 8), Came::OtherRequests),
+        ((8, 8), (8, 16), Came::OtherResponses),
+    ];
+    for (place, (given, own, came)) in ROWS.iter().enumerate() {
+        creates(&rt, rt.alloc(), place, *given, *own, *came);
+    }
 }

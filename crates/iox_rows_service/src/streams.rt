@@ -110,57 +110,74 @@ fn read_all(stream: &mut Stream, kept: &mut Vec<u8>) -> Result<(), Fault> {
     Err(Fault::Read)
 }
 
+/// What comes of readers, or of writers, of these ways.
+struct Row<'a> {
+    ways: &'a [Way],
+    told: Result<(), Fault>,
+    text: &'a [u8],
+}
+
+/// One that has given or taken nothing yet.
+fn fresh(alloc: Global, way: &Way) -> Stream {
+    Stream {
+        way: *way,
+        text: Vec::new(alloc),
+        calls: 0,
+    }
+}
+
 /// Ends the test where a reader of one of these ways is read otherwise, or gives another text.
-fn reads(rt: &impl Abort, alloc: Global, ways: &[Way], told: Result<(), Fault>, text: &[u8]) {
-    for way in ways {
-        let mut stream = Stream {
-            way: *way,
-            text: Vec::new(alloc),
-            calls: 0,
-        };
+fn reads(rt: &impl Abort, alloc: Global, place: usize, row: &Row<'_>) {
+    for way in row.ways {
         let mut kept = Vec::new(alloc);
-        equal(rt, read_all(&mut stream, &mut kept), told);
-        equal(rt, kept.as_slice(), text);
+        let told = read_all(&mut fresh(alloc, way), &mut kept);
+        equal(rt, (place, way.most, told), (place, way.most, row.told));
+        equal(rt, (place, kept.as_slice()), (place, row.text));
     }
 }
 
 /// Ends the test where the text goes otherwise to a writer of one of these ways, or it has another.
-fn writes(rt: &impl Abort, alloc: Global, ways: &[Way], told: Result<(), Fault>, text: &[u8]) {
-    for way in ways {
-        let mut stream = Stream {
-            way: *way,
-            text: Vec::new(alloc),
-            calls: 0,
-        };
-        equal(rt, send(&mut stream, TEXT), told);
-        equal(rt, stream.text.as_slice(), text);
+fn writes(rt: &impl Abort, alloc: Global, place: usize, row: &Row<'_>) {
+    for way in row.ways {
+        let mut stream = fresh(alloc, way);
+        let told = send(&mut stream, TEXT);
+        equal(rt, (place, way.most, told), (place, way.most, row.told));
+        equal(rt, (place, stream.text.as_slice()), (place, row.text));
     }
 }
 
-const PIECES: &[Way] = &[
-    Way { most: 1, ..WHOLE },
-    Way { most: 2, ..WHOLE },
-    Way { most: 7, ..WHOLE },
-    WHOLE,
-    Way {
-        most: 100_000,
-        ..WHOLE
-    },
-];
+const PIECES: Row<'static> = Row {
+    ways: &[
+        Way { most: 1, ..WHOLE },
+        Way { most: 2, ..WHOLE },
+        Way { most: 7, ..WHOLE },
+        WHOLE,
+        Way {
+            most: 100_000,
+            ..WHOLE
+        },
+    ],
+    told: Ok(()),
+    text: TEXT,
+};
 
-/// Pieces of a few bytes, each behind a call that is interrupted.
-const INTERRUPTED: &[Way] = &[
-    Way {
-        most: 3,
-        interrupts: true,
-        ..WHOLE
-    },
-    Way {
-        most: 50,
-        interrupts: true,
-        ..WHOLE
-    },
-];
+/// Pieces of a few bytes, each behind a call that is interrupted and is tried again.
+const INTERRUPTED: Row<'static> = Row {
+    ways: &[
+        Way {
+            most: 3,
+            interrupts: true,
+            ..WHOLE
+        },
+        Way {
+            most: 50,
+            interrupts: true,
+            ..WHOLE
+        },
+    ],
+    told: Ok(()),
+    text: TEXT,
+};
 
 /// The first bytes, and then a failure.
 const FAILING: &[Way] = &[Way {
@@ -169,50 +186,49 @@ const FAILING: &[Way] = &[Way {
     ..WHOLE
 }];
 
-/// The first bytes, and then none.
-const FULL: &[Way] = &[Way { room: 10, ..WHOLE }];
-
-const STUCK: &[Way] = &[Way {
-    sticks: true,
-    ..WHOLE
-}];
-
 #[test]
-fn a_text_is_read_in_pieces_of_any_size(rt: HostRuntime) {
-    reads(&rt, rt.alloc(), PIECES, Ok(()), TEXT);
+fn a_text_is_read_in_pieces_of_any_size_up_to_a_failure(rt: HostRuntime) {
+    const ROWS: &[Row<'static>] = &[
+        PIECES,
+        INTERRUPTED,
+        Row {
+            ways: FAILING,
+            told: Err(Fault::Read),
+            text: b"ok\nok\nnode",
+        },
+    ];
+    for (place, row) in ROWS.iter().enumerate() {
+        reads(&rt, rt.alloc(), place, row);
+    }
 }
 
 #[test]
-fn a_read_that_was_interrupted_is_tried_again(rt: HostRuntime) {
-    reads(&rt, rt.alloc(), INTERRUPTED, Ok(()), TEXT);
-}
-
-#[test]
-fn a_read_that_fails_is_told_behind_what_came(rt: HostRuntime) {
-    reads(&rt, rt.alloc(), FAILING, Err(Fault::Read), b"ok\nok\nnode");
-}
-
-#[test]
-fn a_text_is_written_in_pieces_of_any_size(rt: HostRuntime) {
-    writes(&rt, rt.alloc(), PIECES, Ok(()), TEXT);
-}
-
-#[test]
-fn a_write_that_was_interrupted_is_tried_again(rt: HostRuntime) {
-    writes(&rt, rt.alloc(), INTERRUPTED, Ok(()), TEXT);
-}
-
-#[test]
-fn a_write_that_fails_is_told_behind_what_went(rt: HostRuntime) {
-    writes(&rt, rt.alloc(), FAILING, Err(Fault::Write), b"ok\nok\nnode");
-}
-
-#[test]
-fn a_write_that_takes_nothing_is_told_behind_what_went(rt: HostRuntime) {
-    writes(&rt, rt.alloc(), FULL, Err(Fault::Write), b"ok\nok\nnode");
-}
-
-#[test]
-fn a_flush_that_fails_is_told(rt: HostRuntime) {
-    writes(&rt, rt.alloc(), STUCK, Err(Fault::Write), TEXT);
+fn a_text_is_written_in_pieces_of_any_size_up_to_a_failure(rt: HostRuntime) {
+    const ROWS: &[Row<'static>] = &[
+        PIECES,
+        INTERRUPTED,
+        Row {
+            ways: FAILING,
+            told: Err(Fault::Write),
+            text: b"ok\nok\nnode",
+        },
+        // the first bytes, and then none
+        Row {
+            ways: &[Way { room: 10, ..WHOLE }],
+            told: Err(Fault::Write),
+            text: b"ok\nok\nnode",
+        },
+        // a flush that fails
+        Row {
+            ways: &[Way {
+                sticks: true,
+                ..WHOLE
+            }],
+            told: Err(Fault::Write),
+            text: TEXT,
+        },
+    ];
+    for (place, row) in ROWS.iter().enumerate() {
+        writes(&rt, rt.alloc(), place, row);
+    }
 }

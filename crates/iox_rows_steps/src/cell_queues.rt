@@ -1,16 +1,13 @@
 //! Worked runs of two parties at one queue of values of two words. A test is a list of what is done
 //! to a machine, which `plays` does: what is known of each call would else stand in the proof of
 //! all that come after.
-mod deeds;
 mod whole;
 
-use self::deeds::{Deed, goes, run, tells};
-use crate::expected::equal;
+use crate::expected::{equal, is_so};
 use iox_cell_queues::{CellCall, CellEvent, CellMachine, CellReply, CellSite};
 use iox_steps::{Entry, MachineError, Progress};
 use std::alloc::Global;
 use std::process::Abort;
-use std::test::Fail;
 
 /// A value whose two words differ.
 const FIRST: u128 = 7 * (1 << 64) + 8;
@@ -18,308 +15,332 @@ const FIRST: u128 = 7 * (1 << 64) + 8;
 /// Another.
 const SECOND: u128 = 9 * (1 << 64) + 10;
 
-/// A machine of an empty queue among twelve words, with one word before it, at this position.
+/// A machine of an empty queue among twelve words, with one word before it, of this capacity and at
+/// this position.
 fn machine_at(
-    alloc: Global,
     rt: &impl Abort,
-    capacity: usize,
-    position: u64,
-) -> Result<CellMachine<u128, 2>, Fail> {
-    let mut words = vec![in alloc; 0u64; 12]?;
-    assert!(rt; words.len() == 12 && capacity <= 4);
-    words[1] = position;
-    words[2] = position;
+    alloc: Global,
+    (capacity, position): (usize, u64),
+) -> CellMachine<u128, 2> {
+    let words = [0, position, position, 0, 0, 0, 0, 0, 0, 0, 0, 0];
+    let words = Vec::from_array(alloc, words).expect(rt, "twelve words");
+    assert!(rt; words.len() == 12 && capacity <= 4 && words[1] == words[2]);
     let site = CellSite {
         base: 1,
         capacity,
         width: 2,
     };
-    assert!(rt; words[1] == words[2] && words.len() == 12);
-    Ok(CellMachine::new(alloc, words, site)?)
+    CellMachine::new(alloc, words, site).expect(rt, "a machine")
 }
 
-/// Does what comes before a schedule, plays the schedule, and does what comes after. The queue has
-/// this capacity, and begins at this position.
-fn plays(
-    rt: &impl Abort,
-    alloc: Global,
-    (capacity, position): (usize, u64),
-    before: &[Deed],
-    schedule: &[Entry<CellCall<u128>>],
-    after: &[Deed],
-    told: &[CellEvent<u128>],
-) -> Result<(), Fail> {
-    let mut machine = machine_at(alloc, rt, capacity, position)?;
-    goes(rt, &mut machine, before)?;
-    run(&mut machine, schedule)?;
-    goes(rt, &mut machine, after)?;
-    equal(rt, machine.words().len(), 12);
-    tells(rt, &machine, told);
-    Ok(())
+/// What is done to a machine, and what has to come of it. Parties are told by their numbers.
+enum Deed<'a> {
+    /// A schedule is played.
+    Runs(&'a [Entry<CellCall<u128>>]),
+    /// The party begins a call.
+    Begins(usize, CellCall<u128>),
+    /// The next access of the party's call continues.
+    Goes(usize),
+    /// The party's call ends at the access of this number, with this reply.
+    Ends(usize, usize, CellReply<u128>),
+    /// The party begins a call, which ends so.
+    Calls(usize, CellCall<u128>, usize, CellReply<u128>),
+    /// The call is not begun.
+    Refuses(usize, CellCall<u128>, MachineError),
+    /// There is no access.
+    Stays(usize, MachineError),
+    /// The word of this number is this.
+    Word(usize, u64),
 }
 
-#[test]
-fn a_pop_meets_a_push_halfway_through_its_cell(rt: HostRuntime) -> Result<(), Fail> {
-    plays(
-        &rt,
-        rt.alloc(),
-        (1, 0),
-        &[],
-        &[
-            Entry::Begin(0, CellCall::Push(FIRST)),
-            Entry::Step(0),
-            Entry::Step(0),
-            Entry::Step(0),
-        ],
-        &[
-            Deed::Word(3, 7),
-            Deed::Word(4, 0),
-            Deed::Calls(1, CellCall::Pop, 2, CellReply::Popped(None)),
-            Deed::Ends(0, 2, CellReply::Pushed(true)),
-            Deed::Calls(1, CellCall::Pop, 5, CellReply::Popped(Some(FIRST))),
-        ],
-        &[
-            CellEvent::SeesRoom,
-            CellEvent::SeesEmpty,
-            CellEvent::Publish(FIRST),
-            CellEvent::SeesWaiting,
-            CellEvent::HandOut(FIRST),
-        ],
-    )
+/// What is done to a new machine, and the events that it tells then.
+struct Row<'a> {
+    name: &'a str,
+    at: (usize, u64),
+    deeds: &'a [Deed<'a>],
+    told: &'a [CellEvent<u128>],
 }
 
-#[test]
-fn a_push_goes_on_while_a_pop_loads_its_cell(rt: HostRuntime) -> Result<(), Fail> {
-    plays(
-        &rt,
-        rt.alloc(),
-        (2, 0),
-        &[Deed::Calls(0, CellCall::Push(FIRST), 5, CellReply::Pushed(true))],
-        &[
-            Entry::Begin(1, CellCall::Pop),
-            Entry::Step(1),
-            Entry::Begin(0, CellCall::Push(SECOND)),
-            Entry::Step(0),
-            Entry::Step(1),
-            Entry::Step(0),
-            Entry::Step(1),
-            Entry::Step(0),
-            Entry::Step(0),
-            Entry::Step(1),
-        ],
-        &[
-            Deed::Ends(1, 1, CellReply::Popped(Some(FIRST))),
-            Deed::Ends(0, 1, CellReply::Pushed(true)),
-            Deed::Calls(1, CellCall::Pop, 5, CellReply::Popped(Some(SECOND))),
-        ],
-        &[
-            CellEvent::SeesRoom,
-            CellEvent::Publish(FIRST),
-            CellEvent::SeesWaiting,
-            CellEvent::SeesRoom,
-            CellEvent::HandOut(FIRST),
-            CellEvent::Publish(SECOND),
-            CellEvent::SeesWaiting,
-            CellEvent::HandOut(SECOND),
-        ],
-    )
+/// One access.
+fn step(
+    machine: &mut CellMachine<u128, 2>,
+    party: usize,
+) -> Result<Progress<CellReply<u128>>, MachineError> {
+    machine.step(party)
 }
 
-#[test]
-fn looks_say_what_they_see(rt: HostRuntime) -> Result<(), Fail> {
-    plays(
-        &rt,
-        rt.alloc(),
-        (1, 5),
-        &[
-            Deed::Calls(0, CellCall::IsFull, 2, CellReply::Full(false)),
-            Deed::Calls(1, CellCall::IsEmpty, 2, CellReply::Empty(true)),
-            Deed::Calls(0, CellCall::Push(FIRST), 5, CellReply::Pushed(true)),
-            Deed::Calls(0, CellCall::IsFull, 2, CellReply::Full(true)),
-            Deed::Calls(1, CellCall::IsEmpty, 2, CellReply::Empty(false)),
-        ],
-        &[],
-        &[],
-        &[
-            CellEvent::SeesRoom,
-            CellEvent::SeesEmpty,
-            CellEvent::SeesRoom,
-            CellEvent::Publish(FIRST),
-            CellEvent::SeesFull,
-            CellEvent::SeesWaiting,
-        ],
-    )
+/// Begins a call.
+fn begin(
+    machine: &mut CellMachine<u128, 2>,
+    party: usize,
+    call: CellCall<u128>,
+) -> Result<(), MachineError> {
+    machine.begin(party, call)
+}
+
+/// Whether the party's call ends at the access of this number, with this reply.
+fn ends(
+    machine: &mut CellMachine<u128, 2>,
+    party: usize,
+    steps: usize,
+    reply: CellReply<u128>,
+) -> bool {
+    for _ in 1..steps {
+        if step(machine, party) != Ok(Progress::Going) {
+            return false;
+        }
+    }
+    step(machine, party) == Ok(Progress::Done(reply))
+}
+
+/// Does it, and says whether that comes of it.
+fn does(machine: &mut CellMachine<u128, 2>, deed: &Deed<'_>) -> bool {
+    match deed {
+        Deed::Runs(schedule) => machine.run(*schedule).is_ok(),
+        Deed::Begins(party, call) => begin(machine, *party, *call).is_ok(),
+        Deed::Goes(party) => step(machine, *party) == Ok(Progress::Going),
+        Deed::Ends(party, steps, reply) => ends(machine, *party, *steps, *reply),
+        Deed::Calls(party, call, steps, reply) => {
+            begin(machine, *party, *call).is_ok() && ends(machine, *party, *steps, *reply)
+        }
+        Deed::Refuses(party, call, error) => begin(machine, *party, *call) == Err(*error),
+        Deed::Stays(party, error) => step(machine, *party) == Err(*error),
+        Deed::Word(index, value) => machine.words().get(*index).copied() == Some(*value),
+    }
+}
+
+/// Does all of it, and ends the test if something else comes of it.
+fn goes(rt: &impl Abort, machine: &mut CellMachine<u128, 2>, row: &Row<'_>) {
+    for (place, deed) in row.deeds.iter().enumerate() {
+        is_so(rt, row.name, place, does(machine, deed));
+    }
+    is_so(rt, row.name, row.deeds.len(), machine.events() == row.told);
+    is_so(rt, row.name, row.deeds.len(), machine.words().len() == 12);
+}
+
+/// The same of a new machine.
+fn plays(rt: &impl Abort, alloc: Global, row: &Row<'_>) {
+    let mut machine = machine_at(rt, alloc, row.at);
+    goes(rt, &mut machine, row);
 }
 
 #[test]
-fn a_look_goes_by_what_it_loaded_first(rt: HostRuntime) -> Result<(), Fail> {
-    plays(
-        &rt,
-        rt.alloc(),
-        (1, 0),
-        &[],
-        &[
-            Entry::Begin(1, CellCall::IsEmpty),
-            Entry::Step(1),
-            Entry::Begin(0, CellCall::Push(FIRST)),
-            Entry::Step(0),
-            Entry::Step(0),
-            Entry::Step(0),
-            Entry::Step(0),
-            Entry::Step(0),
-        ],
-        &[
-            Deed::Ends(1, 1, CellReply::Empty(false)),
-            Deed::Begins(0, CellCall::IsFull),
-            Deed::Goes(0),
-            Deed::Calls(1, CellCall::Pop, 5, CellReply::Popped(Some(FIRST))),
-            Deed::Ends(0, 1, CellReply::Full(false)),
-        ],
-        &[
-            CellEvent::SeesRoom,
-            CellEvent::Publish(FIRST),
-            CellEvent::SeesWaiting,
-            CellEvent::SeesWaiting,
-            CellEvent::HandOut(FIRST),
-            CellEvent::SeesRoom,
-        ],
-    )
+fn two_parties_meet_at_a_queue_of_values(rt: HostRuntime) {
+    const ROWS: &[Row<'_>] = &[
+        Row {
+            name: "a pop meets a push halfway through its cell",
+            at: (1, 0),
+            deeds: &[
+                Deed::Runs(&[
+                    Entry::Begin(0, CellCall::Push(FIRST)),
+                    Entry::Step(0),
+                    Entry::Step(0),
+                    Entry::Step(0),
+                ]),
+                Deed::Word(3, 7),
+                Deed::Word(4, 0),
+                Deed::Calls(1, CellCall::Pop, 2, CellReply::Popped(None)),
+                Deed::Ends(0, 2, CellReply::Pushed(true)),
+                Deed::Calls(1, CellCall::Pop, 5, CellReply::Popped(Some(FIRST))),
+            ],
+            told: &[
+                CellEvent::SeesRoom,
+                CellEvent::SeesEmpty,
+                CellEvent::Publish(FIRST),
+                CellEvent::SeesWaiting,
+                CellEvent::HandOut(FIRST),
+            ],
+        },
+        Row {
+            name: "a push goes on while a pop loads its cell",
+            at: (2, 0),
+            deeds: &[
+                Deed::Calls(0, CellCall::Push(FIRST), 5, CellReply::Pushed(true)),
+                Deed::Runs(&[
+                    Entry::Begin(1, CellCall::Pop),
+                    Entry::Step(1),
+                    Entry::Begin(0, CellCall::Push(SECOND)),
+                    Entry::Step(0),
+                    Entry::Step(1),
+                    Entry::Step(0),
+                    Entry::Step(1),
+                    Entry::Step(0),
+                    Entry::Step(0),
+                    Entry::Step(1),
+                ]),
+                Deed::Ends(1, 1, CellReply::Popped(Some(FIRST))),
+                Deed::Ends(0, 1, CellReply::Pushed(true)),
+                Deed::Calls(1, CellCall::Pop, 5, CellReply::Popped(Some(SECOND))),
+            ],
+            told: &[
+                CellEvent::SeesRoom,
+                CellEvent::Publish(FIRST),
+                CellEvent::SeesWaiting,
+                CellEvent::SeesRoom,
+                CellEvent::HandOut(FIRST),
+                CellEvent::Publish(SECOND),
+                CellEvent::SeesWaiting,
+                CellEvent::HandOut(SECOND),
+            ],
+        },
+        Row {
+            name: "looks say what they see",
+            at: (1, 5),
+            deeds: &[
+                Deed::Calls(0, CellCall::IsFull, 2, CellReply::Full(false)),
+                Deed::Calls(1, CellCall::IsEmpty, 2, CellReply::Empty(true)),
+                Deed::Calls(0, CellCall::Push(FIRST), 5, CellReply::Pushed(true)),
+                Deed::Calls(0, CellCall::IsFull, 2, CellReply::Full(true)),
+                Deed::Calls(1, CellCall::IsEmpty, 2, CellReply::Empty(false)),
+            ],
+            told: &[
+                CellEvent::SeesRoom,
+                CellEvent::SeesEmpty,
+                CellEvent::SeesRoom,
+                CellEvent::Publish(FIRST),
+                CellEvent::SeesFull,
+                CellEvent::SeesWaiting,
+            ],
+        },
+        Row {
+            name: "a look goes by what it loaded first",
+            at: (1, 0),
+            deeds: &[
+                Deed::Runs(&[
+                    Entry::Begin(1, CellCall::IsEmpty),
+                    Entry::Step(1),
+                    Entry::Begin(0, CellCall::Push(FIRST)),
+                    Entry::Step(0),
+                    Entry::Step(0),
+                    Entry::Step(0),
+                    Entry::Step(0),
+                    Entry::Step(0),
+                ]),
+                Deed::Ends(1, 1, CellReply::Empty(false)),
+                Deed::Begins(0, CellCall::IsFull),
+                Deed::Goes(0),
+                Deed::Calls(1, CellCall::Pop, 5, CellReply::Popped(Some(FIRST))),
+                Deed::Ends(0, 1, CellReply::Full(false)),
+            ],
+            told: &[
+                CellEvent::SeesRoom,
+                CellEvent::Publish(FIRST),
+                CellEvent::SeesWaiting,
+                CellEvent::SeesWaiting,
+                CellEvent::HandOut(FIRST),
+                CellEvent::SeesRoom,
+            ],
+        },
+        Row {
+            name: "a full queue refuses",
+            at: (1, 0),
+            deeds: &[
+                Deed::Calls(0, CellCall::Push(FIRST), 5, CellReply::Pushed(true)),
+                Deed::Calls(0, CellCall::IsFull, 2, CellReply::Full(true)),
+                Deed::Calls(0, CellCall::Push(SECOND), 2, CellReply::Pushed(false)),
+                Deed::Calls(1, CellCall::Pop, 5, CellReply::Popped(Some(FIRST))),
+                Deed::Calls(1, CellCall::IsEmpty, 2, CellReply::Empty(true)),
+                Deed::Calls(1, CellCall::Pop, 2, CellReply::Popped(None)),
+            ],
+            told: &[
+                CellEvent::SeesRoom,
+                CellEvent::Publish(FIRST),
+                CellEvent::SeesFull,
+                CellEvent::SeesFull,
+                CellEvent::SeesWaiting,
+                CellEvent::HandOut(FIRST),
+                CellEvent::SeesEmpty,
+                CellEvent::SeesEmpty,
+            ],
+        },
+        Row {
+            name: "the last position is never passed",
+            at: (2, u64::MAX - 1),
+            deeds: &[
+                Deed::Calls(0, CellCall::Push(FIRST), 5, CellReply::Pushed(true)),
+                Deed::Calls(0, CellCall::Push(SECOND), 2, CellReply::Pushed(false)),
+                Deed::Calls(1, CellCall::Pop, 5, CellReply::Popped(Some(FIRST))),
+                Deed::Calls(1, CellCall::Pop, 2, CellReply::Popped(None)),
+                Deed::Word(1, u64::MAX),
+            ],
+            told: &[
+                CellEvent::SeesRoom,
+                CellEvent::Publish(FIRST),
+                CellEvent::SeesEnd,
+                CellEvent::SeesWaiting,
+                CellEvent::HandOut(FIRST),
+                CellEvent::SeesEmpty,
+            ],
+        },
+        Row {
+            name: "a queue of no cells is full and empty",
+            at: (0, 3),
+            deeds: &[
+                Deed::Calls(0, CellCall::Push(FIRST), 2, CellReply::Pushed(false)),
+                Deed::Calls(0, CellCall::IsFull, 2, CellReply::Full(true)),
+                Deed::Calls(1, CellCall::Pop, 2, CellReply::Popped(None)),
+            ],
+            told: &[
+                CellEvent::SeesFull,
+                CellEvent::SeesFull,
+                CellEvent::SeesEmpty,
+            ],
+        },
+        Row {
+            name: "a refused entry changes nothing",
+            at: (2, 0),
+            deeds: &[
+                Deed::Refuses(2, CellCall::Pop, MachineError::UnknownParty),
+                Deed::Refuses(1, CellCall::Push(FIRST), MachineError::UnknownParty),
+                Deed::Refuses(0, CellCall::IsEmpty, MachineError::UnknownParty),
+                Deed::Stays(0, MachineError::AtRest),
+                Deed::Stays(2, MachineError::UnknownParty),
+                Deed::Begins(0, CellCall::Push(FIRST)),
+                Deed::Refuses(0, CellCall::IsFull, MachineError::Busy),
+                Deed::Ends(0, 5, CellReply::Pushed(true)),
+            ],
+            told: &[CellEvent::SeesRoom, CellEvent::Publish(FIRST)],
+        },
+    ];
+    for row in ROWS {
+        plays(&rt, rt.alloc(), row);
+    }
 }
 
-#[test]
-fn a_full_queue_refuses(rt: HostRuntime) -> Result<(), Fail> {
-    plays(
-        &rt,
-        rt.alloc(),
-        (1, 0),
-        &[
-            Deed::Calls(0, CellCall::Push(FIRST), 5, CellReply::Pushed(true)),
-            Deed::Calls(0, CellCall::IsFull, 2, CellReply::Full(true)),
-            Deed::Calls(0, CellCall::Push(SECOND), 2, CellReply::Pushed(false)),
-            Deed::Calls(1, CellCall::Pop, 5, CellReply::Popped(Some(FIRST))),
-            Deed::Calls(1, CellCall::IsEmpty, 2, CellReply::Empty(true)),
-            Deed::Calls(1, CellCall::Pop, 2, CellReply::Popped(None)),
-        ],
-        &[],
-        &[],
-        &[
-            CellEvent::SeesRoom,
-            CellEvent::Publish(FIRST),
-            CellEvent::SeesFull,
-            CellEvent::SeesFull,
-            CellEvent::SeesWaiting,
-            CellEvent::HandOut(FIRST),
-            CellEvent::SeesEmpty,
-            CellEvent::SeesEmpty,
-        ],
-    )
-}
-
-#[test]
-fn the_last_position_is_never_passed(rt: HostRuntime) -> Result<(), Fail> {
-    plays(
-        &rt,
-        rt.alloc(),
-        (2, u64::MAX - 1),
-        &[
-            Deed::Calls(0, CellCall::Push(FIRST), 5, CellReply::Pushed(true)),
-            Deed::Calls(0, CellCall::Push(SECOND), 2, CellReply::Pushed(false)),
-            Deed::Calls(1, CellCall::Pop, 5, CellReply::Popped(Some(FIRST))),
-            Deed::Calls(1, CellCall::Pop, 2, CellReply::Popped(None)),
-            Deed::Word(1, u64::MAX),
-        ],
-        &[],
-        &[],
-        &[
-            CellEvent::SeesRoom,
-            CellEvent::Publish(FIRST),
-            CellEvent::SeesEnd,
-            CellEvent::SeesWaiting,
-            CellEvent::HandOut(FIRST),
-            CellEvent::SeesEmpty,
-        ],
-    )
-}
-
-#[test]
-fn a_queue_of_no_cells_is_full_and_empty(rt: HostRuntime) -> Result<(), Fail> {
-    plays(
-        &rt,
-        rt.alloc(),
-        (0, 3),
-        &[
-            Deed::Calls(0, CellCall::Push(FIRST), 2, CellReply::Pushed(false)),
-            Deed::Calls(0, CellCall::IsFull, 2, CellReply::Full(true)),
-            Deed::Calls(1, CellCall::Pop, 2, CellReply::Popped(None)),
-        ],
-        &[],
-        &[],
-        &[
-            CellEvent::SeesFull,
-            CellEvent::SeesFull,
-            CellEvent::SeesEmpty,
-        ],
-    )
-}
-
-/// Plays a schedule at an empty queue of three values of no words, and makes an access of party 1.
-fn plays_counts(
-    rt: &impl Abort,
-    alloc: Global,
+/// Plays a schedule, and makes an access of party 1.
+fn answer_after(
+    machine: &mut CellMachine<(), 0>,
     schedule: &[Entry<CellCall<()>>],
-    answer: Progress<CellReply<()>>,
-    left: &[u64],
-) -> Result<(), Fail> {
-    let words = vec![in alloc; 0u64; 2]?;
+) -> Result<Progress<CellReply<()>>, MachineError> {
+    machine.run(schedule)?;
+    machine.step(1)
+}
+
+/// A machine of an empty queue of three values of no words.
+fn machine_of_counts(rt: &impl Abort, alloc: Global) -> CellMachine<(), 0> {
+    let words = Vec::from_array(alloc, [0u64; 2]).expect(rt, "two words");
     assert!(rt; words.len() == 2 && words[0] == words[1]);
     let site = CellSite {
         base: 0,
         capacity: 3,
         width: 0,
     };
-    let mut machine = CellMachine::<(), 0>::new(alloc, words, site)?;
-    machine.run(schedule)?;
-    equal(rt, machine.step(1)?, answer);
-    equal(rt, machine.words(), left);
-    Ok(())
+    CellMachine::<(), 0>::new(alloc, words, site).expect(rt, "a machine")
 }
 
 #[test]
-fn values_of_no_words_are_counted(rt: HostRuntime) -> Result<(), Fail> {
-    plays_counts(
-        &rt,
-        rt.alloc(),
-        &[
-            Entry::Begin(0, CellCall::Push(())),
-            Entry::Step(0),
-            Entry::Step(0),
-            Entry::Step(0),
-            Entry::Begin(1, CellCall::Pop),
-            Entry::Step(1),
-            Entry::Step(1),
-        ],
-        Progress::Done(CellReply::Popped(Some(()))),
-        &[1, 1],
-    )
-}
-
-#[test]
-fn a_refused_entry_changes_nothing(rt: HostRuntime) -> Result<(), Fail> {
-    plays(
-        &rt,
-        rt.alloc(),
-        (2, 0),
-        &[
-            Deed::Refuses(2, CellCall::Pop, MachineError::UnknownParty),
-            Deed::Refuses(1, CellCall::Push(FIRST), MachineError::UnknownParty),
-            Deed::Refuses(0, CellCall::IsEmpty, MachineError::UnknownParty),
-            Deed::Stays(0, MachineError::AtRest),
-            Deed::Stays(2, MachineError::UnknownParty),
-            Deed::Begins(0, CellCall::Push(FIRST)),
-            Deed::Refuses(0, CellCall::IsFull, MachineError::Busy),
-        ],
-        &[],
-        &[Deed::Ends(0, 5, CellReply::Pushed(true))],
-        &[CellEvent::SeesRoom, CellEvent::Publish(FIRST)],
-    )
+fn values_of_no_words_are_counted(rt: HostRuntime) {
+    const SCHEDULE: &[Entry<CellCall<()>>] = &[
+        Entry::Begin(0, CellCall::Push(())),
+        Entry::Step(0),
+        Entry::Step(0),
+        Entry::Step(0),
+        Entry::Begin(1, CellCall::Pop),
+        Entry::Step(1),
+        Entry::Step(1),
+    ];
+    let mut machine = machine_of_counts(&rt, rt.alloc());
+    let answer = answer_after(&mut machine, SCHEDULE);
+    equal(&rt, answer, Ok(Progress::Done(CellReply::Popped(Some(())))));
+    equal(&rt, machine.words(), [1, 1].as_slice());
 }

@@ -12,3 +12,8 @@ pub fn equal<T: PartialEq + Debug + Drop>(rt: &impl Abort, value: T, wanted: T) 
 pub fn holds(rt: &impl Abort, fact: bool) {
     assert!(rt; fact);
 }
+
+/// Ends the test if this is not so of what stands at a place of the row of this name.
+pub fn is_so(rt: &impl Abort, name: &str, place: usize, fact: bool) {
+    assert!(rt; fact, "{name}: {place}");
+}

@@ -13,6 +13,8 @@ mod queue_calls;
 #[cfg(test)]
 mod queue_steps;
 #[cfg(test)]
+mod rows;
+#[cfg(test)]
 mod set_steps;
 #[cfg(test)]
 mod steps;

@@ -1,33 +1,23 @@
 //! Whole calls on the words of a queue. Of what a call promises, the helpers pass on what the next
 //! one needs.
-ghost use Rattle.std.specs.Prelude.{IfOk};
 ghost use Rattle.iox_queue_calls.specs.Lists.{HoldsQueue};
 
-use crate::expected::{equal, holds};
+use crate::expected::equal;
+use crate::rows::{self, Answers};
 use iox_queue_calls::{holds_when_empty, is_empty, is_full, pop, push, push_and_pop};
-use iox_queue_steps::{Call, StepAnswer, StoredQueue};
+use iox_queue_steps::Call;
 use iox_queues::spsc::index_queue::IndexQueue;
-use iox_queues::spsc::safely_overflowing_index_queue::SafelyOverflowingIndexQueue;
 use iox_steps::{QueueKind, QueueReply, Site};
 use std::alloc::{AllocError, Global};
 use std::process::Abort;
-use std::test::Fail;
 
-/// Eight words, with a word before the positions, which are both this.
-fn words_at(alloc: Global, position: u64) -> Result<Vec<u64>, Fail> {
-    Ok(Vec::from_array(alloc, [77, position, position, 0, 0, 0, 0, 0])?)
-}
-
-/// Such words, and an empty queue of two among them.
-fn queue_at(
-    alloc: Global,
-    rt: &impl Abort,
-    kind: QueueKind,
-    position: u64,
-) -> Result<(Vec<u64>, Site), Fail>
-    ensures { IfOk result (λ made. HoldsQueue made.1 made.0.items) }
+/// An empty queue of two among eight words, with a word before the positions, which are both this.
+fn queue_at(rt: &impl Abort, alloc: Global, at: (QueueKind, u64)) -> (Vec<u64>, Site)
+    ensures { HoldsQueue result.1 result.0.items }
 {
-    let words = words_at(alloc, position)?;
+    let (kind, position) = at;
+    let words = [77, position, position, 0, 0, 0, 0, 0];
+    let words = Vec::from_array(alloc, words).expect(rt, "eight words");
     let site = Site {
         kind,
         base: 1,
@@ -35,7 +25,7 @@ fn queue_at(
     };
     assert!(rt; words.len() == 8 && words[1] == words[2]);
     holds_when_empty(&words, site);
-    Ok((words, site))
+    (words, site)
 }
 
 /// A whole call.
@@ -51,6 +41,92 @@ fn call(words: &mut Vec<u64>, site: Site, call: Call) -> QueueReply
     }
 }
 
+/// Asks one call after another, and ends the test if one has another reply than stands beside it.
+fn goes(rt: &impl Abort, name: &str, words: &mut Vec<u64>, site: Site, list: &[(Call, QueueReply)])
+    requires { HoldsQueue site words.old.items }
+{
+    for row in list {
+        let reply = call(words, site, row.0);
+        equal(rt, (name, reply), (name, row.1));
+    }
+}
+
+/// Calls on a new queue of this kind and at this position, with their replies.
+struct Row<'a> {
+    name: &'a str,
+    at: (QueueKind, u64),
+    list: &'a [(Call, QueueReply)],
+}
+
+/// The same of a new queue. The words around it stay.
+fn plays(rt: &impl Abort, alloc: Global, row: &Row<'_>) {
+    let (mut words, site) = queue_at(rt, alloc, row.at);
+    goes(rt, row.name, &mut words, site, row.list);
+    let around = (words.len(), words.first().copied(), words.get(6).copied());
+    equal(rt, around, (8, Some(77), Some(0)));
+}
+
+/// Of two values that wait, one makes room for a third.
+const FULL_AND_EMPTY: &[(Call, QueueReply)] = &[
+    (Call::Push(1), QueueReply::Pushed(true)),
+    (Call::Push(2), QueueReply::Pushed(true)),
+    (Call::IsFull, QueueReply::Full(true)),
+    (Call::Push(3), QueueReply::Pushed(false)),
+    (Call::Pop, QueueReply::Popped(Some(1))),
+    (Call::Push(4), QueueReply::Pushed(true)),
+    (Call::Pop, QueueReply::Popped(Some(2))),
+    (Call::IsEmpty, QueueReply::Empty(false)),
+    (Call::Pop, QueueReply::Popped(Some(4))),
+    (Call::Pop, QueueReply::Popped(None)),
+    (Call::IsEmpty, QueueReply::Empty(true)),
+];
+
+#[test]
+fn whole_calls_answer(rt: HostRuntime) {
+    const ROWS: &[Row<'_>] = &[
+        Row {
+            name: "as the plain queue",
+            at: (QueueKind::Index, 0),
+            list: FULL_AND_EMPTY,
+        },
+        Row {
+            name: "an overflowing push hands back the oldest",
+            at: (QueueKind::Overflowing, 0),
+            list: &[
+                (Call::Push(1), QueueReply::HandedBack(None)),
+                (Call::Push(2), QueueReply::HandedBack(None)),
+                (Call::Push(3), QueueReply::HandedBack(Some(1))),
+                (Call::Pop, QueueReply::Popped(Some(2))),
+                (Call::Pop, QueueReply::Popped(Some(3))),
+                (Call::Pop, QueueReply::Popped(None)),
+            ],
+        },
+        Row {
+            name: "nothing is pushed past the last position",
+            at: (QueueKind::Index, u64::MAX - 1),
+            list: &[
+                (Call::Push(5), QueueReply::Pushed(true)),
+                (Call::Push(6), QueueReply::Pushed(false)),
+                (Call::Pop, QueueReply::Popped(Some(5))),
+                (Call::Pop, QueueReply::Popped(None)),
+            ],
+        },
+        Row {
+            name: "what is pushed past the last position comes back",
+            at: (QueueKind::Overflowing, u64::MAX - 1),
+            list: &[
+                (Call::Push(5), QueueReply::HandedBack(None)),
+                (Call::Push(6), QueueReply::HandedBack(Some(6))),
+                (Call::Pop, QueueReply::Popped(Some(5))),
+                (Call::Pop, QueueReply::Popped(None)),
+            ],
+        },
+    ];
+    for row in ROWS {
+        plays(&rt, rt.alloc(), row);
+    }
+}
+
 /// The same call of the plain queue.
 fn plain_call(queue: &mut IndexQueue, call: Call) -> QueueReply {
     match call {
@@ -61,177 +137,33 @@ fn plain_call(queue: &mut IndexQueue, call: Call) -> QueueReply {
     }
 }
 
-/// Ends the test if the call does not answer this.
-fn answers(rt: &impl Abort, words: &mut Vec<u64>, site: Site, asked: Call, reply: QueueReply)
-    requires { HoldsQueue site words.old.items }
-    ensures { HoldsQueue site words.new.items }
-{
-    let answer = call(words, site, asked);
-    equal(rt, answer, reply);
-}
+/// A call and its reply.
+type Asked = (Call, QueueReply);
 
-/// What a queue answers to two pushes and a look, and to a push that it has no room for.
-fn fills_as(rt: &impl Abort, words: &mut Vec<u64>, site: Site, plain: &mut IndexQueue)
-    requires { HoldsQueue site words.old.items }
-    ensures { HoldsQueue site words.new.items }
-{
-    answers(
-        rt,
-        words,
-        site,
-        Call::Push(1),
-        plain_call(plain, Call::Push(1)),
-    );
-    answers(
-        rt,
-        words,
-        site,
-        Call::Push(2),
-        plain_call(plain, Call::Push(2)),
-    );
-    answers(
-        rt,
-        words,
-        site,
-        Call::IsFull,
-        plain_call(plain, Call::IsFull),
-    );
-    answers(
-        rt,
-        words,
-        site,
-        Call::Push(3),
-        plain_call(plain, Call::Push(3)),
-    );
-}
+impl Answers<usize, Asked, AllocError> for IndexQueue {
+    fn made(alloc: Global, capacity: usize) -> Result<Self, AllocError> {
+        IndexQueue::new(alloc, capacity)
+    }
 
-/// What a full queue answers until it is empty.
-fn empties_as(rt: &impl Abort, words: &mut Vec<u64>, site: Site, plain: &mut IndexQueue)
-    requires { HoldsQueue site words.old.items }
-{
-    answers(rt, words, site, Call::Pop, plain_call(plain, Call::Pop));
-    answers(
-        rt,
-        words,
-        site,
-        Call::Push(4),
-        plain_call(plain, Call::Push(4)),
-    );
-    answers(rt, words, site, Call::Pop, plain_call(plain, Call::Pop));
-    answers(
-        rt,
-        words,
-        site,
-        Call::IsEmpty,
-        plain_call(plain, Call::IsEmpty),
-    );
-    answers(rt, words, site, Call::Pop, plain_call(plain, Call::Pop));
-    answers(rt, words, site, Call::Pop, plain_call(plain, Call::Pop));
-    answers(
-        rt,
-        words,
-        site,
-        Call::IsEmpty,
-        plain_call(plain, Call::IsEmpty),
-    );
+    fn answers(&mut self, asked: &Asked) -> bool {
+        plain_call(self, asked.0) == asked.1
+    }
 }
 
 #[test]
-fn whole_calls_answer_as_the_plain_queue(rt: HostRuntime) -> Result<(), Fail> {
-    let mut plain = IndexQueue::new(rt.alloc(), 2)?;
-    let (mut words, site) = queue_at(rt.alloc(), &rt, QueueKind::Index, 0)?;
-    fills_as(&rt, &mut words, site, &mut plain);
-    empties_as(&rt, &mut words, site, &mut plain);
-    equal(&rt, words.len(), 8);
-    equal(
-        &rt,
-        (words.first().copied(), words.get(6).copied()),
-        (Some(77), Some(0)),
-    );
-    Ok(())
-}
-
-#[test]
-fn an_overflowing_push_hands_back_the_oldest(rt: HostRuntime) -> Result<(), Fail> {
-    let (mut words, site) = queue_at(rt.alloc(), &rt, QueueKind::Overflowing, 0)?;
-    answers(
-        &rt,
-        &mut words,
-        site,
-        Call::Push(1),
-        QueueReply::HandedBack(None),
-    );
-    answers(
-        &rt,
-        &mut words,
-        site,
-        Call::Push(2),
-        QueueReply::HandedBack(None),
-    );
-    answers(
-        &rt,
-        &mut words,
-        site,
-        Call::Push(3),
-        QueueReply::HandedBack(Some(1)),
-    );
-    answers(
-        &rt,
-        &mut words,
-        site,
-        Call::Pop,
-        QueueReply::Popped(Some(2)),
-    );
-    answers(
-        &rt,
-        &mut words,
-        site,
-        Call::Pop,
-        QueueReply::Popped(Some(3)),
-    );
-    answers(&rt, &mut words, site, Call::Pop, QueueReply::Popped(None));
-    Ok(())
-}
-
-/// Pushes 5, and 6 past the last position, and pops what there is.
-fn ends_at_the_last(
-    rt: &impl Abort,
-    words: &mut Vec<u64>,
-    site: Site,
-    pushed: QueueReply,
-    refused: QueueReply,
-)
-    requires { HoldsQueue site words.old.items }
-{
-    answers(rt, words, site, Call::Push(5), pushed);
-    answers(rt, words, site, Call::Push(6), refused);
-    answers(rt, words, site, Call::Pop, QueueReply::Popped(Some(5)));
-    answers(rt, words, site, Call::Pop, QueueReply::Popped(None));
-}
-
-#[test]
-fn nothing_is_pushed_past_the_last_position(rt: HostRuntime) -> Result<(), Fail> {
-    let (mut words, site) = queue_at(rt.alloc(), &rt, QueueKind::Index, u64::MAX - 1)?;
-    let pushed = QueueReply::Pushed(true);
-    ends_at_the_last(&rt, &mut words, site, pushed, QueueReply::Pushed(false));
-    let (mut words, site) = queue_at(rt.alloc(), &rt, QueueKind::Overflowing, u64::MAX - 1)?;
-    let pushed = QueueReply::HandedBack(None);
-    ends_at_the_last(
-        &rt,
-        &mut words,
-        site,
-        pushed,
-        QueueReply::HandedBack(Some(6)),
-    );
-    Ok(())
+fn the_plain_queue_answers_as_the_whole_calls(rt: HostRuntime) {
+    const ROWS: &[rows::Row<'_, usize, Asked, AllocError>] = &[(
+        "full and empty",
+        2,
+        FULL_AND_EMPTY,
+        None,
+    )];
+    rows::plays::<usize, Asked, AllocError, IndexQueue>(&rt, rt.alloc(), ROWS);
 }
 
 /// Pushes 7 to the first of two queues of eight words, and pops from the second.
-fn at_two_queues(
-    alloc: Global,
-    rt: &impl Abort,
-) -> Result<((QueueReply, Option<u64>), Vec<u64>), AllocError> {
-    let mut words = vec![in alloc; 0u64; 8]?;
+fn at_two_queues(rt: &impl Abort, alloc: Global) -> ((QueueReply, Option<u64>), Vec<u64>) {
+    let mut words = vec![in alloc; 0u64; 8].expect(rt, "eight words");
     let first = Site {
         kind: QueueKind::Index,
         base: 4,
@@ -246,128 +178,12 @@ fn at_two_queues(
     holds_when_empty(&words, first);
     holds_when_empty(&words, second);
     let told = push_and_pop(&mut words, first, 7, second);
-    Ok((told, words))
+    (told, words)
 }
 
 #[test]
-fn two_queues_in_one_list_answer_each_for_itself(rt: HostRuntime) -> Result<(), Fail> {
-    let (told, words) = at_two_queues(rt.alloc(), &rt)?;
+fn two_queues_in_one_list_answer_each_for_itself(rt: HostRuntime) {
+    let (told, words) = at_two_queues(&rt, rt.alloc());
     equal(&rt, told, (QueueReply::Pushed(true), None));
     equal(&rt, words.as_slice(), [0, 0, 0, 0, 1, 0, 7, 0].as_slice());
-    Ok(())
-}
-
-/// A stored queue that pushes values out, of two values, at this position.
-fn stored_at(alloc: Global, rt: &impl Abort, position: u64) -> Result<StoredQueue, Fail> {
-    let words = words_at(alloc, position)?;
-    let site = Site {
-        kind: QueueKind::Overflowing,
-        base: 1,
-        capacity: 2,
-    };
-    assert!(rt; words.len() == 8 && words[1] == words[2]);
-    Ok(StoredQueue::new(words, site))
-}
-
-/// Begins a push.
-fn begin_push(queue: &mut StoredQueue, value: u64) -> bool {
-    queue.begin_push(value)
-}
-
-/// Begins a pop.
-fn begin_pop(queue: &mut StoredQueue) -> bool {
-    queue.begin_pop()
-}
-
-/// An access of the push.
-fn step_push(queue: &mut StoredQueue) -> StepAnswer {
-    queue.step_push()
-}
-
-/// An access of the pop.
-fn step_pop(queue: &mut StoredQueue) -> StepAnswer {
-    queue.step_pop()
-}
-
-/// Makes accesses of the push until it is done, and answers what comes back.
-fn end_push(rt: &impl Abort, queue: &mut StoredQueue) -> Option<u64> {
-    for _ in 0..6u64 {
-        match step_push(queue) {
-            StepAnswer::Going => {}
-            StepAnswer::Gives(value) | StepAnswer::Refuses(value) => return Some(value),
-            _ => return None,
-        }
-    }
-    holds(rt, false);
-    None
-}
-
-/// The same of the pop.
-fn end_pop(rt: &impl Abort, queue: &mut StoredQueue) -> Option<u64> {
-    for _ in 0..6u64 {
-        match step_pop(queue) {
-            StepAnswer::Going => {}
-            StepAnswer::Gives(value) => return Some(value),
-            _ => return None,
-        }
-    }
-    holds(rt, false);
-    None
-}
-
-/// Pushes a number to both.
-fn pushes_as(
-    rt: &impl Abort,
-    stored: &mut StoredQueue,
-    plain: &mut SafelyOverflowingIndexQueue,
-    value: u64,
-) {
-    holds(rt, begin_push(stored, value));
-    equal(rt, end_push(rt, stored), plain.push(value));
-}
-
-/// Pops from both.
-fn pops_as(rt: &impl Abort, stored: &mut StoredQueue, plain: &mut SafelyOverflowingIndexQueue) {
-    holds(rt, begin_pop(stored));
-    equal(rt, end_pop(rt, stored), plain.pop());
-}
-
-/// Pushes twenty numbers to both, and pops after each third.
-fn goes_on_as(rt: &impl Abort, stored: &mut StoredQueue, plain: &mut SafelyOverflowingIndexQueue) {
-    for value in 0..20u64 {
-        pushes_as(rt, stored, plain, value);
-        if value.is_multiple_of(3) {
-            pops_as(rt, stored, plain);
-        }
-    }
-}
-
-#[test]
-fn stored_parties_answer_as_the_plain_queue(rt: HostRuntime) -> Result<(), Fail> {
-    for position in 0..5u64 {
-        let mut plain = SafelyOverflowingIndexQueue::new(rt.alloc(), 2)?;
-        let mut stored = stored_at(rt.alloc(), &rt, position)?;
-        goes_on_as(&rt, &mut stored, &mut plain);
-    }
-    Ok(())
-}
-
-#[test]
-fn a_stored_pop_goes_on_after_an_eviction(rt: HostRuntime) -> Result<(), Fail> {
-    let mut stored = stored_at(rt.alloc(), &rt, 7)?;
-    for value in 1..3u64 {
-        holds(&rt, begin_push(&mut stored, value));
-        equal(&rt, end_push(&rt, &mut stored), None);
-    }
-    holds(&rt, begin_pop(&mut stored));
-    for _ in 0..3u64 {
-        equal(&rt, step_pop(&mut stored), StepAnswer::Going);
-    }
-    holds(&rt, begin_push(&mut stored, 3));
-    holds(&rt, !begin_push(&mut stored, 4));
-    equal(&rt, end_push(&rt, &mut stored), Some(1));
-    holds(&rt, !begin_pop(&mut stored));
-    equal(&rt, step_pop(&mut stored), StepAnswer::Going);
-    equal(&rt, end_pop(&rt, &mut stored), Some(2));
-    Ok(())
 }

@@ -3,34 +3,15 @@
 mod events;
 mod stored;
 
-use crate::expected::equal;
+use crate::rows::{Answers, Row, plays};
 use iox_queue_steps::{Call, QueueMachine};
 use iox_steps::{Entry, MachineError, Progress, QueueEvent, QueueKind, QueueReply, Site};
-use std::alloc::Global;
-use std::process::Abort;
-use std::test::Fail;
-
-/// A machine of an empty queue among eight words, with one word before it, at this position.
-fn machine_at(
-    alloc: Global,
-    rt: &impl Abort,
-    kind: QueueKind,
-    capacity: usize,
-    position: u64,
-) -> Result<QueueMachine, Fail> {
-    let words = Vec::from_array(alloc, [0, position, position, 0, 0, 0, 0, 0])?;
-    assert!(rt; words.len() == 8 && capacity >= 1 && capacity <= 4 && words[1] == words[2]);
-    let site = Site {
-        kind,
-        base: 1,
-        capacity,
-    };
-    Ok(QueueMachine::new(alloc, words, site)?)
-}
+use std::alloc::{AllocError, Global};
 
 /// What is done to a machine, and what has to come of it. Parties are told by their numbers.
-#[derive(Clone, Copy)]
-enum Deed {
+enum Deed<'a> {
+    /// A schedule is played.
+    Runs(&'a [Entry<Call>]),
     /// The party begins a call.
     Begins(usize, Call),
     /// The next access of the party's call continues.
@@ -45,6 +26,8 @@ enum Deed {
     Stays(usize, MachineError),
     /// The word of this number is this.
     Word(usize, u64),
+    /// These events were told, and no other.
+    Tells(&'a [QueueEvent]),
 }
 
 /// One access.
@@ -57,241 +40,177 @@ fn begin(machine: &mut QueueMachine, party: usize, call: Call) -> Result<(), Mac
     machine.begin(party, call)
 }
 
-/// Plays a schedule.
-fn run(machine: &mut QueueMachine, schedule: &[Entry<Call>]) -> Result<(), MachineError> {
-    machine.run(schedule)
-}
-
-/// What a word is.
-fn word(machine: &QueueMachine, index: usize) -> Option<u64> {
-    machine.words().get(index).copied()
-}
-
-/// Ends the test if other events were told.
-fn tells(rt: &impl Abort, machine: &QueueMachine, told: &[QueueEvent]) {
-    equal(rt, machine.events(), told);
-}
-
-/// Makes this many accesses of the party's call, all but the last going on. The last answers this.
-fn ends(
-    rt: &impl Abort,
-    machine: &mut QueueMachine,
-    party: usize,
-    steps: usize,
-    reply: QueueReply,
-) -> Result<(), MachineError> {
+/// Whether the party's call ends at the access of this number, with this reply.
+fn ends(machine: &mut QueueMachine, party: usize, steps: usize, reply: QueueReply) -> bool {
     for _ in 1..steps {
-        equal(rt, step(machine, party)?, Progress::Going);
-    }
-    equal(rt, step(machine, party)?, Progress::Done(reply));
-    Ok(())
-}
-
-/// Does it.
-fn does(rt: &impl Abort, machine: &mut QueueMachine, deed: Deed) -> Result<(), MachineError> {
-    match deed {
-        Deed::Begins(party, call) => begin(machine, party, call),
-        Deed::Goes(party) => {
-            equal(rt, step(machine, party)?, Progress::Going);
-            Ok(())
-        }
-        Deed::Ends(party, steps, reply) => ends(rt, machine, party, steps, reply),
-        Deed::Calls(party, call, steps, reply) => {
-            begin(machine, party, call)?;
-            ends(rt, machine, party, steps, reply)
-        }
-        Deed::Refuses(party, call, error) => {
-            equal(rt, begin(machine, party, call), Err(error));
-            Ok(())
-        }
-        Deed::Stays(party, error) => {
-            equal(rt, step(machine, party), Err(error));
-            Ok(())
-        }
-        Deed::Word(index, value) => {
-            equal(rt, word(machine, index), Some(value));
-            Ok(())
+        if step(machine, party) != Ok(Progress::Going) {
+            return false;
         }
     }
+    step(machine, party) == Ok(Progress::Done(reply))
 }
 
-/// Does all of it.
-fn goes(rt: &impl Abort, machine: &mut QueueMachine, deeds: &[Deed]) -> Result<(), MachineError> {
-    for deed in deeds {
-        does(rt, machine, *deed)?;
-    }
-    Ok(())
-}
-
-/// Does what comes before a schedule, plays the schedule, and does what comes after. The queue is
-/// of this kind and capacity, and begins at this position.
-fn plays(
-    rt: &impl Abort,
-    alloc: Global,
-    (kind, capacity, position): (QueueKind, usize, u64),
-    before: &[Deed],
-    schedule: &[Entry<Call>],
-    after: &[Deed],
-    told: &[QueueEvent],
-) -> Result<(), Fail> {
-    let mut machine = machine_at(alloc, rt, kind, capacity, position)?;
-    goes(rt, &mut machine, before)?;
-    run(&mut machine, schedule)?;
-    goes(rt, &mut machine, after)?;
+/// Whether these events were told, and no other.
+fn tells(machine: &QueueMachine, told: &[QueueEvent]) -> bool {
     machine.holds();
-    equal(rt, machine.words().len(), 8);
-    tells(rt, &machine, told);
-    Ok(())
+    machine.events() == told && machine.words().len() == 8
+}
+
+impl<'a> Answers<(QueueKind, usize, u64), Deed<'a>, AllocError> for QueueMachine {
+    /// Of an empty queue among eight words, with one word before it, of this kind and capacity, and
+    /// at this position.
+    fn made(alloc: Global, at: (QueueKind, usize, u64)) -> Result<Self, AllocError> {
+        let (kind, capacity, position) = at;
+        let words = Vec::from_array(alloc, [0, position, position, 0, 0, 0, 0, 0])?;
+        let site = Site {
+            kind,
+            base: 1,
+            capacity,
+        };
+        if words.len() != 8 || capacity < 1 || capacity > 4 || words[1] != words[2] {
+            return Err(AllocError);
+        }
+        QueueMachine::new(alloc, words, site)
+    }
+
+    fn answers(&mut self, deed: &Deed<'a>) -> bool {
+        match deed {
+            Deed::Runs(schedule) => self.run(*schedule).is_ok(),
+            Deed::Begins(party, call) => begin(self, *party, *call).is_ok(),
+            Deed::Goes(party) => step(self, *party) == Ok(Progress::Going),
+            Deed::Ends(party, steps, reply) => ends(self, *party, *steps, *reply),
+            Deed::Calls(party, call, steps, reply) => {
+                begin(self, *party, *call).is_ok() && ends(self, *party, *steps, *reply)
+            }
+            Deed::Refuses(party, call, error) => begin(self, *party, *call) == Err(*error),
+            Deed::Stays(party, error) => step(self, *party) == Err(*error),
+            Deed::Word(index, value) => self.words().get(*index).copied() == Some(*value),
+            Deed::Tells(told) => tells(self, *told),
+        }
+    }
 }
 
 #[test]
-fn a_pop_meets_a_push_halfway(rt: HostRuntime) -> Result<(), Fail> {
-    plays(
-        &rt,
-        rt.alloc(),
-        (QueueKind::Index, 1, 0),
-        &[],
-        &[
-            Entry::Begin(0, Call::Push(7)),
-            Entry::Begin(1, Call::Pop),
-            Entry::Step(1),
-            Entry::Step(0),
-            Entry::Step(0),
-            Entry::Step(0),
-        ],
-        &[
-            Deed::Ends(1, 1, QueueReply::Popped(None)),
-            Deed::Ends(0, 1, QueueReply::Pushed(true)),
-            Deed::Calls(1, Call::Pop, 4, QueueReply::Popped(Some(7))),
-        ],
-        &[
-            QueueEvent::SeesRoom,
-            QueueEvent::SeesEmpty,
-            QueueEvent::Publish(7),
-            QueueEvent::SeesWaiting,
-            QueueEvent::HandOut(7),
-        ],
-    )
-}
-
-#[test]
-fn a_full_queue_refuses(rt: HostRuntime) -> Result<(), Fail> {
-    plays(
-        &rt,
-        rt.alloc(),
-        (QueueKind::Index, 1, 0),
-        &[
-            Deed::Calls(0, Call::Push(7), 4, QueueReply::Pushed(true)),
-            Deed::Calls(0, Call::IsFull, 2, QueueReply::Full(true)),
-            Deed::Calls(0, Call::Push(8), 2, QueueReply::Pushed(false)),
-            Deed::Calls(1, Call::Pop, 4, QueueReply::Popped(Some(7))),
-            Deed::Calls(1, Call::IsEmpty, 2, QueueReply::Empty(true)),
-            Deed::Calls(1, Call::Pop, 2, QueueReply::Popped(None)),
-        ],
-        &[],
-        &[],
-        &[
-            QueueEvent::SeesRoom,
-            QueueEvent::Publish(7),
-            QueueEvent::SeesFull,
-            QueueEvent::SeesFull,
-            QueueEvent::SeesWaiting,
-            QueueEvent::HandOut(7),
-            QueueEvent::SeesEmpty,
-            QueueEvent::SeesEmpty,
-        ],
-    )
-}
-
-#[test]
-fn an_overflowing_queue_hands_back_the_oldest(rt: HostRuntime) -> Result<(), Fail> {
-    plays(
-        &rt,
-        rt.alloc(),
-        (QueueKind::Overflowing, 2, 0),
-        &[
-            Deed::Calls(0, Call::Push(1), 4, QueueReply::HandedBack(None)),
-            Deed::Calls(0, Call::Push(2), 4, QueueReply::HandedBack(None)),
-            Deed::Calls(0, Call::Push(3), 6, QueueReply::HandedBack(Some(1))),
-            Deed::Calls(1, Call::Pop, 4, QueueReply::Popped(Some(2))),
-            Deed::Calls(1, Call::Pop, 4, QueueReply::Popped(Some(3))),
-            Deed::Calls(1, Call::Pop, 2, QueueReply::Popped(None)),
-        ],
-        &[],
-        &[],
-        &[
-            QueueEvent::SeesRoom,
-            QueueEvent::Publish(1),
-            QueueEvent::SeesRoom,
-            QueueEvent::Publish(2),
-            QueueEvent::SeesFull,
-            QueueEvent::Publish(3),
-            QueueEvent::Evict,
-            QueueEvent::Learn(1),
-            QueueEvent::SeesWaiting,
-            QueueEvent::HandOut(2),
-            QueueEvent::SeesWaiting,
-            QueueEvent::HandOut(3),
-            QueueEvent::SeesEmpty,
-        ],
-    )
-}
-
-#[test]
-fn the_last_position_is_never_passed(rt: HostRuntime) -> Result<(), Fail> {
-    plays(
-        &rt,
-        rt.alloc(),
-        (QueueKind::Overflowing, 2, u64::MAX),
-        &[
-            Deed::Calls(0, Call::Push(9), 2, QueueReply::HandedBack(Some(9))),
-            Deed::Calls(1, Call::IsEmpty, 2, QueueReply::Empty(true)),
-        ],
-        &[],
-        &[],
-        &[QueueEvent::SeesEnd, QueueEvent::SeesEmpty],
-    )
-}
-
-#[test]
-fn a_queue_at_its_last_position_refuses(rt: HostRuntime) -> Result<(), Fail> {
-    plays(
-        &rt,
-        rt.alloc(),
-        (QueueKind::Index, 2, u64::MAX - 1),
-        &[
-            Deed::Calls(0, Call::Push(5), 4, QueueReply::Pushed(true)),
-            Deed::Calls(0, Call::Push(6), 2, QueueReply::Pushed(false)),
-            Deed::Calls(1, Call::Pop, 4, QueueReply::Popped(Some(5))),
-        ],
-        &[],
-        &[],
-        &[
-            QueueEvent::SeesRoom,
-            QueueEvent::Publish(5),
-            QueueEvent::SeesEnd,
-            QueueEvent::SeesWaiting,
-            QueueEvent::HandOut(5),
-        ],
-    )
-}
-
-#[test]
-fn a_refused_entry_changes_nothing(rt: HostRuntime) -> Result<(), Fail> {
-    plays(
-        &rt,
-        rt.alloc(),
-        (QueueKind::Index, 2, 0),
-        &[
-            Deed::Refuses(2, Call::Pop, MachineError::UnknownParty),
-            Deed::Refuses(1, Call::Push(7), MachineError::UnknownParty),
-            Deed::Stays(0, MachineError::AtRest),
-            Deed::Stays(2, MachineError::UnknownParty),
-            Deed::Begins(0, Call::Push(7)),
-            Deed::Refuses(0, Call::IsFull, MachineError::Busy),
-        ],
-        &[],
-        &[Deed::Ends(0, 4, QueueReply::Pushed(true))],
-        &[QueueEvent::SeesRoom, QueueEvent::Publish(7)],
-    )
+fn two_parties_meet_at_a_queue(rt: HostRuntime) {
+    const ROWS: &[Row<'_, (QueueKind, usize, u64), Deed<'_>, AllocError>] = &[
+        (
+            "a pop meets a push halfway",
+            (QueueKind::Index, 1, 0),
+            &[
+                Deed::Runs(&[
+                    Entry::Begin(0, Call::Push(7)),
+                    Entry::Begin(1, Call::Pop),
+                    Entry::Step(1),
+                    Entry::Step(0),
+                    Entry::Step(0),
+                    Entry::Step(0),
+                ]),
+                Deed::Ends(1, 1, QueueReply::Popped(None)),
+                Deed::Ends(0, 1, QueueReply::Pushed(true)),
+                Deed::Calls(1, Call::Pop, 4, QueueReply::Popped(Some(7))),
+                Deed::Tells(&[
+                    QueueEvent::SeesRoom,
+                    QueueEvent::SeesEmpty,
+                    QueueEvent::Publish(7),
+                    QueueEvent::SeesWaiting,
+                    QueueEvent::HandOut(7),
+                ]),
+            ],
+            None,
+        ),
+        (
+            "a full queue refuses",
+            (QueueKind::Index, 1, 0),
+            &[
+                Deed::Calls(0, Call::Push(7), 4, QueueReply::Pushed(true)),
+                Deed::Calls(0, Call::IsFull, 2, QueueReply::Full(true)),
+                Deed::Calls(0, Call::Push(8), 2, QueueReply::Pushed(false)),
+                Deed::Calls(1, Call::Pop, 4, QueueReply::Popped(Some(7))),
+                Deed::Calls(1, Call::IsEmpty, 2, QueueReply::Empty(true)),
+                Deed::Calls(1, Call::Pop, 2, QueueReply::Popped(None)),
+                Deed::Tells(&[
+                    QueueEvent::SeesRoom,
+                    QueueEvent::Publish(7),
+                    QueueEvent::SeesFull,
+                    QueueEvent::SeesFull,
+                    QueueEvent::SeesWaiting,
+                    QueueEvent::HandOut(7),
+                    QueueEvent::SeesEmpty,
+                    QueueEvent::SeesEmpty,
+                ]),
+            ],
+            None,
+        ),
+        (
+            "an overflowing queue hands back the oldest",
+            (QueueKind::Overflowing, 2, 0),
+            &[
+                Deed::Calls(0, Call::Push(1), 4, QueueReply::HandedBack(None)),
+                Deed::Calls(0, Call::Push(2), 4, QueueReply::HandedBack(None)),
+                Deed::Calls(0, Call::Push(3), 6, QueueReply::HandedBack(Some(1))),
+                Deed::Calls(1, Call::Pop, 4, QueueReply::Popped(Some(2))),
+                Deed::Calls(1, Call::Pop, 4, QueueReply::Popped(Some(3))),
+                Deed::Calls(1, Call::Pop, 2, QueueReply::Popped(None)),
+                Deed::Tells(&[
+                    QueueEvent::SeesRoom,
+                    QueueEvent::Publish(1),
+                    QueueEvent::SeesRoom,
+                    QueueEvent::Publish(2),
+                    QueueEvent::SeesFull,
+                    QueueEvent::Publish(3),
+                    QueueEvent::Evict,
+                    QueueEvent::Learn(1),
+                    QueueEvent::SeesWaiting,
+                    QueueEvent::HandOut(2),
+                    QueueEvent::SeesWaiting,
+                    QueueEvent::HandOut(3),
+                    QueueEvent::SeesEmpty,
+                ]),
+            ],
+            None,
+        ),
+        (
+            "the last position is never passed",
+            (QueueKind::Overflowing, 2, u64::MAX),
+            &[
+                Deed::Calls(0, Call::Push(9), 2, QueueReply::HandedBack(Some(9))),
+                Deed::Calls(1, Call::IsEmpty, 2, QueueReply::Empty(true)),
+                Deed::Tells(&[QueueEvent::SeesEnd, QueueEvent::SeesEmpty]),
+            ],
+            None,
+        ),
+        (
+            "a queue at its last position refuses",
+            (QueueKind::Index, 2, u64::MAX - 1),
+            &[
+                Deed::Calls(0, Call::Push(5), 4, QueueReply::Pushed(true)),
+                Deed::Calls(0, Call::Push(6), 2, QueueReply::Pushed(false)),
+                Deed::Calls(1, Call::Pop, 4, QueueReply::Popped(Some(5))),
+                Deed::Tells(&[
+                    QueueEvent::SeesRoom,
+                    QueueEvent::Publish(5),
+                    QueueEvent::SeesEnd,
+                    QueueEvent::SeesWaiting,
+                    QueueEvent::HandOut(5),
+                ]),
+            ],
+            None,
+        ),
+        (
+            "a refused entry changes nothing",
+            (QueueKind::Index, 2, 0),
+            &[
+                Deed::Refuses(2, Call::Pop, MachineError::UnknownParty),
+                Deed::Refuses(1, Call::Push(7), MachineError::UnknownParty),
+                Deed::Stays(0, MachineError::AtRest),
+                Deed::Stays(2, MachineError::UnknownParty),
+                Deed::Begins(0, Call::Push(7)),
+                Deed::Refuses(0, Call::IsFull, MachineError::Busy),
+                Deed::Ends(0, 4, QueueReply::Pushed(true)),
+                Deed::Tells(&[QueueEvent::SeesRoom, QueueEvent::Publish(7)]),
+            ],
+            None,
+        ),
+    ];
+    plays::<(QueueKind, usize, u64), Deed<'_>, AllocError, QueueMachine>(&rt, rt.alloc(), ROWS);
 }

@@ -2,87 +2,77 @@
 //! active request, and one response may wait for it. Nothing overflows, and there is one server: so
 //! a second request meets a full queue, and so does a second response.
 
-use crate::exchange::{NODE, settings};
+use crate::exchange::KEEPING;
 use crate::expected::equal;
+use crate::numbers::{
+    Active, Answerer, Asker, Numbers, Told, answer, ask, given_up, heard, hub, ports, receive, tell,
+};
 use iceoryx2_ports::{
-    ActiveRequest, Always, BackpressureAction, BackpressureStrategy, Client, Hub, MessageShape,
-    One, PendingResponse, PortFactoryClient, PortFactoryServer, RequestSendError, SendError,
-    Server, Settings,
+    Always, BackpressureAction, BackpressureStrategy, One, RequestMut, RequestSendError,
+    ResponseMut, SendError, Settings,
 };
 use std::alloc::{AllocError, Global};
 use std::process::Abort;
-use std::test::Fail;
 
-type Numbers = Hub<One<u64>, (), One<u64>, (), Always>;
+type Handled = Numbers<Always>;
 
-type Asker = Client<One<u64>, (), One<u64>, ()>;
+/// What both handlers answer, and the strategy of both ports.
+type Full = (BackpressureAction, BackpressureStrategy);
 
-type Answerer = Server<One<u64>, (), One<u64>, ()>;
-
-type Pending = PendingResponse<One<u64>, (), One<u64>, ()>;
-
-type Active = ActiveRequest<One<u64>, (), One<u64>, ()>;
-
-/// A hub in which no port was made.
-fn hub(alloc: Global, strategy: BackpressureStrategy) -> Result<Numbers, AllocError> {
-    let settings = Settings {
+/// Nothing overflows.
+fn settings(strategy: BackpressureStrategy) -> Settings {
+    Settings {
         response_buffer: 1,
         response_overflow: false,
-        ..settings(false, strategy)
-    };
-    let request = MessageShape::of_requests(None, ());
-    let response = MessageShape::of_responses(None, ());
-    Hub::new(alloc, settings, request, response)
+        client_strategy: strategy,
+        server_strategy: strategy,
+        ..KEEPING
+    }
 }
 
-/// A client and a server, whose handlers answer so.
-fn ports(
+/// What that tells of a client and a server of this hub with that handler. They are given up then.
+/// The bound of a closure may not name a type with a parameter, so `ports` has no such function
+/// beside it.
+fn at_ports<T, F: FnOnce(&mut Handled, &Asker, &Answerer) -> T + Drop>(
     alloc: Global,
-    hub: &mut Numbers,
-    action: BackpressureAction,
-) -> Result<(Asker, Answerer), AllocError> {
-    let handler = Always { action };
-    let client = PortFactoryClient::new(0, NODE).set_backpressure_handler(handler);
-    let Ok(client) = client.create(alloc, hub) else {
-        return Err(AllocError);
-    };
-    let server = PortFactoryServer::new(1, NODE).set_backpressure_handler(handler);
-    match server.create(alloc, hub) {
-        Ok(server) => Ok((client, server)),
-        Err(_) => {
-            client.release(hub);
-            Err(AllocError)
-        }
-    }
+    hub: &mut Handled,
+    handler: Always,
+    told: F,
+) -> Result<T, AllocError>
+    requires { F.IsAlwaysCallable told }
+{
+    let (client, server) = ports(alloc, hub, Some(handler))?;
+    let told = told(hub, &client, &server);
+    client.release(hub);
+    server.release(hub);
+    Ok(told)
 }
 
-/// The answer is given up: to how many servers the request went, or why it did not.
-fn given_up(
-    hub: &mut Numbers,
-    sent: Result<Pending, RequestSendError>,
-) -> Result<u64, RequestSendError> {
-    let pending = sent?;
-    let servers = pending.number_of_server_connections();
-    pending.release(hub);
-    Ok(servers)
+/// The same of a new hub. Only this owns one.
+fn in_ports<T, F: FnOnce(&mut Handled, &Asker, &Answerer) -> T + Drop>(
+    alloc: Global,
+    full: Full,
+    told: F,
+) -> Result<T, AllocError>
+    requires { F.IsAlwaysCallable told }
+{
+    let (action, strategy) = full;
+    let mut hub = hub(alloc, &settings(strategy))?;
+    at_ports(alloc, &mut hub, Always { action }, told)
 }
 
-/// A copy of a request is sent.
-fn tell_copied(hub: &mut Numbers, client: &Asker) -> Option<Result<u64, RequestSendError>> {
+/// A loaned request that carries 6.
+fn loaned(hub: &mut Handled, client: &Asker) -> Option<RequestMut<One<u64>, (), One<u64>, ()>> {
     if !client.exists(hub) {
         return None;
     }
-    let sent = client.send_copy(hub, 5);
-    Some(given_up(hub, sent))
+    Some(client.loan_uninit(hub).ok()?.write_payload(hub, 6))
 }
 
-/// A loaned request is sent.
-fn tell_loaned(hub: &mut Numbers, client: &Asker) -> Option<Result<u64, RequestSendError>> {
-    if !client.exists(hub) {
-        return None;
-    }
-    let request = client.loan_uninit(hub).ok()?.write_payload(hub, 6);
-    if hub.calls() < 1 << 56 {
+/// It is sent.
+fn tell_loaned(hub: &mut Handled, client: &Asker) -> Told {
+    let request = loaned(hub, client)?;
+    if hub.calls() < 1 << 56 && request.exists(hub) {
         let sent = request.send(hub);
         return Some(given_up(hub, sent));
     }
@@ -90,117 +80,72 @@ fn tell_loaned(hub: &mut Numbers, client: &Asker) -> Option<Result<u64, RequestS
     None
 }
 
-/// What the first of three requests is told, and the second, which is loaned, and the third.
-type Told = (
-    Option<Result<u64, RequestSendError>>,
-    Option<Result<u64, RequestSendError>>,
-    Option<Result<u64, RequestSendError>>,
-);
-
-/// Three requests are sent, and the answer of each is given up.
-fn requests(
-    alloc: Global,
-    action: BackpressureAction,
-    strategy: BackpressureStrategy,
-) -> Result<Told, AllocError> {
-    let mut hub = hub(alloc, strategy)?;
-    let (client, server) = ports(alloc, &mut hub, action)?;
-    let told = (
-        tell_copied(&mut hub, &client),
-        tell_loaned(&mut hub, &client),
-        tell_copied(&mut hub, &client),
-    );
-    client.release(&mut hub);
-    server.release(&mut hub);
-    Ok(told)
+/// What the first of three requests is told, and the second, which is loaned, and the third. The
+/// answer of each is given up.
+fn three_requests(hub: &mut Handled, client: &Asker, _server: &Answerer) -> [Told; 3] {
+    [
+        tell(hub, client, 5),
+        tell_loaned(hub, client),
+        tell(hub, client, 5),
+    ]
 }
 
-/// The test ends if the second and third request are not refused.
-fn are_refused(
-    rt: &impl Abort,
-    alloc: Global,
-    action: BackpressureAction,
-    strategy: BackpressureStrategy,
-) -> Result<(), Fail> {
-    let told = requests(alloc, action, strategy)?;
-    let refused = RequestSendError::SendError(SendError::UnableToDeliver);
-    equal(
-        rt,
-        told,
-        (Some(Ok(1)), Some(Err(refused)), Some(Err(refused))),
-    );
-    Ok(())
+/// The test ends if the second and third request are not told so.
+fn requests(rt: &impl Abort, alloc: Global, full: Full, wanted: Result<u64, RequestSendError>) {
+    let told = in_ports(alloc, full, three_requests).expect(rt, "a hub with ports");
+    equal(rt, told, [Some(Ok(1)), Some(wanted), Some(wanted)]);
 }
 
-/// The test ends if the second and third request are not sent to no server.
-fn go_nowhere(
-    rt: &impl Abort,
-    alloc: Global,
-    action: BackpressureAction,
-    strategy: BackpressureStrategy,
-) -> Result<(), Fail> {
-    let told = requests(alloc, action, strategy)?;
-    equal(rt, told, (Some(Ok(1)), Some(Ok(0)), Some(Ok(0))));
-    Ok(())
+const FAILS: BackpressureAction = BackpressureAction::DiscardDataAndFail;
+
+const DISCARDS: BackpressureAction = BackpressureAction::DiscardData;
+
+const FOLLOWS: BackpressureAction = BackpressureAction::FollowBackpressureStrategy;
+
+const DISCARDING: BackpressureStrategy = BackpressureStrategy::DiscardData;
+
+const RETRYING: BackpressureStrategy = BackpressureStrategy::RetryUntilDelivered;
+
+const REFUSED: RequestSendError = RequestSendError::SendError(SendError::UnableToDeliver);
+
+#[test]
+fn requests_are_refused_that_the_strategy_discards(rt: HostRuntime) {
+    requests(&rt, rt.alloc(), (FAILS, DISCARDING), Err(REFUSED));
 }
 
 #[test]
-fn requests_are_refused_that_the_strategy_discards(rt: HostRuntime) -> Result<(), Fail> {
-    are_refused(
-        &rt,
-        rt.alloc(),
-        BackpressureAction::DiscardDataAndFail,
-        BackpressureStrategy::DiscardData,
-    )
+fn requests_are_discarded_that_the_strategy_refuses(rt: HostRuntime) {
+    requests(&rt, rt.alloc(), (DISCARDS, RETRYING), Ok(0));
 }
 
 #[test]
-fn requests_are_discarded_that_the_strategy_refuses(rt: HostRuntime) -> Result<(), Fail> {
-    go_nowhere(
-        &rt,
-        rt.alloc(),
-        BackpressureAction::DiscardData,
-        BackpressureStrategy::RetryUntilDelivered,
-    )
+fn requests_are_refused_as_the_strategy_says(rt: HostRuntime) {
+    requests(&rt, rt.alloc(), (FOLLOWS, RETRYING), Err(REFUSED));
 }
 
 #[test]
-fn requests_are_refused_as_the_strategy_says(rt: HostRuntime) -> Result<(), Fail> {
-    are_refused(
-        &rt,
-        rt.alloc(),
-        BackpressureAction::FollowBackpressureStrategy,
-        BackpressureStrategy::RetryUntilDelivered,
-    )
-}
-
-#[test]
-fn requests_are_discarded_as_the_strategy_says(rt: HostRuntime) -> Result<(), Fail> {
-    go_nowhere(
-        &rt,
-        rt.alloc(),
-        BackpressureAction::FollowBackpressureStrategy,
-        BackpressureStrategy::DiscardData,
-    )
+fn requests_are_discarded_as_the_strategy_says(rt: HostRuntime) {
+    requests(&rt, rt.alloc(), (FOLLOWS, DISCARDING), Ok(0));
 }
 
 // ---- responses
 
-/// A copy of a response is sent.
-fn answer_copied(hub: &mut Numbers, request: &Active, value: u64) -> Option<Result<(), SendError>> {
+/// A loaned response that carries this.
+fn loaned_response(
+    hub: &mut Handled,
+    request: &Active,
+    value: u64,
+) -> Option<ResponseMut<One<u64>, (), One<u64>, ()>> {
     if !request.exists(hub) {
         return None;
     }
-    Some(request.send_copy(hub, value))
+    Some(request.loan_uninit(hub).ok()?.write_payload(hub, value))
 }
 
-/// A loaned response is sent.
-fn answer_loaned(hub: &mut Numbers, request: &Active, value: u64) -> Option<Result<(), SendError>> {
-    if !request.exists(hub) {
-        return None;
-    }
-    let response = request.loan_uninit(hub).ok()?.write_payload(hub, value);
-    if hub.calls() < 1 << 56 {
+/// It is sent.
+fn answer_loaned(hub: &mut Handled, request: &Active, value: u64) -> Option<Result<(), SendError>> {
+    let response = loaned_response(hub, request, value)?;
+    if hub.calls() < 1 << 56 && response.exists(hub) {
         return Some(response.send(hub));
     }
     response.release(hub);
@@ -208,112 +153,59 @@ fn answer_loaned(hub: &mut Numbers, request: &Active, value: u64) -> Option<Resu
 }
 
 /// What the first of three responses is told, and the second, which is loaned, and the third.
-type Answered = (
-    Option<Result<(), SendError>>,
-    Option<Result<(), SendError>>,
-    Option<Result<(), SendError>>,
-);
+type Answered = [Option<Result<(), SendError>>; 3];
 
 /// The server answers the next request three times.
-fn answers(hub: &mut Numbers, server: &Answerer) -> Option<Answered> {
-    if hub.calls() >= 1 << 56 || !server.exists(hub) {
-        return None;
-    }
-    let request = server.receive(hub).ok()??;
-    let answered = (
-        answer_copied(hub, &request, 10),
+fn answers(hub: &mut Handled, server: &Answerer) -> Option<Answered> {
+    let request = receive(hub, server)?;
+    let answered = [
+        answer(hub, &request, 10),
         answer_loaned(hub, &request, 20),
-        answer_copied(hub, &request, 30),
-    );
+        answer(hub, &request, 30),
+    ];
     request.release(hub);
     Some(answered)
 }
 
-/// The number of the next response, if one comes.
-fn next(hub: &mut Numbers, pending: &Pending) -> Option<u64> {
-    if hub.calls() >= 1 << 56 || !pending.exists(hub) {
-        return None;
-    }
-    let response = pending.receive(hub).ok()??;
-    let value = response.payload(hub).first().copied();
-    response.release(hub);
-    value
-}
-
-/// What three responses are told, and which two are received.
-type Heard = (Option<Answered>, Option<u64>, Option<u64>);
-
-/// A request is answered three times.
-fn exchange(hub: &mut Numbers, client: &Asker, server: &Answerer) -> Option<Heard> {
-    if !client.exists(hub) {
-        return None;
-    }
-    let pending = client.send_copy(hub, 5).ok()?;
+/// What three responses to one request are told, and which two are received.
+fn three_responses(
+    hub: &mut Handled,
+    client: &Asker,
+    server: &Answerer,
+) -> Option<(Option<Answered>, Option<u64>, Option<u64>)> {
+    let pending = ask(hub, client, 5)?.ok()?;
     let answered = answers(hub, server);
-    let heard = (answered, next(hub, &pending), next(hub, &pending));
+    let told = (answered, heard(hub, &pending), heard(hub, &pending));
     pending.release(hub);
-    Some(heard)
+    Some(told)
 }
 
-/// The same of a new hub. The test ends if the second and third response are not told so, or if
-/// not only the first is received.
-fn responses(
-    rt: &impl Abort,
-    alloc: Global,
-    action: BackpressureAction,
-    strategy: BackpressureStrategy,
-    told: Result<(), SendError>,
-) -> Result<(), Fail> {
-    let mut hub = hub(alloc, strategy)?;
-    let (client, server) = ports(alloc, &mut hub, action)?;
-    let heard = exchange(&mut hub, &client, &server);
-    client.release(&mut hub);
-    server.release(&mut hub);
-    let answered = Some((Some(Ok(())), Some(told), Some(told)));
+/// The test ends if the second and third response are not told so, or if not only the first is
+/// received.
+fn responses(rt: &impl Abort, alloc: Global, full: Full, wanted: Result<(), SendError>) {
+    let heard = in_ports(alloc, full, three_responses).expect(rt, "a hub with ports");
+    let answered = Some([Some(Ok(())), Some(wanted), Some(wanted)]);
     equal(rt, heard, Some((answered, Some(10), None)));
-    Ok(())
 }
 
 #[test]
-fn responses_are_refused_that_the_strategy_discards(rt: HostRuntime) -> Result<(), Fail> {
-    responses(
-        &rt,
-        rt.alloc(),
-        BackpressureAction::DiscardDataAndFail,
-        BackpressureStrategy::DiscardData,
-        Err(SendError::UnableToDeliver),
-    )
+fn responses_are_refused_that_the_strategy_discards(rt: HostRuntime) {
+    let refused = Err(SendError::UnableToDeliver);
+    responses(&rt, rt.alloc(), (FAILS, DISCARDING), refused);
 }
 
 #[test]
-fn responses_are_discarded_that_the_strategy_refuses(rt: HostRuntime) -> Result<(), Fail> {
-    responses(
-        &rt,
-        rt.alloc(),
-        BackpressureAction::DiscardData,
-        BackpressureStrategy::RetryUntilDelivered,
-        Ok(()),
-    )
+fn responses_are_discarded_that_the_strategy_refuses(rt: HostRuntime) {
+    responses(&rt, rt.alloc(), (DISCARDS, RETRYING), Ok(()));
 }
 
 #[test]
-fn responses_are_refused_as_the_strategy_says(rt: HostRuntime) -> Result<(), Fail> {
-    responses(
-        &rt,
-        rt.alloc(),
-        BackpressureAction::FollowBackpressureStrategy,
-        BackpressureStrategy::RetryUntilDelivered,
-        Err(SendError::UnableToDeliver),
-    )
+fn responses_are_refused_as_the_strategy_says(rt: HostRuntime) {
+    let refused = Err(SendError::UnableToDeliver);
+    responses(&rt, rt.alloc(), (FOLLOWS, RETRYING), refused);
 }
 
 #[test]
-fn responses_are_discarded_as_the_strategy_says(rt: HostRuntime) -> Result<(), Fail> {
-    responses(
-        &rt,
-        rt.alloc(),
-        BackpressureAction::FollowBackpressureStrategy,
-        BackpressureStrategy::DiscardData,
-        Ok(()),
-    )
+fn responses_are_discarded_as_the_strategy_says(rt: HostRuntime) {
+    responses(&rt, rt.alloc(), (FOLLOWS, DISCARDING), Ok(()));
 }

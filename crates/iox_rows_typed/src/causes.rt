@@ -2,10 +2,9 @@
 
 use crate::expected::equal;
 use iceoryx2_ports::{ConnectionFailure, LoanError, ReceiveError, RequestSendError, SendError};
-use std::alloc::{AllocError, Global};
+use std::alloc::Global;
 use std::error::Error;
 use std::process::Abort;
-use std::test::Fail;
 
 const FAILURE: ConnectionFailure = ConnectionFailure::FailedToEstablishConnection;
 
@@ -16,15 +15,16 @@ fn told<E: Error + Copy + PartialEq + Drop>(
     error: E,
     wanted: E,
     texts: (&str, &str),
-) -> Result<(), AllocError> {
+) {
     equal(rt, error, wanted);
-    equal(rt, format!(in alloc; "{error:?}")?.as_str(), texts.0);
-    equal(rt, format!(in alloc; "{error}")?.as_str(), texts.1);
-    Ok(())
+    let debug = format!(in alloc; "{error:?}").expect(rt, "a text");
+    equal(rt, debug.as_str(), texts.0);
+    let text = format!(in alloc; "{error}").expect(rt, "a text");
+    equal(rt, text.as_str(), texts.1);
 }
 
 #[test]
-fn a_request_that_finds_no_free_message_is_not_sent(rt: HostRuntime) -> Result<(), Fail> {
+fn a_request_that_finds_no_free_message_is_not_sent(rt: HostRuntime) {
     told(
         &rt,
         rt.alloc(),
@@ -34,12 +34,11 @@ fn a_request_that_finds_no_free_message_is_not_sent(rt: HostRuntime) -> Result<(
             "SendError(LoanError(OutOfMemory))",
             "RequestSendError::SendError(LoanError(OutOfMemory))",
         ),
-    )?;
-    Ok(())
+    );
 }
 
 #[test]
-fn a_refused_send_of_a_request_is_told(rt: HostRuntime) -> Result<(), Fail> {
+fn a_refused_send_of_a_request_is_told(rt: HostRuntime) {
     told(
         &rt,
         rt.alloc(),
@@ -49,12 +48,11 @@ fn a_refused_send_of_a_request_is_told(rt: HostRuntime) -> Result<(), Fail> {
             "SendError(UnableToDeliver)",
             "RequestSendError::SendError(UnableToDeliver)",
         ),
-    )?;
-    Ok(())
+    );
 }
 
 #[test]
-fn a_request_over_a_failed_connection_is_not_sent(rt: HostRuntime) -> Result<(), Fail> {
+fn a_request_over_a_failed_connection_is_not_sent(rt: HostRuntime) {
     told(
         &rt,
         rt.alloc(),
@@ -64,12 +62,11 @@ fn a_request_over_a_failed_connection_is_not_sent(rt: HostRuntime) -> Result<(),
             "SendError(ConnectionError(FailedToEstablishConnection))",
             "RequestSendError::SendError(ConnectionError(FailedToEstablishConnection))",
         ),
-    )?;
-    Ok(())
+    );
 }
 
 #[test]
-fn a_response_past_the_limit_of_loans_is_not_sent(rt: HostRuntime) -> Result<(), Fail> {
+fn a_response_past_the_limit_of_loans_is_not_sent(rt: HostRuntime) {
     told(
         &rt,
         rt.alloc(),
@@ -79,12 +76,11 @@ fn a_response_past_the_limit_of_loans_is_not_sent(rt: HostRuntime) -> Result<(),
             "LoanError(ExceedsMaxLoans)",
             "SendError::LoanError(ExceedsMaxLoans)",
         ),
-    )?;
-    Ok(())
+    );
 }
 
 #[test]
-fn a_response_over_a_failed_connection_is_not_sent(rt: HostRuntime) -> Result<(), Fail> {
+fn a_response_over_a_failed_connection_is_not_sent(rt: HostRuntime) {
     told(
         &rt,
         rt.alloc(),
@@ -94,12 +90,11 @@ fn a_response_over_a_failed_connection_is_not_sent(rt: HostRuntime) -> Result<()
             "ConnectionError(FailedToEstablishConnection)",
             "SendError::ConnectionError(FailedToEstablishConnection)",
         ),
-    )?;
-    Ok(())
+    );
 }
 
 #[test]
-fn nothing_is_received_over_a_failed_connection(rt: HostRuntime) -> Result<(), Fail> {
+fn nothing_is_received_over_a_failed_connection(rt: HostRuntime) {
     told(
         &rt,
         rt.alloc(),
@@ -109,6 +104,5 @@ fn nothing_is_received_over_a_failed_connection(rt: HostRuntime) -> Result<(), F
             "ConnectionFailure(FailedToEstablishConnection)",
             "ReceiveError::ConnectionFailure(FailedToEstablishConnection)",
         ),
-    )?;
-    Ok(())
+    );
 }

@@ -1,30 +1,21 @@
 //! Copies go to a server and back, by typed ports: loan, write and send in one.
 
-use crate::exchange::{NODE, PART, settings};
+use crate::exchange::{PART, RETRYING, SETTINGS};
 use crate::expected::equal;
+use crate::numbers::{
+    Active, Answerer, Asker, Numbers, Told, answer, ask, heard, ports, receive, tell,
+};
 use iceoryx2_ports::{
-    ActiveRequest, BackpressureStrategy, Client, Hub, LoanError, MessageShape, One,
-    PendingResponse, PortFactoryClient, PortFactoryServer, RequestSendError, SendError, Server,
+    Hub, LoanError, MessageShape, One, RequestMutUninit, RequestSendError, SendError, Settings,
 };
 use std::alloc::{AllocError, Global};
-use std::test::Fail;
+use std::fmt::Debug;
+use std::process::Abort;
 
-type Numbers = Hub<One<u64>, (), One<u64>, ()>;
+type Unasked = RequestMutUninit<One<u64>, (), One<u64>, ()>;
 
-type Asker = Client<One<u64>, (), One<u64>, ()>;
-
-type Answerer = Server<One<u64>, (), One<u64>, ()>;
-
-type Pending = PendingResponse<One<u64>, (), One<u64>, ()>;
-
-type Active = ActiveRequest<One<u64>, (), One<u64>, ()>;
-
-/// A hub with a client of node 0 and a server of node 1, whose messages are numbers.
-fn numbers(
-    alloc: Global,
-    request_overflow: bool,
-    strategy: BackpressureStrategy,
-) -> Result<(Numbers, Asker, Answerer), AllocError> {
+/// A hub in which no port was made, and whose messages are numbers.
+fn hub(alloc: Global, settings: &Settings) -> Result<Numbers, AllocError> {
     let shape: MessageShape<u64, ()> = MessageShape {
         default: None,
         user_header: (),
@@ -32,49 +23,49 @@ fn numbers(
         user_part: PART,
         element_part: PART,
     };
-    let mut hub = Hub::new(alloc, settings(request_overflow, strategy), shape, shape)?;
-    let Ok(client) = PortFactoryClient::new(0, NODE).create(alloc, &mut hub) else {
-        return Err(AllocError);
-    };
-    match PortFactoryServer::new(1, NODE).create(alloc, &mut hub) {
-        Ok(server) => Ok((hub, client, server)),
-        Err(_) => {
-            client.release(&mut hub);
-            Err(AllocError)
-        }
-    }
+    Hub::new(alloc, *settings, shape, shape)
 }
 
-/// Sends a copy of that number.
-fn ask(hub: &mut Numbers, client: &Asker, value: u64) -> Option<Result<Pending, RequestSendError>> {
-    if client.exists(hub) {
-        return Some(client.send_copy(hub, value));
-    }
-    None
+/// What that tells of a client and a server of this hub. They are given up then. The bound of
+/// a closure may not name a type with a parameter, so `ports` has no such function beside it.
+fn at_ports<T, F: FnOnce(&mut Numbers, &Asker, &Answerer) -> T + Drop>(
+    alloc: Global,
+    hub: &mut Numbers,
+    told: F,
+) -> Result<T, AllocError>
+    requires { F.IsAlwaysCallable told }
+{
+    let (client, server) = ports(alloc, hub, None)?;
+    let told = told(hub, &client, &server);
+    client.release(hub);
+    server.release(hub);
+    Ok(told)
 }
 
-/// Sends a copy of that number, and gives the answer up: to how many servers it went, or why it did
-/// not.
-fn tell(hub: &mut Numbers, client: &Asker, value: u64) -> Option<Result<u64, RequestSendError>> {
-    match ask(hub, client, value)? {
-        Ok(pending) => {
-            let servers = pending.number_of_server_connections();
-            pending.release(hub);
-            Some(Ok(servers))
-        }
-        Err(error) => Some(Err(error)),
-    }
+/// The same of a new hub. Only this owns one.
+fn in_ports<T, F: FnOnce(&mut Numbers, &Asker, &Answerer) -> T + Drop>(
+    alloc: Global,
+    settings: &Settings,
+    told: F,
+) -> Result<T, AllocError>
+    requires { F.IsAlwaysCallable told }
+{
+    let mut hub = hub(alloc, settings)?;
+    at_ports(alloc, &mut hub, told)
 }
 
-/// The next request.
-fn receive(hub: &mut Numbers, server: &Answerer) -> Option<Active> {
-    if hub.calls() < 1 << 56 && server.exists(hub) {
-        return match server.receive(hub) {
-            Ok(got) => got,
-            Err(_) => None,
-        };
-    }
-    None
+/// Ends the test if that tells something else.
+fn ports_tell<T: PartialEq + Debug + Drop, F: FnOnce(&mut Numbers, &Asker, &Answerer) -> T + Drop>(
+    rt: &impl Abort,
+    alloc: Global,
+    settings: &Settings,
+    told: F,
+    wanted: T,
+)
+    requires { F.IsAlwaysCallable told }
+{
+    let told = in_ports(alloc, settings, told).expect(rt, "a hub with ports");
+    equal(rt, told, wanted);
 }
 
 /// What the request says, and what comes of a copy that answers it with twice that.
@@ -82,141 +73,116 @@ fn double(hub: &mut Numbers, request: &Active) -> Option<(u64, Result<(), SendEr
     if !request.exists(hub) {
         return None;
     }
-    let value = *request.payload(hub).first()?;
-    Some((value, request.send_copy(hub, value.wrapping_mul(2))))
+    let value = request.payload(hub).first().copied()?;
+    Some((value, answer(hub, request, value.wrapping_mul(2))?))
 }
 
-/// What the next response says.
-fn heard(hub: &mut Numbers, pending: &Pending) -> Option<u64> {
-    if hub.calls() >= 1 << 56 || !pending.exists(hub) {
-        return None;
-    }
-    match pending.receive(hub) {
-        Ok(Some(response)) => {
-            let value = response.first(hub).copied();
-            response.release(hub);
-            value
-        }
-        Ok(None) => None,
-        Err(_) => None,
-    }
-}
-
-/// What the server reads of the next request, what comes of its answer, and what the client reads.
-fn round(
-    hub: &mut Numbers,
-    pending: &Pending,
-    server: &Answerer,
-) -> Option<(u64, Result<(), SendError>, Option<u64>)> {
+/// The same of the next request.
+fn doubled(hub: &mut Numbers, server: &Answerer) -> Option<(u64, Result<(), SendError>)> {
     let request = receive(hub, server)?;
     let told = double(hub, &request);
     request.release(hub);
-    let (value, answered) = told?;
-    Some((value, answered, heard(hub, pending)))
+    told
+}
+
+/// What the server reads of a request, what comes of its answer, and what the client reads.
+type Round = (Option<(u64, Result<(), SendError>)>, Option<u64>);
+
+/// The same of a request that is sent now.
+fn round(hub: &mut Numbers, client: &Asker, server: &Answerer) -> Option<Round> {
+    let pending = ask(hub, client, 123)?.ok()?;
+    let told = doubled(hub, server);
+    let heard = heard(hub, &pending);
+    pending.release(hub);
+    Some((told, heard))
 }
 
 #[test]
-fn a_copy_is_answered_by_a_copy(rt: HostRuntime) -> Result<(), Fail> {
-    let (mut hub, client, server) = numbers(rt.alloc(), true, BackpressureStrategy::DiscardData)?;
-    let seen = match ask(&mut hub, &client, 123) {
-        Some(Ok(pending)) => {
-            let seen = round(&mut hub, &pending, &server);
-            pending.release(&mut hub);
-            seen
-        }
-        Some(Err(_)) => None,
-        None => None,
-    };
-    client.release(&mut hub);
-    server.release(&mut hub);
-    equal(&rt, seen, Some((123, Ok(()), Some(246))));
-    Ok(())
+fn a_copy_is_answered_by_a_copy(rt: HostRuntime) {
+    const DOUBLED: Option<Round> = Some((Some((123, Ok(()))), Some(246)));
+    ports_tell(&rt, rt.alloc(), &SETTINGS, round, DOUBLED);
 }
 
-#[test]
-fn a_copy_counts_two_calls(rt: HostRuntime) -> Result<(), Fail> {
-    let (mut hub, client, server) = numbers(rt.alloc(), true, BackpressureStrategy::DiscardData)?;
+/// What a copy is told, and how many calls were counted before and after it.
+fn counted(hub: &mut Numbers, client: &Asker, _server: &Answerer) -> (Told, u64, u64) {
     let before = hub.calls();
-    let sent = tell(&mut hub, &client, 1);
-    let after = hub.calls();
-    client.release(&mut hub);
-    server.release(&mut hub);
-    equal(&rt, sent, Some(Ok(1)));
-    equal(&rt, (before, after), (0, 2));
-    Ok(())
+    let sent = tell(hub, client, 1);
+    (sent, before, hub.calls())
 }
 
 #[test]
-fn a_copy_past_the_limit_is_refused(rt: HostRuntime) -> Result<(), Fail> {
-    let (mut hub, client, server) = numbers(rt.alloc(), true, BackpressureStrategy::DiscardData)?;
-    let second = match ask(&mut hub, &client, 1) {
-        Some(Ok(pending)) => {
-            let second = tell(&mut hub, &client, 2);
-            pending.release(&mut hub);
-            second
-        }
-        Some(Err(_)) => None,
-        None => None,
-    };
-    let third = tell(&mut hub, &client, 3);
-    client.release(&mut hub);
-    server.release(&mut hub);
-    equal(
-        &rt,
-        second,
+fn a_copy_counts_two_calls(rt: HostRuntime) {
+    ports_tell(&rt, rt.alloc(), &SETTINGS, counted, (Some(Ok(1)), 0, 2));
+}
+
+/// What a second copy is told beside one whose request is under way.
+fn beside_one(hub: &mut Numbers, client: &Asker) -> Told {
+    let pending = ask(hub, client, 1)?.ok()?;
+    let second = tell(hub, client, 2);
+    pending.release(hub);
+    second
+}
+
+/// The same, and what a third one is told when that is over.
+fn second_and_third(hub: &mut Numbers, client: &Asker, _server: &Answerer) -> (Told, Told) {
+    let second = beside_one(hub, client);
+    (second, tell(hub, client, 3))
+}
+
+#[test]
+fn a_copy_past_the_limit_is_refused(rt: HostRuntime) {
+    const ONE_AWAITED: (Told, Told) = (
         Some(Err(RequestSendError::ExceedsMaxActiveRequests)),
+        Some(Ok(1)),
     );
-    equal(&rt, third, Some(Ok(1)));
-    Ok(())
+    ports_tell(&rt, rt.alloc(), &SETTINGS, second_and_third, ONE_AWAITED);
+}
+
+/// What two copies are told.
+fn two_copies(hub: &mut Numbers, client: &Asker, _server: &Answerer) -> (Told, Told) {
+    let first = tell(hub, client, 5);
+    (first, tell(hub, client, 6))
 }
 
 #[test]
-fn a_full_server_makes_a_copy_fail(rt: HostRuntime) -> Result<(), Fail> {
-    let (mut hub, client, server) = numbers(
-        rt.alloc(),
-        false,
-        BackpressureStrategy::RetryUntilDelivered,
-    )?;
-    let sent = (tell(&mut hub, &client, 5), tell(&mut hub, &client, 6));
-    client.release(&mut hub);
-    server.release(&mut hub);
-    let refused = RequestSendError::SendError(SendError::UnableToDeliver);
-    equal(&rt, sent, (Some(Ok(1)), Some(Err(refused))));
-    Ok(())
+fn a_full_server_makes_a_copy_fail(rt: HostRuntime) {
+    const COPY_FAILS: (Told, Told) = (
+        Some(Ok(1)),
+        Some(Err(RequestSendError::SendError(SendError::UnableToDeliver))),
+    );
+    ports_tell(&rt, rt.alloc(), &RETRYING, two_copies, COPY_FAILS);
 }
 
-/// What comes of a copy beside two loans, and of one beside none.
-fn beside_loans(
-    hub: &mut Numbers,
-    client: &Asker,
-) -> Option<(Result<u64, RequestSendError>, Result<u64, RequestSendError>)> {
-    if !client.exists(hub) {
-        return None;
+/// A loaned request.
+fn lent(hub: &mut Numbers, client: &Asker) -> Option<Unasked> {
+    if client.exists(hub) {
+        return client.loan_uninit(hub).ok();
     }
-    let first = client.loan_uninit(hub).ok()?;
-    let Ok(second) = client.loan_uninit(hub) else {
+    None
+}
+
+/// What comes of a copy beside two loans.
+fn beside_two(hub: &mut Numbers, client: &Asker) -> Told {
+    let first = lent(hub, client)?;
+    let Some(second) = lent(hub, client) else {
         first.release(hub);
         return None;
     };
     let beside = tell(hub, client, 8);
     first.release(hub);
     second.release(hub);
-    Some((beside?, tell(hub, client, 9)?))
+    beside
+}
+
+/// The same, and what comes of one beside none.
+fn beside_loans(hub: &mut Numbers, client: &Asker, _server: &Answerer) -> (Told, Told) {
+    let beside = beside_two(hub, client);
+    (beside, tell(hub, client, 9))
 }
 
 #[test]
-fn a_copy_beside_two_loans_is_refused(rt: HostRuntime) -> Result<(), Fail> {
-    let (mut hub, client, server) = numbers(rt.alloc(), true, BackpressureStrategy::DiscardData)?;
-    let told = beside_loans(&mut hub, &client);
-    client.release(&mut hub);
-    server.release(&mut hub);
-    equal(
-        &rt,
-        told,
-        Some((
-            Err(RequestSendError::from(LoanError::ExceedsMaxLoans)),
-            Ok(1),
-        )),
-    );
-    Ok(())
+fn a_copy_beside_two_loans_is_refused(rt: HostRuntime) {
+    let refused = RequestSendError::from(LoanError::ExceedsMaxLoans);
+    let wanted = (Some(Err(refused)), Some(Ok(1)));
+    ports_tell(&rt, rt.alloc(), &SETTINGS, beside_loans, wanted);
 }

@@ -1,15 +1,14 @@
-//! Loans that are filled with their default, and messages that carry nothing, by typed ports.
+//! Loans that are filled with their default, by typed ports.
 ghost use Rattle.std.specs.Prelude.{IfOk, IsSome};
 ghost use Rattle.iceoryx2_ports.specs.HubKeeping.{HaveSameShapes};
 
-use crate::exchange::{NODE, settings};
+use crate::exchange::{NODE, SETTINGS};
 use crate::expected::equal;
 use iceoryx2_ports::{
-    ActiveRequest, BackpressureStrategy, Client, Hub, Many, MessageShape, One, Payload,
-    PendingResponse, PortFactoryClient, PortFactoryServer, Server,
+    ActiveRequest, Client, Hub, Many, MessageShape, One, Payload, PendingResponse,
+    PortFactoryClient, PortFactoryServer, Server,
 };
 use std::alloc::{AllocError, Global};
-use std::test::Fail;
 
 /// Requests of one number, and responses of many bytes.
 type Bytes = Hub<One<u64>, (), Many<u8>, ()>;
@@ -17,22 +16,14 @@ type Bytes = Hub<One<u64>, (), Many<u8>, ()>;
 /// Requests of many numbers, and responses of one.
 type Numbers = Hub<Many<u64>, (), One<u64>, ()>;
 
-/// Requests and responses that carry nothing.
-type Signals = Hub<One<()>, (), Many<()>, ()>;
-
 /// A hub whose requests carry 7, and whose responses carry nines, where nothing is written.
 fn bytes(alloc: Global) -> Result<Bytes, AllocError>
     ensures request { IfOk result (λ hub. IsSome hub.request.default) }
     ensures response { IfOk result (λ hub. IsSome hub.response.default) }
 {
-    let settings = settings(true, BackpressureStrategy::DiscardData);
     let request = MessageShape::of_requests(Some(7), ());
-    Hub::new(
-        alloc,
-        settings,
-        request,
-        MessageShape::of_responses(Some(9), ()),
-    )
+    let response = MessageShape::of_responses(Some(9), ());
+    Hub::new(alloc, SETTINGS, request, response)
 }
 
 /// A hub whose requests carry eights, and whose responses carry 6, where nothing is written.
@@ -40,39 +31,35 @@ fn numbers(alloc: Global) -> Result<Numbers, AllocError>
     ensures request { IfOk result (λ hub. IsSome hub.request.default) }
     ensures response { IfOk result (λ hub. IsSome hub.response.default) }
 {
-    let settings = settings(true, BackpressureStrategy::DiscardData);
     let request = MessageShape::of_requests(Some(8), ());
-    Hub::new(
-        alloc,
-        settings,
-        request,
-        MessageShape::of_responses(Some(6), ()),
-    )
+    let response = MessageShape::of_responses(Some(6), ());
+    Hub::new(alloc, SETTINGS, request, response)
 }
 
-/// A client of node 0 and a server of node 1, whose messages have at most four elements.
-fn ports<Q: Payload, P: Payload>(
+/// A client of node 0, whose requests have at most four elements.
+pub fn asker<Q: Payload, P: Payload>(
     alloc: Global,
     hub: &mut Hub<Q, (), P, ()>,
-) -> Result<(Client<Q, (), P, ()>, Server<Q, (), P, ()>), AllocError>
+) -> Option<Client<Q, (), P, ()>>
     ensures { HaveSameShapes hub.old hub.new }
 {
-    let client = PortFactoryClient::new(0, NODE).initial_max_slice_len(4);
-    let Ok(client) = client.create(alloc, hub) else {
-        return Err(AllocError);
-    };
-    let server = PortFactoryServer::new(1, NODE).initial_max_slice_len(4);
-    match server.create(alloc, hub) {
-        Ok(server) => Ok((client, server)),
-        Err(_) => {
-            client.release(hub);
-            Err(AllocError)
-        }
-    }
+    let factory = PortFactoryClient::new(0, NODE).initial_max_slice_len(4);
+    factory.create(alloc, hub).ok()
+}
+
+/// A server of node 1, whose responses have at most four elements.
+pub fn answerer<Q: Payload, P: Payload>(
+    alloc: Global,
+    hub: &mut Hub<Q, (), P, ()>,
+) -> Option<Server<Q, (), P, ()>>
+    ensures { HaveSameShapes hub.old hub.new }
+{
+    let factory = PortFactoryServer::new(1, NODE).initial_max_slice_len(4);
+    factory.create(alloc, hub).ok()
 }
 
 /// The next request.
-fn receive<Q: Payload, P: Payload>(
+pub fn receive<Q: Payload, P: Payload>(
     hub: &mut Hub<Q, (), P, ()>,
     server: &Server<Q, (), P, ()>,
 ) -> Option<ActiveRequest<Q, (), P, ()>>
@@ -115,7 +102,20 @@ fn first_bytes(
     Some(told)
 }
 
-/// The same of the answer to a request.
+/// The same of the answer to the next request.
+fn received_with_bytes(
+    hub: &mut Bytes,
+    server: &Server<One<u64>, (), Many<u8>, ()>,
+) -> Option<(usize, Option<u8>)>
+    requires { IsSome hub.old.response.default }
+{
+    let request = receive(hub, server)?;
+    let told = first_bytes(hub, &request);
+    request.release(hub);
+    told
+}
+
+/// The same of the answer to a request that is sent now.
 fn answered_with_bytes(
     hub: &mut Bytes,
     client: &Client<One<u64>, (), Many<u8>, ()>,
@@ -127,28 +127,52 @@ fn answered_with_bytes(
         return None;
     }
     let pending = client.send_copy(hub, 1).ok()?;
-    let mut told = None;
-    if let Some(request) = receive(hub, server) {
-        told = first_bytes(hub, &request);
-        request.release(hub);
-    }
+    let told = received_with_bytes(hub, server);
     pending.release(hub);
     told
 }
 
+/// What such a request carries, and how many bytes such a response has, with the last of them.
+type OfBytes = Option<(Option<u64>, Option<(usize, Option<u8>)>)>;
+
+/// The same of this client, and of a server that is made now.
+fn told_by_client(
+    hub: &mut Bytes,
+    alloc: Global,
+    client: &Client<One<u64>, (), Many<u8>, ()>,
+) -> OfBytes
+    requires request { IsSome hub.old.request.default }
+    requires response { IsSome hub.old.response.default }
+{
+    let server = answerer(alloc, hub)?;
+    let value = first_number(hub, client);
+    let told = answered_with_bytes(hub, client, &server);
+    server.release(hub);
+    Some((value, told))
+}
+
+/// The same of a client that is made now as well.
+fn told_by_bytes(hub: &mut Bytes, alloc: Global) -> OfBytes
+    requires request { IsSome hub.old.request.default }
+    requires response { IsSome hub.old.response.default }
+{
+    let client = asker(alloc, hub)?;
+    let told = told_by_client(hub, alloc, &client);
+    client.release(hub);
+    told
+}
+
+/// The same of a new hub.
+fn of_bytes(alloc: Global) -> Result<OfBytes, AllocError> {
+    let mut hub = bytes(alloc)?;
+    Ok(told_by_bytes(&mut hub, alloc))
+}
+
 #[test]
-fn a_request_of_one_and_a_response_of_many_have_their_defaults(
-    rt: HostRuntime,
-) -> Result<(), Fail> {
-    let mut hub = bytes(rt.alloc())?;
-    let (client, server) = ports(rt.alloc(), &mut hub)?;
-    let value = first_number(&mut hub, &client);
-    let told = answered_with_bytes(&mut hub, &client, &server);
-    client.release(&mut hub);
-    server.release(&mut hub);
-    equal(&rt, value, Some(7));
-    equal(&rt, told, Some((3, Some(9))));
-    Ok(())
+fn a_request_of_one_and_a_response_of_many_have_their_defaults(rt: HostRuntime) {
+    const SEVEN_AND_NINES: OfBytes = Some((Some(7), Some((3, Some(9)))));
+    let told = of_bytes(rt.alloc()).expect(&rt, "a hub");
+    equal(&rt, told, SEVEN_AND_NINES);
 }
 
 /// The last of two numbers of a request that is loaned with their defaults, and sent.
@@ -187,107 +211,62 @@ fn answer_number(
     value
 }
 
-/// The last number of a request and the number of its answer.
-fn numbers_of_both(
+/// The same of the answer to the next request.
+fn received_with_number(
     hub: &mut Numbers,
-    client: &Client<Many<u64>, (), One<u64>, ()>,
     server: &Server<Many<u64>, (), One<u64>, ()>,
-) -> Option<(Option<u64>, Option<u64>)>
+) -> Option<u64>
+    requires { IsSome hub.old.response.default }
+{
+    let request = receive(hub, server)?;
+    let value = answer_number(hub, &request);
+    request.release(hub);
+    value
+}
+
+/// The last number of a request and the number of its answer.
+type OfNumbers = Option<(Option<u64>, Option<u64>)>;
+
+/// The same of this client, and of a server that is made now.
+fn numbers_of_client(
+    hub: &mut Numbers,
+    alloc: Global,
+    client: &Client<Many<u64>, (), One<u64>, ()>,
+) -> OfNumbers
     requires request { IsSome hub.old.request.default }
     requires response { IsSome hub.old.response.default }
 {
-    let (last, pending) = ask_for_numbers(hub, client)?;
-    let mut value = None;
-    if let Some(request) = receive(hub, server) {
-        value = answer_number(hub, &request);
-        request.release(hub);
-    }
+    let server = answerer(alloc, hub)?;
+    let Some((last, pending)) = ask_for_numbers(hub, client) else {
+        server.release(hub);
+        return None;
+    };
+    let value = received_with_number(hub, &server);
     pending.release(hub);
+    server.release(hub);
     Some((last, value))
 }
 
-#[test]
-fn a_request_of_many_and_a_response_of_one_have_their_defaults(
-    rt: HostRuntime,
-) -> Result<(), Fail> {
-    let mut hub = numbers(rt.alloc())?;
-    let (client, server) = ports(rt.alloc(), &mut hub)?;
-    let told = numbers_of_both(&mut hub, &client, &server);
-    client.release(&mut hub);
-    server.release(&mut hub);
-    equal(&rt, told, Some((Some(8), Some(6))));
-    Ok(())
+/// The same of a client that is made now as well.
+fn numbers_of_both(hub: &mut Numbers, alloc: Global) -> OfNumbers
+    requires request { IsSome hub.old.request.default }
+    requires response { IsSome hub.old.response.default }
+{
+    let client = asker(alloc, hub)?;
+    let told = numbers_of_client(hub, alloc, &client);
+    client.release(hub);
+    told
 }
 
-/// Answers a request with three elements, and says how many the request has.
-fn answer_signals(
-    hub: &mut Signals,
-    request: &ActiveRequest<One<()>, (), Many<()>, ()>,
-) -> Option<usize> {
-    if !request.exists(hub) {
-        return None;
-    }
-    let asked = request.payload(hub).len();
-    let loan = request.loan_slice_uninit(hub, 3).ok()?;
-    let response = match loan.write_from_slice(hub, &[(), (), ()]) {
-        Ok(response) => response,
-        Err(loan) => {
-            loan.release(hub);
-            return None;
-        }
-    };
-    if hub.calls() >= 1 << 56 {
-        response.release(hub);
-        return None;
-    }
-    response.send(hub).ok()?;
-    Some(asked)
-}
-
-/// How many elements the next response has.
-fn hear_signals(
-    hub: &mut Signals,
-    pending: &PendingResponse<One<()>, (), Many<()>, ()>,
-) -> Option<usize> {
-    if hub.calls() >= 1 << 56 || !pending.exists(hub) {
-        return None;
-    }
-    let response = pending.receive(hub).ok()??;
-    let heard = response.payload(hub).len();
-    response.release(hub);
-    Some(heard)
-}
-
-/// How many elements a request and its response have.
-fn signals_of_both(
-    hub: &mut Signals,
-    client: &Client<One<()>, (), Many<()>, ()>,
-    server: &Server<One<()>, (), Many<()>, ()>,
-) -> Option<(Option<usize>, Option<usize>)> {
-    if !client.exists(hub) {
-        return None;
-    }
-    let pending = client.send_copy(hub, ()).ok()?;
-    let mut asked = None;
-    if let Some(request) = receive(hub, server) {
-        asked = answer_signals(hub, &request);
-        request.release(hub);
-    }
-    let heard = hear_signals(hub, &pending);
-    pending.release(hub);
-    Some((asked, heard))
+/// The same of a new hub.
+fn of_numbers(alloc: Global) -> Result<OfNumbers, AllocError> {
+    let mut hub = numbers(alloc)?;
+    Ok(numbers_of_both(&mut hub, alloc))
 }
 
 #[test]
-fn messages_may_carry_nothing(rt: HostRuntime) -> Result<(), Fail> {
-    let settings = settings(true, BackpressureStrategy::DiscardData);
-    let request = MessageShape::of_requests(None, ());
-    let response = MessageShape::of_responses(None, ());
-    let mut hub: Signals = Hub::new(rt.alloc(), settings, request, response)?;
-    let (client, server) = ports(rt.alloc(), &mut hub)?;
-    let told = signals_of_both(&mut hub, &client, &server);
-    client.release(&mut hub);
-    server.release(&mut hub);
-    equal(&rt, told, Some((Some(1), Some(3))));
-    Ok(())
+fn a_request_of_many_and_a_response_of_one_have_their_defaults(rt: HostRuntime) {
+    const EIGHT_AND_SIX: OfNumbers = Some((Some(8), Some(6)));
+    let told = of_numbers(rt.alloc()).expect(&rt, "a hub");
+    equal(&rt, told, EIGHT_AND_SIX);
 }

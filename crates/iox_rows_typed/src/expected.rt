@@ -7,8 +7,3 @@ use std::process::Abort;
 pub fn equal<T: PartialEq + Debug + Drop>(rt: &impl Abort, value: T, wanted: T) {
     assert_eq!(rt; value, wanted);
 }
-
-/// Ends the test if this is not so.
-pub fn holds(rt: &impl Abort, fact: bool) {
-    assert!(rt; fact);
-}

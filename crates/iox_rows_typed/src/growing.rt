@@ -1,50 +1,33 @@
 //! Messages that grow, by typed ports.
 
-use crate::exchange::{NODE, PART, settings};
+use crate::exchange::NODE;
 use crate::expected::equal;
+use crate::long_requests::{Lister, Lists, in_hub, lends, lent};
 use iceoryx2_ports::{
-    AllocationStrategy, BackpressureStrategy, Client, Hub, LoanError, Many, MessageShape, One,
-    PendingResponse, PortFactoryClient, PortFactoryServer, Server,
+    ActiveRequest, AllocationStrategy, LoanError, Many, One, PendingResponse, PortFactoryClient,
+    PortFactoryServer, RequestMut, Server,
 };
-use std::alloc::{AllocError, Global};
-use std::test::Fail;
-
-type Lists = Hub<Many<u64>, (), One<u64>, ()>;
-
-type Lister = Client<Many<u64>, (), One<u64>, ()>;
+use std::alloc::Global;
 
 type Reader = Server<Many<u64>, (), One<u64>, ()>;
 
 type Pending = PendingResponse<Many<u64>, (), One<u64>, ()>;
 
-/// A hub with a client of node 0, whose requests have one element unless they grow, and a server of
-/// node 1.
-fn lists(
-    alloc: Global,
-    allocation: AllocationStrategy,
-) -> Result<(Lists, Lister, Reader), AllocError> {
-    let shape: MessageShape<u64, ()> = MessageShape {
-        default: None,
-        user_header: (),
-        header_part: PART,
-        user_part: PART,
-        element_part: PART,
-    };
-    let settings = settings(true, BackpressureStrategy::DiscardData);
-    let mut hub = Hub::new(alloc, settings, shape, shape)?;
+type Active = ActiveRequest<Many<u64>, (), One<u64>, ()>;
+
+type Asking = RequestMut<Many<u64>, (), One<u64>, ()>;
+
+/// A client of node 0, whose requests have one element unless they grow.
+fn lister(hub: &mut Lists, alloc: Global, allocation: AllocationStrategy) -> Option<Lister> {
     let factory = PortFactoryClient::new(0, NODE)
         .initial_max_slice_len(1)
         .allocation_strategy(allocation);
-    let Ok(client) = factory.create(alloc, &mut hub) else {
-        return Err(AllocError);
-    };
-    match PortFactoryServer::new(1, NODE).create(alloc, &mut hub) {
-        Ok(server) => Ok((hub, client, server)),
-        Err(_) => {
-            client.release(&mut hub);
-            Err(AllocError)
-        }
-    }
+    factory.create(alloc, hub).ok()
+}
+
+/// A server of node 1.
+fn reader(hub: &mut Lists, alloc: Global) -> Option<Reader> {
+    PortFactoryServer::new(1, NODE).create(alloc, hub).ok()
 }
 
 /// The numbers from 0 on, 33 of them.
@@ -53,31 +36,47 @@ const FIRST_33: [u64; 33] = [
     26, 27, 28, 29, 30, 31, 32,
 ];
 
-/// Sends the numbers from 0 on, in a loan of 33 elements.
-fn ask(hub: &mut Lists, client: &Lister) -> Option<Pending> {
-    if !client.exists(hub) {
-        return None;
+/// The numbers from 0 on, in a loan of 33 elements.
+fn loaned(hub: &mut Lists, client: &Lister) -> Option<Asking> {
+    let loan = lent(hub, client, 33)?.ok()?;
+    if loan.exists(hub) {
+        return Some(loan.write_from_fn(hub, |index| index as u64));
     }
-    let loan = client.loan_slice_uninit(hub, 33).ok()?;
-    let request = loan.write_from_fn(hub, |index| index as u64);
-    if hub.calls() < 1 << 56 {
+    loan.release(hub);
+    None
+}
+
+/// They are sent.
+fn ask(hub: &mut Lists, client: &Lister) -> Option<Pending> {
+    let request = loaned(hub, client)?;
+    if hub.calls() < 1 << 56 && request.exists(hub) {
         return request.send(hub).ok();
     }
     request.release(hub);
     None
 }
 
-/// Whether the next request carries the numbers from 0 on, 33 of them.
+/// The next request.
+fn receive(hub: &mut Lists, server: &Reader) -> Option<Active> {
+    if hub.calls() < 1 << 56 && server.exists(hub) {
+        return server.receive(hub).ok()?;
+    }
+    None
+}
+
+/// Whether a request carries the numbers from 0 on, 33 of them.
+fn has_33(hub: &Lists, request: &Active) -> Option<bool> {
+    if request.exists(hub) {
+        return Some(request.payload(hub) == &FIRST_33[..]);
+    }
+    None
+}
+
+/// The same of the next request.
 fn reads_33(hub: &mut Lists, server: &Reader) -> Option<bool> {
-    if hub.calls() >= 1 << 56 || !server.exists(hub) {
-        return None;
-    }
-    let active = server.receive(hub).ok()??;
-    let mut same = None;
-    if active.exists(hub) {
-        same = Some(active.payload(hub) == &FIRST_33[..]);
-    }
-    active.release(hub);
+    let request = receive(hub, server)?;
+    let same = has_33(hub, &request);
+    request.release(hub);
     same
 }
 
@@ -89,64 +88,76 @@ fn goes_around(hub: &mut Lists, client: &Lister, server: &Reader) -> Option<bool
     same
 }
 
-/// Why there is no loan of so many elements.
-fn refused(hub: &mut Lists, client: &Lister, elements: usize) -> Option<LoanError> {
-    if !client.exists(hub) {
-        return None;
-    }
-    match client.loan_slice_uninit(hub, elements) {
-        Ok(loan) => {
-            loan.release(hub);
-            None
-        }
-        Err(error) => Some(error),
-    }
+/// What comes of two requests of 33 elements, and whether there is a loan of 2^59, of 2^62 and of
+/// 33.
+type Outcome = (
+    Option<bool>,
+    Option<bool>,
+    [Option<Result<(), LoanError>>; 3],
+);
+
+/// The same of these ports.
+fn of_ports(hub: &mut Lists, client: &Lister, server: &Reader) -> Outcome {
+    let first = goes_around(hub, client, server);
+    let huge = lends(hub, client, 1 << 59);
+    let unaddressed = lends(hub, client, 1 << 62);
+    let second = goes_around(hub, client, server);
+    (first, second, [huge, unaddressed, lends(hub, client, 33)])
 }
 
-/// What comes of two requests of 33 elements, and why there is no loan of 2^59, of 2^62 and of 33.
-type Outcome = (Option<bool>, Option<bool>, [Option<LoanError>; 3]);
+/// The same of this client, and of a server that is made now.
+fn of_client(hub: &mut Lists, alloc: Global, client: &Lister) -> Option<Outcome> {
+    let server = reader(hub, alloc)?;
+    let told = of_ports(hub, client, &server);
+    server.release(hub);
+    Some(told)
+}
 
-/// Tries all of that.
-fn tries(alloc: Global, allocation: AllocationStrategy) -> Result<Outcome, AllocError> {
-    let (mut hub, client, server) = lists(alloc, allocation)?;
-    let first = goes_around(&mut hub, &client, &server);
-    let huge = refused(&mut hub, &client, 1 << 59);
-    let unaddressed = refused(&mut hub, &client, 1 << 62);
-    let second = goes_around(&mut hub, &client, &server);
-    let again = refused(&mut hub, &client, 33);
-    client.release(&mut hub);
-    server.release(&mut hub);
-    Ok((first, second, [huge, unaddressed, again]))
+/// The same of a client that is made now as well.
+fn tries(hub: &mut Lists, alloc: Global, allocation: AllocationStrategy) -> Option<Outcome> {
+    let client = lister(hub, alloc, allocation)?;
+    let told = of_client(hub, alloc, &client);
+    client.release(hub);
+    told
+}
+
+/// The same where messages grow by what is lent.
+fn best_fit(hub: &mut Lists, alloc: Global) -> Option<Outcome> {
+    tries(hub, alloc, AllocationStrategy::BestFit)
+}
+
+/// The same where they grow to a power of two.
+fn power_of_two(hub: &mut Lists, alloc: Global) -> Option<Outcome> {
+    tries(hub, alloc, AllocationStrategy::PowerOfTwo)
+}
+
+/// The same where they do not grow.
+fn fixed(hub: &mut Lists, alloc: Global) -> Option<Outcome> {
+    tries(hub, alloc, AllocationStrategy::Static)
+}
+
+const WANT: Option<Result<(), LoanError>> = Some(Err(LoanError::WantOfMemory));
+
+const LONG: Option<Result<(), LoanError>> = Some(Err(LoanError::ExceedsMaxLoanSize));
+
+/// What comes of requests that grow.
+const GROWN: Outcome = (Some(true), Some(true), [WANT, LONG, Some(Ok(()))]);
+
+#[test]
+fn a_message_grows_by_what_is_lent(rt: HostRuntime) {
+    let told = in_hub(rt.alloc(), best_fit).expect(&rt, "a hub");
+    equal(&rt, told, Some(GROWN));
 }
 
 #[test]
-fn a_message_grows_by_what_is_lent(rt: HostRuntime) -> Result<(), Fail> {
-    let outcome = tries(rt.alloc(), AllocationStrategy::BestFit)?;
-    let errors = [
-        Some(LoanError::WantOfMemory),
-        Some(LoanError::ExceedsMaxLoanSize),
-        None,
-    ];
-    equal(&rt, outcome, (Some(true), Some(true), errors));
-    Ok(())
+fn a_message_grows_to_a_power_of_two(rt: HostRuntime) {
+    let told = in_hub(rt.alloc(), power_of_two).expect(&rt, "a hub");
+    equal(&rt, told, Some(GROWN));
 }
 
 #[test]
-fn a_message_grows_to_a_power_of_two(rt: HostRuntime) -> Result<(), Fail> {
-    let outcome = tries(rt.alloc(), AllocationStrategy::PowerOfTwo)?;
-    let errors = [
-        Some(LoanError::WantOfMemory),
-        Some(LoanError::ExceedsMaxLoanSize),
-        None,
-    ];
-    equal(&rt, outcome, (Some(true), Some(true), errors));
-    Ok(())
-}
-
-#[test]
-fn no_message_grows_where_that_is_not_wanted(rt: HostRuntime) -> Result<(), Fail> {
-    let outcome = tries(rt.alloc(), AllocationStrategy::Static)?;
-    let long = Some(LoanError::ExceedsMaxLoanSize);
-    equal(&rt, outcome, (None, None, [long, long, long]));
-    Ok(())
+fn no_message_grows_where_that_is_not_wanted(rt: HostRuntime) {
+    let wanted: Outcome = (None, None, [LONG, LONG, LONG]);
+    let told = in_hub(rt.alloc(), fixed).expect(&rt, "a hub");
+    equal(&rt, told, Some(wanted));
 }

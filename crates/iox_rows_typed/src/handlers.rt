@@ -1,13 +1,12 @@
 //! Requests to full servers, of a client whose handler answers by the server.
 
-use crate::exchange::{NODE, settings};
+use crate::exchange::KEEPING;
 use crate::expected::equal;
+use crate::numbers::{Asker, Numbers, Told, answerer, asker, hub, tell};
 use iceoryx2_ports::{
-    Backpressure, BackpressureAction, BackpressureInfo, BackpressureStrategy, Client, Hub,
-    MessageShape, One, PortFactoryClient, PortFactoryServer, RequestSendError, SendError, Words,
+    Backpressure, BackpressureAction, BackpressureInfo, RequestSendError, SendError, Words,
 };
 use std::alloc::{AllocError, Global};
-use std::test::Fail;
 
 /// It fails at this server, and passes over each other.
 #[derive(Clone, Copy)]
@@ -68,72 +67,48 @@ impl Backpressure for FailsAt {
     }
 }
 
-type Numbers = Hub<One<u64>, (), One<u64>, (), FailsAt>;
-
-type Asker = Client<One<u64>, (), One<u64>, ()>;
-
-/// To how many servers a request went, or why it did not.
-type Told = Option<Result<u64, RequestSendError>>;
-
-/// Sends that number, and gives the answer up.
-fn tell(hub: &mut Numbers, client: &Asker, value: u64) -> Told {
-    if !client.exists(hub) {
-        return None;
-    }
-    match client.send_copy(hub, value) {
-        Ok(pending) => {
-            let servers = pending.number_of_server_connections();
-            pending.release(hub);
-            Some(Ok(servers))
-        }
-        Err(error) => Some(Err(error)),
-    }
-}
+type Handled = Numbers<FailsAt>;
 
 /// What two requests are told at two servers, of which each has room for one.
-fn tell_two(alloc: Global, hub: &mut Numbers, client: &Asker) -> Result<(Told, Told), AllocError> {
-    let Ok(first) = PortFactoryServer::new(1, NODE).create(alloc, hub) else {
-        return Err(AllocError);
-    };
-    let Ok(second) = PortFactoryServer::new(1, NODE).create(alloc, hub) else {
+fn tell_two(alloc: Global, hub: &mut Handled, client: &Asker) -> Option<(Told, Told)> {
+    let first = answerer(alloc, hub, None)?;
+    let Some(second) = answerer(alloc, hub, None) else {
         first.release(hub);
-        return Err(AllocError);
+        return None;
     };
     let told = (tell(hub, client, 5), tell(hub, client, 6));
     first.release(hub);
     second.release(hub);
-    Ok(told)
+    Some(told)
 }
 
-/// The same of a client whose handler fails at that server: the client is port 0, and the servers
-/// are ports 1 and 2.
-fn tell_where_it_fails_at(alloc: Global, server: u64) -> Result<(Told, Told), AllocError> {
-    let settings = settings(false, BackpressureStrategy::DiscardData);
-    let request = MessageShape::of_requests(None, ());
-    let response = MessageShape::of_responses(None, ());
-    let mut hub: Numbers = Hub::new(alloc, settings, request, response)?;
-    let factory = PortFactoryClient::new(0, NODE).set_backpressure_handler(FailsAt { server });
-    let Ok(client) = factory.create(alloc, &mut hub) else {
-        return Err(AllocError);
-    };
-    let told = tell_two(alloc, &mut hub, &client);
-    client.release(&mut hub);
+/// What two requests are told of a client whose handler fails at that server.
+fn tell_two_of(alloc: Global, hub: &mut Handled, server: u64) -> Option<(Told, Told)> {
+    let client = asker(alloc, hub, Some(FailsAt { server }))?;
+    let told = tell_two(alloc, hub, &client);
+    client.release(hub);
     told
 }
 
-#[test]
-fn a_handler_that_fails_at_the_second_of_two_full_servers_refuses(
-    rt: HostRuntime,
-) -> Result<(), Fail> {
-    let told = tell_where_it_fails_at(rt.alloc(), 2)?;
-    let refused = RequestSendError::SendError(SendError::UnableToDeliver);
-    equal(&rt, told, (Some(Ok(2)), Some(Err(refused))));
-    Ok(())
+/// The same of a new hub: the client is port 0, and the servers are ports 1 and 2.
+fn tell_where_it_fails_at(alloc: Global, server: u64) -> Result<Option<(Told, Told)>, AllocError> {
+    let mut hub = hub(alloc, &KEEPING)?;
+    Ok(tell_two_of(alloc, &mut hub, server))
 }
 
 #[test]
-fn a_handler_that_fails_at_another_server_passes_over_both(rt: HostRuntime) -> Result<(), Fail> {
-    let told = tell_where_it_fails_at(rt.alloc(), 3)?;
-    equal(&rt, told, (Some(Ok(2)), Some(Ok(0))));
-    Ok(())
+fn a_handler_that_fails_at_the_second_of_two_full_servers_refuses(rt: HostRuntime) {
+    const REFUSED: Option<(Told, Told)> = Some((
+        Some(Ok(2)),
+        Some(Err(RequestSendError::SendError(SendError::UnableToDeliver))),
+    ));
+    let told = tell_where_it_fails_at(rt.alloc(), 2).expect(&rt, "a hub");
+    equal(&rt, told, REFUSED);
+}
+
+#[test]
+fn a_handler_that_fails_at_another_server_passes_over_both(rt: HostRuntime) {
+    const PASSED_OVER: Option<(Told, Told)> = Some((Some(Ok(2)), Some(Ok(0))));
+    let told = tell_where_it_fails_at(rt.alloc(), 3).expect(&rt, "a hub");
+    equal(&rt, told, PASSED_OVER);
 }

@@ -1,25 +1,27 @@
 //! The headers of loans, and of what is received, name who sent them.
 
 use crate::exchange::{
-    Active, Answerer, Asker, Exchange, Pending, answer, ask, hub, ports, receive,
+    Active, Answerer, Asker, Exchange, Heard, Pending, SETTINGS, Unanswered, Unasked, answer, ask,
+    lent, lent_response, next, ports_tell, receive,
 };
-use crate::expected::equal;
-use iceoryx2_ports::BackpressureStrategy;
-use std::test::Fail;
 
-/// Whether the header of a client's loan names that client, and how many elements it tells.
-fn of_a_loaned_request(hub: &mut Exchange, client: &Asker) -> Option<(bool, u64)> {
-    if !client.exists(hub) {
+/// Whether a header names who sent it, and how many elements it tells.
+type Named = Option<(bool, u64)>;
+
+/// The same of a client's loan.
+fn of_unasked(hub: &Exchange, loan: &Unasked, client: &Asker) -> Named {
+    if !loan.exists(hub) || !client.exists(hub) {
         return None;
     }
-    let loan = client.loan_uninit(hub).ok()?;
-    let mut told = None;
-    if let Ok(header) = loan.header(hub) {
-        if client.exists(hub) {
-            let same = header.client_id() == client.id(hub);
-            told = Some((same, header.number_of_elements()));
-        }
-    }
+    let header = loan.header(hub).ok()?;
+    let same = header.client_id() == client.id(hub);
+    Some((same, header.number_of_elements()))
+}
+
+/// The same of a loan that is given up then.
+fn of_a_loaned_request(hub: &mut Exchange, client: &Asker) -> Named {
+    let loan = lent(hub, client)?.ok()?;
+    let told = of_unasked(hub, &loan, client);
     loan.release(hub);
     told
 }
@@ -34,82 +36,80 @@ fn of_a_request(hub: &Exchange, request: &Active, client: &Asker) -> Option<(boo
     Some((header.client_id() == id, request.origin(hub) == id))
 }
 
-/// Whether the header of a server's loan names that server, and how many elements it tells.
-fn of_a_loaned_response(
-    hub: &mut Exchange,
-    request: &Active,
-    server: &Answerer,
-) -> Option<(bool, u64)> {
-    if !request.exists(hub) {
+/// Whether the header of a server's loan names it, and how many elements it tells.
+fn of_unanswered(hub: &Exchange, loan: &Unanswered, server: &Answerer) -> Named {
+    if !loan.exists(hub) || !server.exists(hub) {
         return None;
     }
-    let loan = request.loan_slice_uninit(hub, 2).ok()?;
-    let mut told = None;
-    if let Ok(header) = loan.header(hub) {
-        if server.exists(hub) {
-            let same = header.server_id() == server.id(hub);
-            told = Some((same, header.number_of_elements()));
-        }
-    }
+    let header = loan.header(hub).ok()?;
+    let same = header.server_id() == server.id(hub);
+    Some((same, header.number_of_elements()))
+}
+
+/// The same of a loan of two bytes that is given up then.
+fn of_a_loaned_response(hub: &mut Exchange, request: &Active, server: &Answerer) -> Named {
+    let loan = lent_response(hub, request, 2)?.ok()?;
+    let told = of_unanswered(hub, &loan, server);
     loan.release(hub);
     told
 }
 
-/// Whether the header of the next response names that server, and how many elements it tells.
-fn of_a_response(hub: &mut Exchange, pending: &Pending, server: &Answerer) -> Option<(bool, u64)> {
-    if hub.calls() >= 1 << 56 || !pending.exists(hub) {
+/// The same of a response that was received.
+fn of_heard(hub: &Exchange, response: &Heard, server: &Answerer) -> Named {
+    if !response.exists(hub) || !server.exists(hub) {
         return None;
     }
-    let Ok(Some(response)) = pending.receive(hub) else {
-        return None;
-    };
-    let mut told = None;
-    if let Ok(header) = response.header(hub) {
-        if server.exists(hub) {
-            let same = header.server_id() == server.id(hub);
-            told = Some((same, header.number_of_elements()));
-        }
-    }
+    let header = response.header(hub).ok()?;
+    let same = header.server_id() == server.id(hub);
+    Some((same, header.number_of_elements()))
+}
+
+/// The same of the next response.
+fn of_a_response(hub: &mut Exchange, pending: &Pending, server: &Answerer) -> Named {
+    let response = next(hub, pending)?;
+    let told = of_heard(hub, &response, server);
     response.release(hub);
     told
 }
 
 /// What the headers of an answered request tell: of the request, of the loan, and of the response.
+type Answered = (Option<(bool, bool)>, Named, Named);
+
+/// The same of the next request.
 fn of_an_answer(
     hub: &mut Exchange,
     pending: &Pending,
     client: &Asker,
     server: &Answerer,
-) -> Option<((bool, bool), (bool, u64), (bool, u64))> {
+) -> Option<Answered> {
     let request = receive(hub, server)?;
     let asked = of_a_request(hub, &request, client);
     let loaned = of_a_loaned_response(hub, &request, server);
     answer(hub, &request, &[4, 5, 6]);
     let heard = of_a_response(hub, pending, server);
     request.release(hub);
-    match (asked, loaned, heard) {
-        (Some(asked), Some(loaned), Some(heard)) => Some((asked, loaned, heard)),
-        _ => None,
-    }
+    Some((asked, loaned, heard))
+}
+
+/// The same of a request that is sent now.
+fn of_a_round(hub: &mut Exchange, client: &Asker, server: &Answerer) -> Option<Answered> {
+    let pending = ask(hub, client, 123)?.ok()?;
+    let told = of_an_answer(hub, &pending, client, server);
+    pending.release(hub);
+    told
+}
+
+/// What the header of a client's loan tells, and what those of an answered request do.
+fn of_all(hub: &mut Exchange, client: &Asker, server: &Answerer) -> (Named, Option<Answered>) {
+    let loaned = of_a_loaned_request(hub, client);
+    (loaned, of_a_round(hub, client, server))
 }
 
 #[test]
-fn headers_name_who_sent(rt: HostRuntime) -> Result<(), Fail> {
-    let mut hub = hub(rt.alloc(), true, BackpressureStrategy::DiscardData)?;
-    let (client, server) = ports(rt.alloc(), &mut hub)?;
-    let loaned = of_a_loaned_request(&mut hub, &client);
-    let told = match ask(&mut hub, &client, 123) {
-        Some(Ok(pending)) => {
-            let told = of_an_answer(&mut hub, &pending, &client, &server);
-            pending.release(&mut hub);
-            told
-        }
-        Some(Err(_)) => None,
-        None => None,
-    };
-    client.release(&mut hub);
-    server.release(&mut hub);
-    equal(&rt, loaned, Some((true, 1)));
-    equal(&rt, told, Some(((true, true), (true, 2), (true, 3))));
-    Ok(())
+fn headers_name_who_sent(rt: HostRuntime) {
+    const ALL_NAMED: (Named, Option<Answered>) = (
+        Some((true, 1)),
+        Some((Some((true, true)), Some((true, 2)), Some((true, 3)))),
+    );
+    ports_tell(&rt, rt.alloc(), &SETTINGS, of_all, ALL_NAMED);
 }

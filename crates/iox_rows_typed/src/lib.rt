@@ -32,6 +32,8 @@ mod limits;
 #[cfg(test)]
 mod long_requests;
 #[cfg(test)]
+mod numbers;
+#[cfg(test)]
 mod overrides;
 #[cfg(test)]
 mod questions;
@@ -39,6 +41,8 @@ mod questions;
 mod refusals;
 #[cfg(test)]
 mod rounds;
+#[cfg(test)]
+mod signals;
 #[cfg(test)]
 mod trips;
 #[cfg(test)]

@@ -1,11 +1,15 @@
 //! What typed ports and handles tell, before and after other calls.
 
 use crate::exchange::{
-    Active, Answerer, Asker, Exchange, NODE, Pending, answer, answered, ask, hub, ports, receive,
+    Active, Answerer, Asker, Exchange, NODE, Pending, SETTINGS, answer, answered, ask, hub_tells,
+    ports, ports_tell, receive,
 };
-use crate::expected::equal;
 use iceoryx2_ports::{BackpressureStrategy, PortFactoryClient, PortFactoryServer};
-use std::test::Fail;
+use std::alloc::Global;
+
+const DISCARDS: BackpressureStrategy = BackpressureStrategy::DiscardData;
+
+const RETRIES: BackpressureStrategy = BackpressureStrategy::RetryUntilDelivered;
 
 /// Whether a request waits for the server.
 fn waits(hub: &Exchange, server: &Answerer) -> Option<bool> {
@@ -38,17 +42,17 @@ fn hint(hub: &mut Exchange, pending: &Pending) {
     }
 }
 
-/// What the client is told about a request that was sent, that is received, answered and heard.
+/// What the client is told about a request that is received, answered and heard.
 fn told_the_client(
     hub: &mut Exchange,
     pending: &Pending,
     request: &Active,
-) -> Option<[(bool, bool); 3]> {
-    let received = of_pending(hub, pending)?;
+) -> [Option<(bool, bool)>; 3] {
+    let received = of_pending(hub, pending);
     answer(hub, request, &[4, 5, 6]);
-    let waiting = of_pending(hub, pending)?;
+    let waiting = of_pending(hub, pending);
     answered(hub, pending);
-    Some([received, waiting, of_pending(hub, pending)?])
+    [received, waiting, of_pending(hub, pending)]
 }
 
 /// What a server is told about a request that its client hints at, and then gives up.
@@ -56,105 +60,112 @@ fn told_the_server(
     hub: &mut Exchange,
     pending: Pending,
     request: &Active,
-) -> Option<[(bool, bool); 3]> {
+) -> [Option<(bool, bool)>; 3] {
     let received = of_active(hub, request);
     hint(hub, &pending);
     let hinted = of_active(hub, request);
     pending.release(hub);
-    Some([received?, hinted?, of_active(hub, request)?])
+    [received, hinted, of_active(hub, request)]
+}
+
+/// Whether a request waits once it was received, and what the server is then told.
+type Server = (Option<bool>, [Option<(bool, bool)>; 3]);
+
+/// The same of the next request.
+fn told_of_received(hub: &mut Exchange, server: &Answerer, pending: Pending) -> Option<Server> {
+    let Some(request) = receive(hub, server) else {
+        pending.release(hub);
+        return None;
+    };
+    let after = waits(hub, server);
+    let told = told_the_server(hub, pending, &request);
+    request.release(hub);
+    Some((after, told))
+}
+
+/// Whether a request waits before one is sent, and then, and what the server is told.
+type Told = (Option<bool>, Option<bool>, Option<Server>);
+
+/// The same of a request that is sent now.
+fn a_server_is_told(hub: &mut Exchange, client: &Asker, server: &Answerer) -> Option<Told> {
+    let before = waits(hub, server);
+    let pending = ask(hub, client, 123)?.ok()?;
+    let sent = waits(hub, server);
+    Some((before, sent, told_of_received(hub, server, pending)))
 }
 
 #[test]
-fn a_server_is_told_of_requests_hints_and_ends(rt: HostRuntime) -> Result<(), Fail> {
-    let mut hub = hub(rt.alloc(), true, BackpressureStrategy::DiscardData)?;
-    let (client, server) = ports(rt.alloc(), &mut hub)?;
-    let before = waits(&hub, &server);
-    let mut sent = None;
-    let mut after = None;
-    let mut told = None;
-    if let Some(Ok(pending)) = ask(&mut hub, &client, 123) {
-        sent = waits(&hub, &server);
-        match receive(&mut hub, &server) {
-            Some(request) => {
-                after = waits(&hub, &server);
-                told = told_the_server(&mut hub, pending, &request);
-                request.release(&mut hub);
-            }
-            None => pending.release(&mut hub),
-        }
-    }
-    client.release(&mut hub);
-    server.release(&mut hub);
-    equal(
-        &rt,
-        [before, sent, after],
-        [Some(false), Some(true), Some(false)],
-    );
-    equal(
-        &rt,
-        told,
-        Some([(true, false), (true, true), (false, false)]),
-    );
-    Ok(())
+fn a_server_is_told_of_requests_hints_and_ends(rt: HostRuntime) {
+    const SERVER_TOLD: Option<Told> = Some((
+        Some(false),
+        Some(true),
+        Some((
+            Some(false),
+            [
+                Some((true, false)),
+                Some((true, true)),
+                Some((false, false)),
+            ],
+        )),
+    ));
+    ports_tell(&rt, rt.alloc(), &SETTINGS, a_server_is_told, SERVER_TOLD);
+}
+
+/// What the client is told about the next request.
+fn told_of_answered(
+    hub: &mut Exchange,
+    server: &Answerer,
+    pending: &Pending,
+) -> Option<[Option<(bool, bool)>; 3]> {
+    let request = receive(hub, server)?;
+    let told = told_the_client(hub, pending, &request);
+    request.release(hub);
+    Some(told)
+}
+
+/// What it is told about a request before and after that, and this.
+type OfClient = Option<([Option<(bool, bool)>; 2], Option<[Option<(bool, bool)>; 3]>)>;
+
+/// The same of a request that is sent now.
+fn a_client_is_told(hub: &mut Exchange, client: &Asker, server: &Answerer) -> OfClient {
+    let pending = ask(hub, client, 123)?.ok()?;
+    let sent = of_pending(hub, &pending);
+    let told = told_of_answered(hub, server, &pending);
+    let after = of_pending(hub, &pending);
+    pending.release(hub);
+    Some(([sent, after], told))
 }
 
 #[test]
-fn a_client_is_told_of_responses_and_of_the_end(rt: HostRuntime) -> Result<(), Fail> {
-    let mut hub = hub(rt.alloc(), true, BackpressureStrategy::DiscardData)?;
-    let (client, server) = ports(rt.alloc(), &mut hub)?;
-    let mut sent = None;
-    let mut told = None;
-    let mut after = None;
-    if let Some(Ok(pending)) = ask(&mut hub, &client, 123) {
-        sent = of_pending(&hub, &pending);
-        if let Some(request) = receive(&mut hub, &server) {
-            told = told_the_client(&mut hub, &pending, &request);
-            request.release(&mut hub);
-        }
-        after = of_pending(&hub, &pending);
-        pending.release(&mut hub);
-    }
-    client.release(&mut hub);
-    server.release(&mut hub);
-    equal(
-        &rt,
-        [sent, after],
+fn a_client_is_told_of_responses_and_of_the_end(rt: HostRuntime) {
+    const CLIENT_TOLD: OfClient = Some((
         [Some((true, false)), Some((false, false))],
-    );
-    equal(
-        &rt,
-        told,
-        Some([(true, false), (true, true), (true, false)]),
-    );
-    Ok(())
+        Some([Some((true, false)), Some((true, true)), Some((true, false))]),
+    ));
+    ports_tell(&rt, rt.alloc(), &SETTINGS, a_client_is_told, CLIENT_TOLD);
 }
 
-/// What the client does at a full server, how long its requests are, and whether it looks for
-/// servers.
-fn of_client(hub: &Exchange, client: &Asker) -> Option<(BackpressureStrategy, u64, bool)> {
+/// What a port does at a full receiver, how long its messages are, and whether it looks for others.
+type Made = Option<(BackpressureStrategy, u64, bool)>;
+
+/// The same of a client.
+fn of_client(hub: &Exchange, client: &Asker) -> Made {
     if !client.exists(hub) {
         return None;
     }
     let looks = client.update_connections(hub).is_ok();
-    Some((
-        client.backpressure_strategy(hub),
-        client.initial_max_slice_len(hub),
-        looks,
-    ))
+    let strategy = client.backpressure_strategy(hub);
+    Some((strategy, client.initial_max_slice_len(hub), looks))
 }
 
-/// What the server does at a full client, how long its responses are, and whether it looks for
-/// clients.
-fn of_server(hub: &Exchange, server: &Answerer) -> Option<(BackpressureStrategy, u64, bool)> {
+/// The same of a server.
+fn of_server(hub: &Exchange, server: &Answerer) -> Made {
     if !server.exists(hub) {
         return None;
     }
     let looks = server.update_connections(hub).is_ok();
-    Some((
-        server.backpressure_strategy(hub),
-        server.initial_max_slice_len(hub),
-        looks,
-    ))
+    let strategy = server.backpressure_strategy(hub);
+    Some((strategy, server.initial_max_slice_len(hub), looks))
 }
 
 /// Whether both servers have one id.
@@ -165,43 +176,52 @@ fn are_of_one_id(hub: &Exchange, server: &Answerer, other: &Answerer) -> Option<
     Some(server.id(hub) == other.id(hub))
 }
 
-#[test]
-fn ports_tell_how_they_were_made(rt: HostRuntime) -> Result<(), Fail> {
-    let (discards, retries) = (
-        BackpressureStrategy::DiscardData,
-        BackpressureStrategy::RetryUntilDelivered,
-    );
-    let mut hub = hub(rt.alloc(), true, discards)?;
-    let (client, server) = ports(rt.alloc(), &mut hub)?;
-    let as_served = [of_client(&hub, &client), of_server(&hub, &server)];
-    client.release(&mut hub);
-    let chosen = PortFactoryClient::new(0, NODE).backpressure_strategy(retries);
-    let mut of_chosen = None;
-    if let Ok(client) = chosen.create(rt.alloc(), &mut hub) {
-        of_chosen = of_client(&hub, &client);
-        client.release(&mut hub);
-    }
-    let longer = PortFactoryServer::new(1, NODE)
-        .backpressure_strategy(retries)
+/// What a client tells that was told to try again.
+fn of_chosen(hub: &mut Exchange, alloc: Global) -> Made {
+    let factory = PortFactoryClient::new(0, NODE).backpressure_strategy(RETRIES);
+    let client = factory.create(alloc, hub).ok()?;
+    let told = of_client(hub, &client);
+    client.release(hub);
+    told
+}
+
+/// A server that was told to try again, and whose responses are longer.
+fn longer(hub: &mut Exchange, alloc: Global) -> Option<Answerer> {
+    let factory = PortFactoryServer::new(1, NODE)
+        .backpressure_strategy(RETRIES)
         .initial_max_slice_len(9);
-    let mut of_longer = None;
-    let mut same = None;
-    if let Ok(other) = longer.create(rt.alloc(), &mut hub) {
-        of_longer = of_server(&hub, &other);
-        same = are_of_one_id(&hub, &server, &other);
-        other.release(&mut hub);
-    }
-    server.release(&mut hub);
-    equal(
-        &rt,
-        as_served,
-        [Some((discards, 1, true)), Some((discards, 4, true))],
-    );
-    equal(
-        &rt,
-        [of_chosen, of_longer],
-        [Some((retries, 1, true)), Some((retries, 9, true))],
-    );
-    equal(&rt, same, Some(false));
-    Ok(())
+    factory.create(alloc, hub).ok()
+}
+
+/// What such a server tells, and whether it has the id of this one.
+fn of_longer(hub: &mut Exchange, alloc: Global, server: &Answerer) -> Option<(Made, Option<bool>)> {
+    let other = longer(hub, alloc)?;
+    let told = of_server(hub, &other);
+    let same = are_of_one_id(hub, server, &other);
+    other.release(hub);
+    Some((told, same))
+}
+
+/// What ports tell that are as the settings say, and what such a client and such a server tell.
+type AllMade = ([Made; 2], Made, Option<(Made, Option<bool>)>);
+
+/// The same of ports that are made now.
+fn of_all(hub: &mut Exchange, alloc: Global) -> Option<AllMade> {
+    let (client, server) = ports(alloc, hub).ok()?;
+    let served = [of_client(hub, &client), of_server(hub, &server)];
+    client.release(hub);
+    let chosen = of_chosen(hub, alloc);
+    let other = of_longer(hub, alloc, &server);
+    server.release(hub);
+    Some((served, chosen, other))
+}
+
+#[test]
+fn ports_tell_how_they_were_made(rt: HostRuntime) {
+    const HOW_MADE: Option<AllMade> = Some((
+        [Some((DISCARDS, 1, true)), Some((DISCARDS, 4, true))],
+        Some((RETRIES, 1, true)),
+        Some((Some((RETRIES, 9, true)), Some(false))),
+    ));
+    hub_tells(&rt, rt.alloc(), &SETTINGS, of_all, HOW_MADE);
 }

@@ -1,34 +1,22 @@
 //! What typed ports refuse, by name.
 
-use crate::exchange::{Active, Exchange, NODE, hub, ports, receive, tell};
-use crate::expected::equal;
+use crate::exchange::{
+    Active, Answerer, Asker, Exchange, NODE, SETTINGS, Told, Unanswered, hub_tells, lent_response,
+    ports, ports_tell, receive, tell,
+};
+use crate::limits::{Lends, responds};
 use iceoryx2_ports::{
-    AllocationStrategy, BackpressureStrategy, ClientCreateError, LoanError, Many, One,
-    PortFactoryClient, PortFactoryServer, ServerCreateError,
+    AllocationStrategy, ClientCreateError, LoanError, Many, One, PortFactoryClient,
+    PortFactoryServer, ServerCreateError,
 };
 use std::alloc::Global;
-use std::test::Fail;
 
-/// What comes of a loan for an answer that is too long.
-fn too_long(hub: &mut Exchange, request: &Active) -> Option<LoanError> {
-    if !request.exists(hub) {
+/// Whether the loan is written with three bytes.
+fn is_filled_by_three(hub: &mut Exchange, loan: Unanswered) -> Option<bool> {
+    if !loan.exists(hub) {
+        loan.release(hub);
         return None;
     }
-    match request.loan_slice_uninit(hub, 5) {
-        Ok(loan) => {
-            loan.release(hub);
-            None
-        }
-        Err(error) => Some(error),
-    }
-}
-
-/// Whether an answer is written that is not as long as its loan.
-fn is_written(hub: &mut Exchange, request: &Active) -> Option<bool> {
-    if !request.exists(hub) {
-        return None;
-    }
-    let loan = request.loan_slice_uninit(hub, 2).ok()?;
     match loan.write_from_slice(hub, &[1, 2, 3]) {
         Ok(response) => {
             response.release(hub);
@@ -41,34 +29,35 @@ fn is_written(hub: &mut Exchange, request: &Active) -> Option<bool> {
     }
 }
 
+/// Whether an answer is written that is not as long as its loan.
+fn is_written(hub: &mut Exchange, request: &Active) -> Option<bool> {
+    let loan = lent_response(hub, request, 2)?.ok()?;
+    is_filled_by_three(hub, loan)
+}
+
 /// What comes of an answer that is too long, and of one that is not as long as its loan.
-fn wrong_lengths(hub: &mut Exchange, request: &Active) -> Option<(Option<LoanError>, bool)> {
-    let long = too_long(hub, request);
-    Some((long, is_written(hub, request)?))
+type Wrong = (Lends, Option<bool>);
+
+/// What a request is told, and what comes of such answers to it.
+fn wrong_lengths(hub: &mut Exchange, client: &Asker, server: &Answerer) -> (Told, Option<Wrong>) {
+    let sent = tell(hub, client, 1);
+    match receive(hub, server) {
+        Some(request) => {
+            let told = (responds(hub, &request, 5), is_written(hub, &request));
+            request.release(hub);
+            (sent, Some(told))
+        }
+        None => (sent, None),
+    }
 }
 
 #[test]
-fn lengths_are_minded(rt: HostRuntime) -> Result<(), Fail> {
-    let mut hub = hub(rt.alloc(), true, BackpressureStrategy::DiscardData)?;
-    let (client, server) = ports(rt.alloc(), &mut hub)?;
-    let sent = tell(&mut hub, &client, 1);
-    let told = match receive(&mut hub, &server) {
-        Some(request) => {
-            let told = wrong_lengths(&mut hub, &request);
-            request.release(&mut hub);
-            told
-        }
-        None => None,
-    };
-    client.release(&mut hub);
-    server.release(&mut hub);
-    equal(&rt, sent, Some(Ok(1)));
-    equal(
-        &rt,
-        told,
-        Some((Some(LoanError::ExceedsMaxLoanSize), false)),
+fn lengths_are_minded(rt: HostRuntime) {
+    const MINDED: (Told, Option<Wrong>) = (
+        Some(Ok(1)),
+        Some((Some(Err(LoanError::ExceedsMaxLoanSize)), Some(false))),
     );
-    Ok(())
+    ports_tell(&rt, rt.alloc(), &SETTINGS, wrong_lengths, MINDED);
 }
 
 /// Why such a client is not made.
@@ -101,31 +90,57 @@ fn refused_server(
     }
 }
 
-#[test]
-fn ports_are_refused_by_name(rt: HostRuntime) -> Result<(), Fail> {
-    let mut hub = hub(rt.alloc(), true, BackpressureStrategy::DiscardData)?;
+/// Why a server of messages that are too large is not made.
+fn refused_large(hub: &mut Exchange, alloc: Global) -> Option<ServerCreateError> {
     let large = PortFactoryServer::new(1, NODE).initial_max_slice_len(u64::MAX);
-    let first = refused_server(rt.alloc(), &mut hub, large);
-    let single = PortFactoryClient::new(0, NODE).allocation_strategy(
-        AllocationStrategy::PowerOfTwo,
-    );
-    let none = refused(rt.alloc(), &mut hub, single);
-    let (client, server) = ports(rt.alloc(), &mut hub)?;
-    let second = refused(rt.alloc(), &mut hub, PortFactoryClient::new(0, NODE));
-    client.release(&mut hub);
-    let third = refused(rt.alloc(), &mut hub, PortFactoryClient::new(0, NODE));
-    server.release(&mut hub);
-    equal(
-        &rt,
-        first,
+    refused_server(alloc, hub, large)
+}
+
+/// Why a client of single elements is not made, if its messages are to grow. None: it is made.
+fn refused_growing(hub: &mut Exchange, alloc: Global) -> Option<ClientCreateError> {
+    let growing = AllocationStrategy::PowerOfTwo;
+    let single = PortFactoryClient::new(0, NODE).allocation_strategy(growing);
+    refused(alloc, hub, single)
+}
+
+/// Why a further client is not made.
+fn refused_further(hub: &mut Exchange, alloc: Global) -> Option<ClientCreateError> {
+    refused(alloc, hub, PortFactoryClient::new(0, NODE))
+}
+
+/// Why a client is not made beside another one, and beside none.
+type Beside = (Option<ClientCreateError>, Option<ClientCreateError>);
+
+/// The same where there is a server as well.
+fn beside_a_client(hub: &mut Exchange, alloc: Global) -> Option<Beside> {
+    let (client, server) = ports(alloc, hub).ok()?;
+    let second = refused_further(hub, alloc);
+    client.release(hub);
+    let third = refused_further(hub, alloc);
+    server.release(hub);
+    Some((second, third))
+}
+
+/// Why these are not made, one after another: the server, the client, and the pair of clients.
+type AllRefused = (
+    Option<ServerCreateError>,
+    Option<ClientCreateError>,
+    Option<Beside>,
+);
+
+/// All of that, one after another.
+fn all_refused(hub: &mut Exchange, alloc: Global) -> AllRefused {
+    let large = refused_large(hub, alloc);
+    let growing = refused_growing(hub, alloc);
+    (large, growing, beside_a_client(hub, alloc))
+}
+
+#[test]
+fn ports_are_refused_by_name(rt: HostRuntime) {
+    const BY_NAME: AllRefused = (
         Some(ServerCreateError::UnableToCreateDataSegment),
+        None,
+        Some((Some(ClientCreateError::ExceedsMaxSupportedClients), None)),
     );
-    equal(&rt, none, None);
-    equal(
-        &rt,
-        second,
-        Some(ClientCreateError::ExceedsMaxSupportedClients),
-    );
-    equal(&rt, third, None);
-    Ok(())
+    hub_tells(&rt, rt.alloc(), &SETTINGS, all_refused, BY_NAME);
 }

@@ -5,14 +5,13 @@ ghost use Rattle.iceoryx2_ports.specs.Hubs.{HasValue};
 ghost use Rattle.iceoryx2_ports.specs.Kind.TheVariants as kinds;
 ghost use Rattle.iceoryx2_ports.specs.Waiting.{NothingWaits, server_of};
 
-use crate::exchange::{NODE, settings};
+use crate::exchange::{NODE, SETTINGS};
 use crate::expected::equal;
 use iceoryx2_ports::{
-    BackpressureStrategy, Client, Hub, MessageShape, One, PortFactoryClient, PortFactoryServer,
-    Server, Words, ZeroCopySend,
+    Client, Hub, MessageShape, One, PortFactoryClient, PortFactoryServer, Server, Words,
+    ZeroCopySend,
 };
 use std::alloc::{AllocError, Global};
-use std::test::Fail;
 
 /// What a sensor measured.
 #[derive(Clone, Copy, Debug, PartialEq)]
@@ -105,12 +104,7 @@ type Listener = Server<One<Reading>, (), One<u64>, ()>;
 fn readings(alloc: Global) -> Result<Readings, AllocError> {
     let request = MessageShape::of_requests(None, ());
     let response = MessageShape::of_responses(None, ());
-    Hub::new(
-        alloc,
-        settings(true, BackpressureStrategy::DiscardData),
-        request,
-        response,
-    )
+    Hub::new(alloc, SETTINGS, request, response)
 }
 
 /// A client tells a reading. A server for which nothing waited reads just that, if it receives
@@ -158,15 +152,18 @@ fn exchanges(alloc: Global, hub: &mut Readings, reading: Reading) -> Option<Read
     told
 }
 
-#[test]
-fn a_reading_arrives(rt: HostRuntime) -> Result<(), Fail> {
-    let alloc = rt.alloc();
+/// The same of a new hub.
+fn arrives(alloc: Global, reading: Reading) -> Result<Option<Reading>, AllocError> {
     let mut hub = readings(alloc)?;
+    Ok(exchanges(alloc, &mut hub, reading))
+}
+
+#[test]
+fn a_reading_arrives(rt: HostRuntime) {
     let reading = Reading {
         sensor: 1 << 63,
         level: 7,
     };
-    let told = exchanges(alloc, &mut hub, reading);
+    let told = arrives(rt.alloc(), reading).expect(&rt, "a hub");
     equal(&rt, told, Some(reading));
-    Ok(())
 }

@@ -12,3 +12,8 @@ pub fn equal<T: PartialEq + Debug + Drop>(rt: &impl Abort, value: T, wanted: T) 
 pub fn holds(rt: &impl Abort, fact: bool) {
     assert!(rt; fact);
 }
+
+/// Ends the test if what comes at that place is not what is wanted, and shows it.
+pub fn is_wanted<T: Debug>(rt: &impl Abort, place: usize, value: &T, fact: bool) {
+    assert!(rt; fact, "{place}: {value:?}");
+}

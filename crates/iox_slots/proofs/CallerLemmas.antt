@@ -1,17 +1,18 @@
 -- What callers may cite: how many have each slot after a change, what else is in it, and that calls
 -- that hold and let go change only holders.
-use Rattle.std.specs.Prelude.{◌≡◌, ◌<◌, ℕ, ◌+◌, ◌-◌, zero, suc, Bool, true, false, ◌&&◌, if◌then◌else◌, ◌==◌, nat_lt, List, [], length, Option, Some, None, option_map, slice_get, slice_set, refl}
+use Rattle.std.specs.Prelude.{◌≡◌, ◌<◌, ℕ, ◌+◌, ◌-◌, zero, suc, Bool, true, false, ◌&&◌, if◌then◌else◌, ◌==◌, nat_lt, List, [], length, Option, Some, None, is_some, option_map, slice_get, slice_set, refl}
 use Rattle.std.specs.Option.{option_map_or}
 use Rattle.std.proofs.Common.{sym, ap, ◌∙◌, arith, eqb-true, true≢false}
-use Rattle.std.proofs.lemmas.Bool.{eq-eqb, lt-ltb}
+use Rattle.std.proofs.lemmas.Bool.{eq-eqb, lt-ltb, ltb-true}
 use Rattle.std.proofs.lemmas.Option.{slice_get_within}
 use Rattle.iox_tables.specs.Label.{Label}
 use Rattle.iox_tables.specs.HubStates.Ends.{DifferInHolders}
-use Rattle.iox_tables.specs.HubStates.Tables.{PoolState, SlotState, labels_of, no_slot, slot_at, slots_of, is_free}
+use Rattle.iox_tables.specs.HubStates.Tables.{PoolState, SlotState, labels_of, no_slot, pool_at, slot_at, slots_of, is_free}
 use Rattle.iox_slots.specs.FreeLists.{has_free_slot}
 use Rattle.iox_tables.specs.HubLoans.Slots.{put_slot, put_slot_of}
 use Rattle.iox_slots.specs.Pools.{Acquires, Takes, has_slot, with_pool, with_slot}
 use Rattle.iox_slots.specs.Slots.{held, let_go, slot_in, written}
+use Rattle.iox_slots.proofs.FreeListLemmas.{taken_below}
 use Rattle.iox_slots.proofs.SlotLemmas.{node_ids_stay, owners_stay, port_ids_stay, slot_after}
 
 -- 1 at that slot, else 0
@@ -22,11 +23,7 @@ one_at P k Q j = if (P == Q) && (k == j) then 1 else 0
 
 -- a slot that somebody has is there
 taken_within : (ss : List SlotState) (k : ℕ) → 0 < (slot_in ss k).holders → nat_lt k (length ss) ≡ true
-taken_within ss k some = over (slice_get ss k) refl some
-  where
-    over : (o : Option SlotState) → slice_get ss k ≡ o → 0 < (option_map_or (λ s. s) o no_slot).holders → nat_lt k (length ss) ≡ true
-    over None at more = absurd (omega (arith, more))
-    over (Some s) at more = lt-ltb k (length ss) (slice_get_within ss k s at)
+taken_within ss k some = lt-ltb k (length ss) (taken_below ss k some)
 
 pub taken_is_there : (pools : List (Option PoolState)) (P k : ℕ) → 0 < (slot_at pools P k).holders → has_slot pools P k ≡ true
 taken_is_there pools P k some = taken_within (slots_of pools P) k some
@@ -39,6 +36,14 @@ free_within ss k free = over (slice_get ss k) refl free
         → (nat_lt k (length ss) ≡ true) × ((option_map_or (λ s. s) o no_slot).holders ≡ 0)
     over None at e = absurd (true≢false (sym e))
     over (Some s) at e = (lt-ltb k (length ss) (slice_get_within ss k s at), eqb-true s.holders 0 e)
+
+-- so is the pool of a slot that is there
+pub pool_of_slot : (pools : List (Option PoolState)) (P k : ℕ) → has_slot pools P k ≡ true → is_some (pool_at pools P) ≡ true
+pool_of_slot pools P k there = over (pool_at pools P) refl there
+  where
+    over : (o : Option PoolState) → pool_at pools P ≡ o → nat_lt k (length (option_map_or (λ (p : PoolState). p.slots) o [])) ≡ true → is_some o ≡ true
+    over None at e = absurd (omega (arith, ltb-true k 0 e))
+    over (Some p) at e = refl
 
 -- so is a free one, and nobody has it
 pub free_is_there : (pools : List (Option PoolState)) (P k : ℕ) → has_free_slot pools P k ≡ true

@@ -152,6 +152,14 @@ IsFreeList-change ss free k cap s x l at same = record {
 pub slot_is : (ss : List SlotState) (k : ℕ) (s : SlotState) → slice_get ss k ≡ Some s → slot_in ss k ≡ s
 slot_is ss k s at = ap (λ (o : Option SlotState). option_map_or (λ y. y) o no_slot) at
 
+-- a slot that somebody has is there
+pub taken_below : (ss : List SlotState) (k : ℕ) → 0 < (slot_in ss k).holders → k < length ss
+taken_below ss k some = over (slice_get ss k) refl some
+  where
+    over : (o : Option SlotState) → slice_get ss k ≡ o → 0 < (option_map_or (λ s. s) o no_slot).holders → k < length ss
+    over None at more = absurd (omega (arith, more))
+    over (Some s) at more = slice_get_within ss k s at
+
 pub not_free : (s : SlotState) → 0 < s.holders → is_free s ≡ false
 not_free s some = over (is_free s) refl
   where
@@ -177,6 +185,13 @@ nothing_to_let_go s e =
     let none : s.holders ≡ 0 = free_holders s e in
     let same : s.holders ≡ s.holders - 1 = omega (arith, none) in
     ap (λ (n : ℕ). record { serial = s.serial; lane = s.lane; request = s.request; elements = s.elements; holders = n }) same
+
+pub some_have : (s : SlotState) → is_free s ≡ false → 0 < s.holders
+some_have s e = over s.holders refl
+  where
+    over : (n : ℕ) → s.holders ≡ n → 0 < n
+    over zero is = absurd (true≢false (sym (ap (λ (m : ℕ). m == 0) is) ∙ e))
+    over (suc n) is = omega arith
 
 pub taken_is : (ss : List SlotState) (k : ℕ) (s : SlotState) → slice_get ss k ≡ Some s → is_free s ≡ false → true ≡ is_taken ss k
 taken_is ss k s at taken = sym (ap (λ (x : SlotState). not (is_free x)) (slot_is ss k s at) ∙ ap not taken)

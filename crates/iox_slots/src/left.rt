@@ -8,6 +8,8 @@ pub struct Left {
     pub label: Label,
     /// The port whose pool it is in.
     pub owner: u64,
+    /// Where that port likely stands among the ports. A wrong place is only slower.
+    pub at: usize,
     /// Whether nobody has a message of that pool any more.
     pub idle: bool,
 }

@@ -1,6 +1,7 @@
 //! The messages of one port, by slots.
-ghost use Rattle.std.specs.Prelude.{◌≡◌, ◌<◌, ◌^◌, ◌-◌, ◌↔◌, ◌≤◌, IfOk, IfSome, None, count_by, false, is_some, length, nat_lt, slice_get, true};
+ghost use Rattle.std.specs.Prelude.{◌≡◌, ◌<◌, ◌^◌, ◌-◌, ◌↔◌, ◌≤◌, [], IfOk, IfSome, None, count_by, false, length, nat_lt, slice_get, true};
 ghost use Rattle.std.specs.Bool.{OnFalse};
+ghost use Rattle.std.specs.List.{list_all};
 ghost use Rattle.std.specs.Option.{option_map_or};
 ghost use Rattle.std.specs.Vec.{vec_capacity};
 ghost use Rattle.iox_slots.specs.FreeLists.{AreNumbersBelow};
@@ -9,6 +10,7 @@ ghost use Rattle.iox_tables.specs.HubLoans.Slots.{put_slot_of};
 ghost use Rattle.iox_tables.specs.HubStates.Tables.{is_free};
 
 use crate::slot::Slot;
+use iox_tables::wanted::Label;
 use iox_types::identifiers::UniqueSystemId;
 use std::alloc::{AllocError, Global};
 use std::marker::Model;
@@ -25,6 +27,14 @@ pub struct Pool {
     // The slots that nobody has.
     free: Vec<u64>,
 }
+
+/// The id of no port.
+const NO_ID: UniqueSystemId = UniqueSystemId {
+    process: 0,
+    seconds: 0,
+    nanoseconds: 0,
+    counter: 0,
+};
 
 impl Model for Pool {
     ghost use Rattle.std.specs.Vec.{vec_capacity};
@@ -75,6 +85,20 @@ impl Pool {
         })
     }
 
+    /// A pool of no port, that has no slots.
+    pub fn none(alloc: Global) -> Pool
+        ensures slots { result.slots ≡ [] }
+        ensures port { result.port ≡ 0 }
+    {
+        Pool {
+            port: 0,
+            node_id: NO_ID,
+            port_id: NO_ID,
+            slots: Vec::new(alloc),
+            free: Vec::new(alloc),
+        }
+    }
+
     /// The port whose messages they are.
     #[inline]
     pub fn port(&self) -> u64
@@ -115,6 +139,14 @@ impl Pool {
         self.free.len()
     }
 
+    /// Whether nobody has any slot.
+    #[inline(always)]
+    pub fn is_idle(&self) -> bool
+        ensures { result ≡ list_all is_free self.now.slots }
+    {
+        self.free_len() == self.len()
+    }
+
     /// The slot of that number, if there is one.
     #[inline]
     pub fn slot(&self, k: u64) -> Option<Slot>
@@ -125,6 +157,29 @@ impl Pool {
             return Some(self.slots[k]);
         }
         None
+    }
+
+    /// The label of the message in a slot that is there.
+    #[inline(always)]
+    pub fn label(&self, k: u64) -> Label
+        requires { k < length self.now.slots }
+        ensures lane { result.lane ≡ (slot_in self.now.slots k).lane }
+        ensures request { result.request ≡ (slot_in self.now.slots k).request }
+    {
+        let slot = &self.slots[k as usize];
+        Label {
+            lane: slot.lane(),
+            request: slot.request(),
+        }
+    }
+
+    /// How many elements the message has in a slot that is there.
+    #[inline(always)]
+    pub fn elements(&self, k: u64) -> u64
+        requires { k < length self.now.slots }
+        ensures { result ≡ (slot_in self.now.slots k).elements }
+    {
+        self.slots[k as usize].elements()
     }
 
     /// Writes another message into a slot, and says whether there is such a slot.
@@ -143,15 +198,23 @@ impl Pool {
     }
 
     /// One more has a slot that somebody has.
-    #[inline]
+    #[inline(always)]
     pub fn hold(&mut self, k: u64)
         requires taken { 0 < (slot_in self.old.slots k).holders }
         requires fits { (slot_in self.old.slots k).holders < 2 ^ 64 - 1 }
         ensures { self.new ≡ with_slot_of held self.old k }
     {
-        let k = k as usize;
-        if k < self.slots.len() {
-            self.slots[k] = self.slots[k].held();
+        self.slots[k as usize].hold();
+    }
+
+    /// One less has a slot that somebody has.
+    #[inline(always)]
+    pub fn leave(&mut self, k: u64)
+        requires { 0 < (slot_in self.old.slots k).holders }
+        ensures { self.new ≡ with_slot_of let_go self.old k }
+    {
+        if self.slots[k as usize].leave() {
+            self.free.push_reserved(k);
         }
     }
 
@@ -171,11 +234,7 @@ impl Pool {
         if old.is_free() {
             return false;
         }
-        let slot = old.let_go();
-        self.slots[place] = slot;
-        if slot.is_free() {
-            self.free.push_reserved(k);
-        }
+        self.leave(k);
         true
     }
 

@@ -14,10 +14,7 @@ ghost use Rattle.iox_slots.specs.Slots.{held, is_taken, let_go, new_pool, slot_i
 
 mod leaving;
 
-use crate::place::{
-    acquire_in, free_len_of, hold_in, ids_of, is_untouched, len_of, let_go_in, port_of, slot_of,
-    take_in, write_in,
-};
+use crate::place::Place;
 use crate::pool::Pool;
 use crate::slot::Slot;
 use iox_tables::wanted::{Label, Labels};
@@ -31,7 +28,8 @@ use std::marker::Model;
 /// Only `add` takes memory.
 #[derive(Drop)]
 pub struct Pools {
-    pools: Vec<Option<Pool>>,
+    places: Vec<Place>,
+    alloc: Global,
 }
 
 impl Model for Pools {
@@ -40,7 +38,7 @@ impl Model for Pools {
 
     ghost Value = { List (Option PoolState) };
 
-    ghost view = { λ p. p.pools.items };
+    ghost view = { λ p. p.places.items };
 }
 
 impl Pools {
@@ -49,7 +47,8 @@ impl Pools {
         ensures { result ≡ [] }
     {
         Pools {
-            pools: Vec::new(alloc),
+            places: Vec::new(alloc),
+            alloc,
         }
     }
 
@@ -58,8 +57,8 @@ impl Pools {
     pub fn slot(&self, place: usize, slot: u64) -> Option<Slot>
         ensures { result ≡ slice_get (slots_of self.now place) slot }
     {
-        if place < self.pools.len() {
-            return slot_of(&self.pools[place], slot);
+        if place < self.places.len() {
+            return self.places[place].slot(slot);
         }
         None
     }
@@ -80,9 +79,8 @@ impl Pools {
         ensures written { self.new
             ≡ with_slot (written serial lane request elements) self.old place slot }
     {
-        if place < self.pools.len() {
-            let pool = &mut self.pools[place];
-            return write_in(pool, slot, serial, lane, request, elements);
+        if place < self.places.len() {
+            return self.places[place].write(slot, serial, lane, request, elements);
         }
         false
     }
@@ -94,8 +92,8 @@ impl Pools {
         ensures full { result ≡ None ↔ free_count self.old place ≡ 0 }
         ensures unchanged { result ≡ None → self.new ≡ self.old }
     {
-        if place < self.pools.len() {
-            return acquire_in(&mut self.pools[place]);
+        if place < self.places.len() {
+            return self.places[place].acquire();
         }
         None
     }
@@ -117,6 +115,25 @@ impl Pools {
     }
 
     #[inline(always)]
+    fn take_there(
+        &mut self,
+        place: usize,
+        serial: u64,
+        lane: u64,
+        request: u64,
+        elements: u64,
+    ) -> Option<u64>
+        requires { place < length self.old }
+        ensures free { IfSome result (λ k. has_free_slot self.old place k ≡ true) }
+        ensures taken { IfSome result (λ k. self.new
+            ≡ with_pool (put_slot_of k (taken serial lane request elements)) self.old place) }
+        ensures full { result ≡ None ↔ free_count self.old place ≡ 0 }
+        ensures unchanged { result ≡ None → self.new ≡ self.old }
+    {
+        self.places[place].take(serial, lane, request, elements)
+    }
+
+    #[inline(always)]
     fn take_at(
         &mut self,
         place: usize,
@@ -131,8 +148,8 @@ impl Pools {
         ensures full { result ≡ None ↔ free_count self.old place ≡ 0 }
         ensures unchanged { result ≡ None → self.new ≡ self.old }
     {
-        if place < self.pools.len() {
-            return take_in(&mut self.pools[place], serial, lane, request, elements);
+        if place < self.places.len() {
+            return self.take_there(place, serial, lane, request, elements);
         }
         None
     }
@@ -173,21 +190,10 @@ impl Pools {
             Takes self.old place k (taken serial lane request elements) self.new) }
         ensures unchanged { result ≡ None → self.new ≡ self.old }
     {
-        if self.is_untouched_at(place) {
+        if self.is_idle(place) {
             return self.take(place, serial, lane, request, elements);
         }
         None
-    }
-
-    /// Whether there is a pool in this place, and nobody has any slot of it.
-    #[inline(always)]
-    fn is_untouched_at(&self, place: usize) -> bool
-        ensures { IsTrue result → is_idle self.now place ≡ true }
-    {
-        if place < self.pools.len() {
-            return is_untouched(&self.pools[place]);
-        }
-        false
     }
 
     #[inline]
@@ -196,9 +202,7 @@ impl Pools {
         requires fits { (slot_at self.old place slot).holders < 2 ^ 64 - 1 }
         ensures { self.new ≡ with_slot held self.old place slot }
     {
-        if place < self.pools.len() {
-            hold_in(&mut self.pools[place], slot);
-        }
+        self.places[place].hold(slot);
     }
 
     /// One more has a slot that somebody has.
@@ -220,8 +224,8 @@ impl Pools {
         ensures left { self.new ≡ with_slot let_go self.old place slot }
         ensures unchanged { OnFalse result (self.new ≡ self.old) }
     {
-        if place < self.pools.len() {
-            return let_go_in(&mut self.pools[place], slot);
+        if place < self.places.len() {
+            return self.places[place].let_go(slot);
         }
         false
     }
@@ -248,7 +252,7 @@ impl Pools {
     pub fn places(&self) -> usize
         ensures { result ≡ length self.now }
     {
-        self.pools.len()
+        self.places.len()
     }
 
     /// How many slots the pool in this place has.
@@ -256,8 +260,8 @@ impl Pools {
     pub fn len(&self, place: usize) -> usize
         ensures { result ≡ length (slots_of self.now place) }
     {
-        if place < self.pools.len() {
-            return len_of(&self.pools[place]);
+        if place < self.places.len() {
+            return self.places[place].len();
         }
         0
     }
@@ -267,8 +271,8 @@ impl Pools {
     pub fn free_len(&self, place: usize) -> usize
         ensures { result ≡ free_count self.now place }
     {
-        if place < self.pools.len() {
-            return free_len_of(&self.pools[place]);
+        if place < self.places.len() {
+            return self.places[place].free_len();
         }
         0
     }
@@ -278,7 +282,10 @@ impl Pools {
     pub fn is_idle(&self, place: usize) -> bool
         ensures { result ≡ is_idle self.now place }
     {
-        self.free_len(place) == self.len(place)
+        if place < self.places.len() {
+            return self.places[place].is_idle();
+        }
+        true
     }
 
     /// The port whose pool it is; 0 where there is no pool.
@@ -286,8 +293,8 @@ impl Pools {
     pub fn owner(&self, place: usize) -> u64
         ensures { result ≡ owner_of self.now place }
     {
-        if place < self.pools.len() {
-            return port_of(&self.pools[place]);
+        if place < self.places.len() {
+            return self.places[place].port();
         }
         0
     }
@@ -297,10 +304,21 @@ impl Pools {
     pub fn ids(&self, place: usize) -> Option<(UniqueSystemId, UniqueSystemId)>
         ensures { result ≡ option_map (λ p. (p.node_id, p.port_id)) (pool_at self.now place) }
     {
-        if place < self.pools.len() {
-            return ids_of(&self.pools[place]);
+        if place < self.places.len() {
+            return self.places[place].ids();
         }
         None
+    }
+
+    /// The port whose pool it is likely stands there among the ports, which `at` tells. A wrong
+    /// place is only slower.
+    #[inline]
+    pub fn set_at(&mut self, place: usize, at: usize)
+        ensures { self.new ≡ self.old }
+    {
+        if place < self.places.len() {
+            self.places[place].set_at(at);
+        }
     }
 
     // ---- pools come and go
@@ -310,7 +328,7 @@ impl Pools {
         ensures first { result ≡ position is_none self.now }
         ensures within { IfSome result (λ place. place < length self.now) }
     {
-        self.pools.iter().position(|pool| pool.is_none())
+        self.places.iter().position(|place| place.is_vacant())
     }
 
     /// Makes a pool of so many slots that nobody has, and tells its place: the first that is
@@ -331,12 +349,12 @@ impl Pools {
         let pool = Pool::new(alloc, port, node_id, port_id, size)?;
         match self.vacant() {
             Some(place) => {
-                self.pools[place] = Some(pool);
+                self.places[place] = Place::of(pool);
                 Ok(place)
             }
             None => {
-                self.pools.push(Some(pool))?;
-                Ok(self.pools.len() - 1)
+                self.places.push(Place::of(pool))?;
+                Ok(self.places.len() - 1)
             }
         }
     }
@@ -345,8 +363,8 @@ impl Pools {
     pub fn remove(&mut self, place: usize)
         ensures { self.new ≡ without_pool self.old place }
     {
-        if place < self.pools.len() {
-            self.pools[place] = None;
+        if place < self.places.len() {
+            self.places[place] = Place::none(self.alloc);
         }
     }
 }

@@ -112,14 +112,24 @@ impl Slot {
         slot
     }
 
-    /// The slot as it is when one less has it. Where nobody has it, it stays.
-    #[inline]
-    pub(crate) fn let_go(self) -> Slot
-        ensures { result ≡ let_go self }
+    /// One more has it.
+    #[inline(always)]
+    pub(crate) fn hold(&mut self)
+        requires { self.old.holders < 2 ^ 64 - 1 }
+        ensures { self.new ≡ held self.old }
     {
-        let mut slot = self;
-        slot.holders = slot.holders.saturating_sub(1);
-        slot
+        self.holders += 1;
+    }
+
+    /// One less has it, and says whether nobody has it any more.
+    #[inline(always)]
+    pub(crate) fn leave(&mut self) -> bool
+        requires { 0 < self.old.holders }
+        ensures left { self.new ≡ let_go self.old }
+        ensures freed { result ≡ is_free self.new }
+    {
+        self.holders -= 1;
+        self.is_free()
     }
 
     /// A slot with that message, which one has.

@@ -128,6 +128,18 @@ impl<E: Words, H: Words> Cell<E, H> {
         }
     }
 
+    /// Lends it for so many elements, for which it has room of its own. None of them is filled.
+    #[inline(always)]
+    pub fn lend_own(&mut self, elements: usize, user: H)
+        requires { elements ≤ self.old.room }
+        ensures { self.new ≡ lent_uninit self.old elements (H.words user) }
+    {
+        user.known();
+        self.elements = elements;
+        self.user = user;
+        self.payload.clear();
+    }
+
     /// No element is filled any more.
     #[inline]
     pub fn empty(&mut self)

@@ -1,5 +1,5 @@
 //! What the messages of one sender carry.
-ghost use Rattle.std.specs.Prelude.{◌≡◌, ◌<◌, ◌≤◌, ◌*◌, ◌↔◌, IfOk, IsTrue, flat_map, length};
+ghost use Rattle.std.specs.Prelude.{◌≡◌, ◌<◌, ◌≤◌, ◌*◌, ◌↔◌, [], IfOk, IsTrue, flat_map, length};
 ghost use Rattle.iox_store.specs.Stored.{element_at, new_contents, stored_at};
 
 use crate::cell::Cell;
@@ -48,6 +48,18 @@ impl<E: Words, H: Words> Store<E, H> {
             spare: None,
             alloc,
         })
+    }
+
+    /// No messages, and no memory for any.
+    pub fn none(alloc: Global) -> Self
+        ensures { result ≡ record { longest = 0; messages = [] } }
+    {
+        Store {
+            cells: Vec::new(alloc),
+            longest: 0,
+            spare: None,
+            alloc,
+        }
     }
 
     /// How many messages there are.

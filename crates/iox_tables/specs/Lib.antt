@@ -11,6 +11,7 @@ pub use Rattle.iox_lanes.specs.declared.wanted.Label
 pub use Rattle.iox_lanes.specs.declared.incoming.Visits
 pub use Rattle.iox_lanes.specs.Incomings
 pub use Rattle.iox_lanes.specs.Pipes
+pub use Rattle.iox_lanes.specs.PipeSteps
 pub use Rattle.iox_lanes.specs.Lanes
 pub use Rattle.iox_lanes.specs.Visited
 pub use Rattle.iox_lanes.specs.Searches

@@ -10,4 +10,4 @@ pub mod hub_loans;
 pub mod hub_making;
 pub mod hub_states;
 
-pub use iox_lanes::{expired, incoming, pipe, steps, wanted};
+pub use iox_lanes::{expired, incoming, pipe, pipe_steps, steps, wanted};

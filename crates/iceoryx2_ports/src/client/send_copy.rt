@@ -70,7 +70,7 @@ impl<E: Words, QH: Words, P: Payload, PH: Words> Client<One<E>, QH, P, PH> {
                 number,
                 servers,
                 place: _,
-            } => Ok(PendingResponse::new(self.node, number, servers)),
+            } => Ok(PendingResponse::new(self.node, number, hub.last_place(), servers)),
             Copied::Refused(refusal) => { Err(RequestSendError::from(error_of_test(refusal))) }
             Copied::OutOfMemory => Err(RequestSendError::from(LoanError::OutOfMemory)),
             Copied::ExceedsMaxActiveRequests => Err(RequestSendError::ExceedsMaxActiveRequests),

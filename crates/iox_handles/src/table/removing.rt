@@ -7,11 +7,12 @@ ghost use Rattle.iox_handles.specs.Tables.{IsSound, handle_of, removed};
 use crate::entry::Entry;
 use crate::entry_test::EntryTest;
 use crate::places::place_of;
-use crate::table::{Table, forgotten, remainder};
+use crate::table::Table;
+use crate::vacant::NOBODY;
 
 impl Table {
-    /// Removes the node's handle of that number, if it passes the test. It is looked for once: in
-    /// its likely place and at the hint first.
+    /// Removes the node's handle of that number, if it passes the test. It is looked for once: at
+    /// the hint and in its likely place first.
     #[inline(always)]
     pub fn remove_if<T: EntryTest>(
         &mut self,
@@ -26,20 +27,17 @@ impl Table {
         ensures unchanged { result ≡ None → self.new ≡ self.old }
         ensures sound { IsSound self.old }
     {
-        let at = place_of(&self.places, number, self.guess(number), hint)?;
-        let entry = self.places[at]?;
+        let at = place_of(&self.places, number, &self.likely, hint)?;
+        let entry = self.places[at];
         if entry.node != node {
             return None;
         }
         if !test.passes(entry) {
             return None;
         }
-        let kept_at = remainder(number);
-        self.likely[kept_at] = forgotten(self.likely[kept_at], at);
         self.tally.discount(entry.port, entry.kind);
-        self.places[at].take();
+        self.places[at].number = NOBODY;
         self.free.push_reserved(at);
-        self.room = self.room + 1;
         Some(entry)
     }
 }

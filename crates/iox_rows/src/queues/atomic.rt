@@ -3,7 +3,6 @@ ghost use Rattle.iox_queues.specs.Values.{last_store};
 
 use crate::expected::{equal, holds};
 use iox_queues::spmc::unrestricted_atomic::UnrestrictedAtomic;
-use std::test::Fail;
 
 /// What is loaded once the producer is gone is what it stored last.
 fn stored_twice() -> u64
@@ -20,17 +19,21 @@ fn stored_twice() -> u64
     atomic.load()
 }
 
+/// Whether a value is stored.
+fn stores(atomic: &mut UnrestrictedAtomic<u128>, value: u128) -> bool {
+    match atomic.acquire_producer() {
+        Some(mut producer) => producer.store(value),
+        None => false,
+    }
+}
+
 #[test]
-fn the_last_store_is_loaded(rt: HostRuntime) -> Result<(), Fail> {
+fn the_last_store_is_loaded(rt: HostRuntime) {
     equal(&rt, stored_twice(), 7);
     let mut atomic = UnrestrictedAtomic::new(3u128);
     equal(&rt, atomic.load(), 3);
-    match atomic.acquire_producer() {
-        Some(mut producer) => holds(&rt, producer.store(u128::MAX)),
-        None => unreachable!(),
-    }
+    holds(&rt, stores(&mut atomic, u128::MAX));
     equal(&rt, atomic.load(), u128::MAX);
-    Ok(())
 }
 
 /// After the last store there is none. No test comes there, so this is proved.

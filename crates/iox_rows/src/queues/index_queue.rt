@@ -1,73 +1,198 @@
+//! Queues of numbers. A test is a list of what is asked and of what has to be answered, which
+//! `plays` asks: what is known of each answer would else stand in the proof of all that come after.
 ghost use Rattle.std.specs.Prelude.{◌≡◌, ◌↔◌, ◌-◌, ◌^◌, [], IsTrue};
 ghost use Rattle.std.specs.Bool.{OnFalse, OnTrue};
 ghost use Rattle.iox_queues.specs.BoundedQueues.{HasRoom, first, with_pushed, without_first};
 
-use crate::expected::{equal, holds};
+use crate::rows::{Answers, Row, plays};
 use iox_queues::spsc::index_queue::{FixedSizeIndexQueue, IndexQueue};
-use std::test::Fail;
+use std::alloc::{AllocError, Global};
 
-#[test]
-fn a_popped_number_is_gone(rt: HostRuntime) -> Result<(), Fail> {
-    let mut queue = FixedSizeIndexQueue::<128>::new(rt.alloc())?;
-    equal(&rt, queue.capacity(), 128);
-    holds(&rt, queue.is_empty());
-    holds(&rt, queue.push(1234));
-    equal(&rt, queue.len(), 1);
-    holds(&rt, !queue.is_full());
-    equal(&rt, queue.pop(), Some(1234));
-    equal(&rt, queue.pop(), None);
-    Ok(())
+/// What is asked, and what has to be answered.
+enum Asked {
+    Capacity(usize),
+    IsEmpty(bool),
+    IsFull(bool),
+    Len(usize),
+    Push(u64, bool),
+    Pop(Option<u64>),
+    /// What waits at this rank.
+    Get(usize, Option<u64>),
+    PushByGuard(u64, bool),
+    PopByGuard(Option<u64>),
+    /// Of one guard.
+    TwoPops(Option<u64>, Option<u64>),
+    /// The same of 3, 4 and 5.
+    ThreePushes(bool, bool, bool),
 }
 
-#[test]
-fn a_full_queue_refuses(rt: HostRuntime) -> Result<(), Fail> {
-    let mut queue = IndexQueue::new(rt.alloc(), 1)?;
-    equal(&rt, queue.capacity(), 1);
-    holds(&rt, queue.is_empty());
-    holds(&rt, queue.push(7));
-    holds(&rt, queue.is_full());
-    holds(&rt, !queue.push(8));
-    equal(&rt, queue.len(), 1);
-    equal(&rt, queue.pop(), Some(7));
-    equal(&rt, queue.pop(), None);
-    Ok(())
-}
-
-#[test]
-fn numbers_leave_in_order_around_the_end(rt: HostRuntime) -> Result<(), Fail> {
-    let mut queue = IndexQueue::new(rt.alloc(), 3)?;
-    for round in 0..5u64 {
-        holds(&rt, queue.push(10 * round));
-        holds(&rt, queue.push(10 * round + 1));
-        equal(&rt, queue.pop(), Some(10 * round));
-        equal(&rt, queue.pop(), Some(10 * round + 1));
-        equal(&rt, queue.pop(), None);
+impl Answers<usize, Asked, AllocError> for IndexQueue {
+    fn made(alloc: Global, capacity: usize) -> Result<Self, AllocError> {
+        IndexQueue::new(alloc, capacity)
     }
-    Ok(())
+
+    fn answers(&mut self, asked: &Asked) -> bool {
+        match asked {
+            Asked::Capacity(wanted) => self.capacity() == *wanted,
+            Asked::IsEmpty(wanted) => self.is_empty() == *wanted,
+            Asked::IsFull(wanted) => self.is_full() == *wanted,
+            Asked::Len(wanted) => self.len() == *wanted,
+            Asked::Push(value, wanted) => self.push(*value) == *wanted,
+            Asked::Pop(wanted) => self.pop() == *wanted,
+            Asked::Get(rank, wanted) => self.get(*rank) == *wanted,
+            Asked::PushByGuard(value, wanted) => push_by_guard(self, *value) == *wanted,
+            Asked::TwoPops(first, second) => popped_by_guard(self) == (*first, *second),
+            _ => false,
+        }
+    }
+}
+
+impl<const CAPACITY: usize> Answers<(), Asked, AllocError> for FixedSizeIndexQueue<CAPACITY> {
+    fn made(alloc: Global, _at: ()) -> Result<Self, AllocError> {
+        FixedSizeIndexQueue::<CAPACITY>::new(alloc)
+    }
+
+    fn answers(&mut self, asked: &Asked) -> bool {
+        match asked {
+            Asked::Capacity(wanted) => self.capacity() == *wanted,
+            Asked::IsEmpty(wanted) => self.is_empty() == *wanted,
+            Asked::IsFull(wanted) => self.is_full() == *wanted,
+            Asked::Len(wanted) => self.len() == *wanted,
+            Asked::Push(value, wanted) => self.push(*value) == *wanted,
+            Asked::Pop(wanted) => self.pop() == *wanted,
+            Asked::PopByGuard(wanted) => pop_by_guard(self) == *wanted,
+            Asked::ThreePushes(first, second, third) => {
+                pushed_by_guard(self) == (*first, *second, *third)
+            }
+            _ => false,
+        }
+    }
 }
 
 #[test]
-fn what_waits_is_told_by_its_rank_around_the_end(rt: HostRuntime) -> Result<(), Fail> {
-    let mut queue = IndexQueue::new(rt.alloc(), 3)?;
-    holds(&rt, queue.push(1));
-    holds(&rt, queue.push(2));
-    equal(&rt, queue.pop(), Some(1));
-    holds(&rt, queue.push(3));
-    holds(&rt, queue.push(4));
-    equal(&rt, (queue.get(0), queue.get(1)), (Some(2), Some(3)));
-    equal(&rt, (queue.get(2), queue.get(3)), (Some(4), None));
-    equal(&rt, queue.len(), 3);
-    Ok(())
-}
-
-#[test]
-fn a_queue_of_capacity_zero_is_empty_and_full(rt: HostRuntime) -> Result<(), Fail> {
-    let mut queue = FixedSizeIndexQueue::<0>::new(rt.alloc())?;
-    holds(&rt, queue.is_empty());
-    holds(&rt, queue.is_full());
-    holds(&rt, !queue.push(7));
-    equal(&rt, queue.pop(), None);
-    Ok(())
+fn numbers_leave_in_order(rt: HostRuntime) {
+    const ROWS: &[Row<'_, usize, Asked, AllocError>] = &[
+        (
+            "a full queue refuses",
+            1,
+            &[
+                Asked::Capacity(1),
+                Asked::IsEmpty(true),
+                Asked::Push(7, true),
+                Asked::IsFull(true),
+                Asked::Push(8, false),
+                Asked::Len(1),
+                Asked::Pop(Some(7)),
+                Asked::Pop(None),
+            ],
+            None,
+        ),
+        (
+            "numbers leave in order around the end",
+            3,
+            &[
+                Asked::Push(0, true),
+                Asked::Push(1, true),
+                Asked::Pop(Some(0)),
+                Asked::Pop(Some(1)),
+                Asked::Pop(None),
+                Asked::Push(10, true),
+                Asked::Push(11, true),
+                Asked::Pop(Some(10)),
+                Asked::Pop(Some(11)),
+                Asked::Pop(None),
+                Asked::Push(20, true),
+                Asked::Push(21, true),
+                Asked::Pop(Some(20)),
+                Asked::Pop(Some(21)),
+                Asked::Pop(None),
+                Asked::Push(30, true),
+                Asked::Push(31, true),
+                Asked::Pop(Some(30)),
+                Asked::Pop(Some(31)),
+                Asked::Pop(None),
+                Asked::Push(40, true),
+                Asked::Push(41, true),
+                Asked::Pop(Some(40)),
+                Asked::Pop(Some(41)),
+                Asked::Pop(None),
+            ],
+            None,
+        ),
+        (
+            "what waits is told by its rank around the end",
+            3,
+            &[
+                Asked::Push(1, true),
+                Asked::Push(2, true),
+                Asked::Pop(Some(1)),
+                Asked::Push(3, true),
+                Asked::Push(4, true),
+                Asked::Get(0, Some(2)),
+                Asked::Get(1, Some(3)),
+                Asked::Get(2, Some(4)),
+                Asked::Get(3, None),
+                Asked::Len(3),
+            ],
+            None,
+        ),
+        (
+            "guards push and pop",
+            1,
+            &[
+                Asked::PushByGuard(1, true),
+                Asked::PushByGuard(2, false),
+                Asked::TwoPops(Some(1), None),
+                Asked::IsEmpty(true),
+            ],
+            None,
+        ),
+        (
+            "a capacity past the memory is refused",
+            usize::MAX,
+            &[],
+            Some(AllocError),
+        ),
+    ];
+    const OF_128: &[Row<'_, (), Asked, AllocError>] = &[(
+        "a popped number is gone",
+        (),
+        &[
+            Asked::Capacity(128),
+            Asked::IsEmpty(true),
+            Asked::Push(1234, true),
+            Asked::Len(1),
+            Asked::IsFull(false),
+            Asked::Pop(Some(1234)),
+            Asked::Pop(None),
+        ],
+        None,
+    )];
+    const OF_0: &[Row<'_, (), Asked, AllocError>] = &[(
+        "a queue of capacity zero is empty and full",
+        (),
+        &[
+            Asked::IsEmpty(true),
+            Asked::IsFull(true),
+            Asked::Push(7, false),
+            Asked::Pop(None),
+        ],
+        None,
+    )];
+    const OF_2: &[Row<'_, (), Asked, AllocError>] = &[(
+        "guards push and pop",
+        (),
+        &[
+            Asked::ThreePushes(true, true, false),
+            Asked::PopByGuard(Some(3)),
+            Asked::PopByGuard(Some(4)),
+        ],
+        None,
+    )];
+    plays::<usize, Asked, AllocError, IndexQueue>(&rt, rt.alloc(), ROWS);
+    plays::<(), Asked, AllocError, FixedSizeIndexQueue<128>>(&rt, rt.alloc(), OF_128);
+    plays::<(), Asked, AllocError, FixedSizeIndexQueue<0>>(&rt, rt.alloc(), OF_0);
+    plays::<(), Asked, AllocError, FixedSizeIndexQueue<2>>(&rt, rt.alloc(), OF_2);
 }
 
 /// Nothing is pushed past the last position, though there is room. No test comes there, so this is
@@ -92,11 +217,6 @@ pub fn nothing_is_pushed_past_the_last_position(queue: &mut IndexQueue)
     prove!(refused);
     let none = queue.pop();
     prove!(none == None);
-}
-
-#[test]
-fn a_capacity_past_the_memory_is_refused(rt: HostRuntime) {
-    holds(&rt, IndexQueue::new(rt.alloc(), usize::MAX).is_err());
 }
 
 /// Pushes by a guard, which ends.
@@ -129,23 +249,11 @@ fn popped_by_guard(queue: &mut IndexQueue) -> (Option<u64>, Option<u64>) {
 }
 
 /// What pushes of 3, 4 and 5 by one guard answer.
-fn pushed_by_guard(queue: &mut FixedSizeIndexQueue<2>) -> (bool, bool, bool) {
+fn pushed_by_guard<const CAPACITY: usize>(
+    queue: &mut FixedSizeIndexQueue<CAPACITY>,
+) -> (bool, bool, bool) {
     match queue.acquire_producer() {
         Some(mut producer) => (producer.push(3), producer.push(4), producer.push(5)),
         None => unreachable!(),
     }
-}
-
-#[test]
-fn guards_push_and_pop(rt: HostRuntime) -> Result<(), Fail> {
-    let mut queue = IndexQueue::new(rt.alloc(), 1)?;
-    holds(&rt, push_by_guard(&mut queue, 1));
-    holds(&rt, !push_by_guard(&mut queue, 2));
-    equal(&rt, popped_by_guard(&mut queue), (Some(1), None));
-    holds(&rt, queue.is_empty());
-    let mut fixed = FixedSizeIndexQueue::<2>::new(rt.alloc())?;
-    equal(&rt, pushed_by_guard(&mut fixed), (true, true, false));
-    equal(&rt, pop_by_guard(&mut fixed), Some(3));
-    equal(&rt, pop_by_guard(&mut fixed), Some(4));
-    Ok(())
 }

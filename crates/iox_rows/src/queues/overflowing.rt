@@ -1,77 +1,185 @@
+//! Queues of numbers that overflow. A test is a list of what is asked and of what has to be
+//! answered, which `plays` asks.
 ghost use Rattle.std.specs.Prelude.{◌≡◌, ◌-◌, ◌^◌, []};
 ghost use Rattle.iox_queues.specs.BoundedQueues.{first, handed_back, with_overflow, without_first};
 
-use crate::expected::{equal, holds};
+use crate::rows::{Answers, Row, plays};
 use iox_queues::spsc::safely_overflowing_index_queue::{
     FixedSizeSafelyOverflowingIndexQueue, SafelyOverflowingIndexQueue,
     SafelyOverflowingIndexQueueNewError,
 };
-use std::test::Fail;
+use std::alloc::Global;
 
-#[test]
-fn a_full_queue_hands_the_oldest_back(rt: HostRuntime) -> Result<(), Fail> {
-    let mut queue = SafelyOverflowingIndexQueue::new(rt.alloc(), 2)?;
-    equal(&rt, queue.capacity(), 2);
-    holds(&rt, queue.is_empty());
-    equal(&rt, queue.push(1), None);
-    holds(&rt, !queue.is_full());
-    equal(&rt, queue.push(2), None);
-    holds(&rt, queue.is_full());
-    equal(&rt, queue.push(3), Some(1));
-    equal(&rt, queue.len(), 2);
-    equal(&rt, queue.pop(), Some(2));
-    equal(&rt, queue.pop(), Some(3));
-    equal(&rt, queue.pop(), None);
-    Ok(())
+/// What is asked, and what has to be answered.
+enum Asked {
+    Capacity(usize),
+    IsEmpty(bool),
+    IsFull(bool),
+    Len(usize),
+    Push(u64, Option<u64>),
+    Pop(Option<u64>),
+    PushByGuard(u64, Option<u64>),
+    PopByGuard(Option<u64>),
+    /// Of one guard, of 3 and 4.
+    TwoPushes(Option<u64>, Option<u64>),
+}
+
+impl Answers<usize, Asked, SafelyOverflowingIndexQueueNewError> for SafelyOverflowingIndexQueue {
+    fn made(alloc: Global, capacity: usize) -> Result<Self, SafelyOverflowingIndexQueueNewError> {
+        SafelyOverflowingIndexQueue::new(alloc, capacity)
+    }
+
+    fn answers(&mut self, asked: &Asked) -> bool {
+        match asked {
+            Asked::Capacity(wanted) => self.capacity() == *wanted,
+            Asked::IsEmpty(wanted) => self.is_empty() == *wanted,
+            Asked::IsFull(wanted) => self.is_full() == *wanted,
+            Asked::Len(wanted) => self.len() == *wanted,
+            Asked::Push(value, wanted) => self.push(*value) == *wanted,
+            Asked::Pop(wanted) => self.pop() == *wanted,
+            Asked::PushByGuard(value, wanted) => push_by_guard(self, *value) == *wanted,
+            Asked::PopByGuard(wanted) => popped_by_guard(self) == *wanted,
+            _ => false,
+        }
+    }
+}
+
+impl<const CAPACITY: usize> Answers<(), Asked, SafelyOverflowingIndexQueueNewError>
+    for FixedSizeSafelyOverflowingIndexQueue<CAPACITY> {
+    fn made(alloc: Global, _at: ()) -> Result<Self, SafelyOverflowingIndexQueueNewError> {
+        FixedSizeSafelyOverflowingIndexQueue::<CAPACITY>::new(alloc)
+    }
+
+    fn answers(&mut self, asked: &Asked) -> bool {
+        match asked {
+            Asked::Capacity(wanted) => self.capacity() == *wanted,
+            Asked::IsEmpty(wanted) => self.is_empty() == *wanted,
+            Asked::IsFull(wanted) => self.is_full() == *wanted,
+            Asked::Len(wanted) => self.len() == *wanted,
+            Asked::Push(value, wanted) => self.push(*value) == *wanted,
+            Asked::Pop(wanted) => self.pop() == *wanted,
+            Asked::PopByGuard(wanted) => pop_by_guard(self) == *wanted,
+            Asked::TwoPushes(first, second) => pushed_by_guard(self) == (*first, *second),
+            _ => false,
+        }
+    }
 }
 
 #[test]
-fn the_newest_wait_around_the_end(rt: HostRuntime) -> Result<(), Fail> {
-    let mut queue = FixedSizeSafelyOverflowingIndexQueue::<3>::new(rt.alloc())?;
-    equal(&rt, queue.capacity(), 3);
-    holds(&rt, queue.is_empty());
-    for value in 0..3u64 {
-        equal(&rt, queue.push(value), None);
-    }
-    for value in 3..10u64 {
-        holds(&rt, queue.is_full());
-        equal(&rt, queue.push(value), Some(value - 3));
-    }
-    equal(&rt, queue.len(), 3);
-    for value in 7..10u64 {
-        equal(&rt, queue.pop(), Some(value));
-    }
-    equal(&rt, queue.pop(), None);
-    Ok(())
-}
-
-#[test]
-fn a_capacity_of_zero_or_past_the_memory_is_refused(rt: HostRuntime) -> Result<(), Fail> {
-    let zero = SafelyOverflowingIndexQueue::new(rt.alloc(), 0);
-    equal(
-        &rt,
-        zero.err(),
+fn a_full_queue_hands_the_oldest_back(rt: HostRuntime) {
+    const ROWS: &[Row<'_, usize, Asked, SafelyOverflowingIndexQueueNewError>] = &[
+        (
+            "a full queue hands the oldest back",
+            2,
+            &[
+                Asked::Capacity(2),
+                Asked::IsEmpty(true),
+                Asked::Push(1, None),
+                Asked::IsFull(false),
+                Asked::Push(2, None),
+                Asked::IsFull(true),
+                Asked::Push(3, Some(1)),
+                Asked::Len(2),
+                Asked::Pop(Some(2)),
+                Asked::Pop(Some(3)),
+                Asked::Pop(None),
+            ],
+            None,
+        ),
+        (
+            "guards push and pop",
+            1,
+            &[
+                Asked::PushByGuard(1, None),
+                Asked::PushByGuard(2, Some(1)),
+                Asked::PopByGuard(Some(2)),
+                Asked::Pop(None),
+            ],
+            None,
+        ),
+        (
+            "a capacity of zero is refused",
+            0,
+            &[],
+            Some(SafelyOverflowingIndexQueueNewError::CapacityIsZero),
+        ),
+        (
+            "a capacity past the memory is refused",
+            usize::MAX,
+            &[],
+            Some(SafelyOverflowingIndexQueueNewError::WantOfMemory),
+        ),
+    ];
+    const OF_3: &[Row<'_, (), Asked, SafelyOverflowingIndexQueueNewError>] = &[(
+        "the newest wait around the end",
+        (),
+        &[
+            Asked::Capacity(3),
+            Asked::IsEmpty(true),
+            Asked::Push(0, None),
+            Asked::Push(1, None),
+            Asked::Push(2, None),
+            Asked::IsFull(true),
+            Asked::Push(3, Some(0)),
+            Asked::IsFull(true),
+            Asked::Push(4, Some(1)),
+            Asked::IsFull(true),
+            Asked::Push(5, Some(2)),
+            Asked::IsFull(true),
+            Asked::Push(6, Some(3)),
+            Asked::IsFull(true),
+            Asked::Push(7, Some(4)),
+            Asked::IsFull(true),
+            Asked::Push(8, Some(5)),
+            Asked::IsFull(true),
+            Asked::Push(9, Some(6)),
+            Asked::Len(3),
+            Asked::Pop(Some(7)),
+            Asked::Pop(Some(8)),
+            Asked::Pop(Some(9)),
+            Asked::Pop(None),
+        ],
+        None,
+    )];
+    const OF_1: &[Row<'_, (), Asked, SafelyOverflowingIndexQueueNewError>] = &[(
+        "guards push and pop",
+        (),
+        &[
+            Asked::TwoPushes(None, Some(3)),
+            Asked::PopByGuard(Some(4)),
+            Asked::PopByGuard(None),
+        ],
+        None,
+    )];
+    const OF_0: &[Row<'_, (), Asked, SafelyOverflowingIndexQueueNewError>] = &[(
+        "a capacity of zero is refused",
+        (),
+        &[],
         Some(SafelyOverflowingIndexQueueNewError::CapacityIsZero),
-    );
-    let fixed = FixedSizeSafelyOverflowingIndexQueue::<0>::new(rt.alloc());
-    equal(
+    )];
+    plays::<usize, Asked, SafelyOverflowingIndexQueueNewError, SafelyOverflowingIndexQueue>(
         &rt,
-        fixed.err(),
-        Some(SafelyOverflowingIndexQueueNewError::CapacityIsZero),
+        rt.alloc(),
+        ROWS,
     );
-    let large = SafelyOverflowingIndexQueue::new(rt.alloc(), usize::MAX);
-    equal(
-        &rt,
-        large.err(),
-        Some(SafelyOverflowingIndexQueueNewError::WantOfMemory),
-    );
-    let text = SafelyOverflowingIndexQueueNewError::CapacityIsZero.to_string(rt.alloc())?;
-    equal(
-        &rt,
-        text.as_str(),
-        "SafelyOverflowingIndexQueueNewError::CapacityIsZero",
-    );
-    Ok(())
+    plays::<
+        (),
+        Asked,
+        SafelyOverflowingIndexQueueNewError,
+        FixedSizeSafelyOverflowingIndexQueue<3>,
+    >(&rt, rt.alloc(), OF_3);
+    plays::<
+        (),
+        Asked,
+        SafelyOverflowingIndexQueueNewError,
+        FixedSizeSafelyOverflowingIndexQueue<1>,
+    >(&rt, rt.alloc(), OF_1);
+    plays::<
+        (),
+        Asked,
+        SafelyOverflowingIndexQueueNewError,
+        FixedSizeSafelyOverflowingIndexQueue<0>,
+    >(&rt, rt.alloc(), OF_0);
 }
 
 /// Past the last position a number comes back, and what is waiting stays. No test comes there, so
@@ -127,25 +235,11 @@ fn popped_by_guard(queue: &mut SafelyOverflowingIndexQueue) -> Option<u64> {
 }
 
 /// What pushes of 3 and 4 by one guard answer.
-fn pushed_by_guard(
-    queue: &mut FixedSizeSafelyOverflowingIndexQueue<1>,
+fn pushed_by_guard<const CAPACITY: usize>(
+    queue: &mut FixedSizeSafelyOverflowingIndexQueue<CAPACITY>,
 ) -> (Option<u64>, Option<u64>) {
     match queue.acquire_producer() {
         Some(mut producer) => (producer.push(3), producer.push(4)),
         None => unreachable!(),
     }
-}
-
-#[test]
-fn guards_push_and_pop(rt: HostRuntime) -> Result<(), Fail> {
-    let mut queue = SafelyOverflowingIndexQueue::new(rt.alloc(), 1)?;
-    equal(&rt, push_by_guard(&mut queue, 1), None);
-    equal(&rt, push_by_guard(&mut queue, 2), Some(1));
-    equal(&rt, popped_by_guard(&mut queue), Some(2));
-    equal(&rt, queue.pop(), None);
-    let mut fixed = FixedSizeSafelyOverflowingIndexQueue::<1>::new(rt.alloc())?;
-    equal(&rt, pushed_by_guard(&mut fixed), (None, Some(3)));
-    equal(&rt, pop_by_guard(&mut fixed), Some(4));
-    equal(&rt, pop_by_guard(&mut fixed), None);
-    Ok(())
 }

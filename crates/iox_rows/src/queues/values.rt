@@ -1,53 +1,133 @@
+//! Queues of values. A test is a list of what is asked and of what has to be answered, which
+//! `plays` asks.
 ghost use Rattle.std.specs.Prelude.{◌≡◌, ◌↔◌, ◌-◌, ◌^◌, [], IsTrue};
 ghost use Rattle.std.specs.Bool.{OnFalse, OnTrue};
 ghost use Rattle.iox_queues.specs.BoundedQueues.{HasRoom, first, with_pushed, without_first};
 
-use crate::expected::{equal, holds};
+use crate::rows::{Answers, Row, plays};
 use iox_queues::spsc::queue::Queue;
 use iox_words::Words;
-use std::test::Fail;
+use std::alloc::{AllocError, Global};
 
-#[test]
-fn values_of_two_words_leave_in_order(rt: HostRuntime) -> Result<(), Fail> {
-    let mut queue = Queue::<u128, 3>::new(rt.alloc())?;
-    equal(&rt, queue.capacity(), 3);
-    for round in 0..5u64 {
-        let value = u128::from(round) << 64;
-        holds(&rt, queue.push(&value));
-        holds(&rt, queue.push(&1));
-        equal(&rt, queue.len(), 2);
-        equal(&rt, queue.pop(), Some(value));
-        equal(&rt, queue.pop(), Some(1));
-        equal(&rt, queue.pop(), None);
+/// What is asked, and what has to be answered.
+enum Asked<T> {
+    Capacity(usize),
+    IsEmpty(bool),
+    IsFull(bool),
+    Len(usize),
+    Push(T, bool),
+    Pop(Option<T>),
+    PushByGuard(T, bool),
+    PopByGuard(Option<T>),
+}
+
+impl<T: Words + PartialEq, const CAPACITY: usize> Answers<(), Asked<T>, AllocError>
+    for Queue<T, CAPACITY> {
+    fn made(alloc: Global, _at: ()) -> Result<Self, AllocError> {
+        Queue::<T, CAPACITY>::new(alloc)
     }
-    Ok(())
+
+    fn answers(&mut self, asked: &Asked<T>) -> bool {
+        match asked {
+            Asked::Capacity(wanted) => self.capacity() == *wanted,
+            Asked::IsEmpty(wanted) => self.is_empty() == *wanted,
+            Asked::IsFull(wanted) => self.is_full() == *wanted,
+            Asked::Len(wanted) => self.len() == *wanted,
+            Asked::Push(value, wanted) => self.push(value) == *wanted,
+            Asked::Pop(wanted) => self.pop() == *wanted,
+            Asked::PushByGuard(value, wanted) => push_by_guard(self, *value) == *wanted,
+            Asked::PopByGuard(wanted) => pop_by_guard(self) == *wanted,
+        }
+    }
 }
 
 #[test]
-fn a_full_queue_refuses(rt: HostRuntime) -> Result<(), Fail> {
-    let mut queue = Queue::<u64, 1>::new(rt.alloc())?;
-    holds(&rt, queue.is_empty());
-    holds(&rt, queue.push(&7));
-    holds(&rt, queue.is_full());
-    holds(&rt, !queue.push(&8));
-    equal(&rt, queue.pop(), Some(7));
-    equal(&rt, queue.pop(), None);
-    let mut none = Queue::<u64, 0>::new(rt.alloc())?;
-    holds(&rt, none.is_full());
-    holds(&rt, !none.push(&7));
-    equal(&rt, none.pop(), None);
-    Ok(())
-}
-
-#[test]
-fn values_of_no_word_are_counted(rt: HostRuntime) -> Result<(), Fail> {
-    let mut queue = Queue::<(), 2>::new(rt.alloc())?;
-    holds(&rt, queue.push(&()));
-    holds(&rt, queue.push(&()));
-    holds(&rt, !queue.push(&()));
-    equal(&rt, queue.pop(), Some(()));
-    equal(&rt, queue.len(), 1);
-    Ok(())
+fn values_leave_in_order(rt: HostRuntime) {
+    const TWO_WORDS: &[Row<'_, (), Asked<u128>, AllocError>] = &[(
+        "values of two words leave in order",
+        (),
+        &[
+            Asked::Capacity(3),
+            Asked::Push(0 << 64, true),
+            Asked::Push(1, true),
+            Asked::Len(2),
+            Asked::Pop(Some(0 << 64)),
+            Asked::Pop(Some(1)),
+            Asked::Pop(None),
+            Asked::Push(1 << 64, true),
+            Asked::Push(1, true),
+            Asked::Len(2),
+            Asked::Pop(Some(1 << 64)),
+            Asked::Pop(Some(1)),
+            Asked::Pop(None),
+            Asked::Push(2 << 64, true),
+            Asked::Push(1, true),
+            Asked::Len(2),
+            Asked::Pop(Some(2 << 64)),
+            Asked::Pop(Some(1)),
+            Asked::Pop(None),
+            Asked::Push(3 << 64, true),
+            Asked::Push(1, true),
+            Asked::Len(2),
+            Asked::Pop(Some(3 << 64)),
+            Asked::Pop(Some(1)),
+            Asked::Pop(None),
+            Asked::Push(4 << 64, true),
+            Asked::Push(1, true),
+            Asked::Len(2),
+            Asked::Pop(Some(4 << 64)),
+            Asked::Pop(Some(1)),
+            Asked::Pop(None),
+        ],
+        None,
+    )];
+    const ONE: &[Row<'_, (), Asked<u64>, AllocError>] = &[(
+        "a full queue refuses",
+        (),
+        &[
+            Asked::IsEmpty(true),
+            Asked::Push(7, true),
+            Asked::IsFull(true),
+            Asked::Push(8, false),
+            Asked::Pop(Some(7)),
+            Asked::Pop(None),
+        ],
+        None,
+    )];
+    const NO_ROOM: &[Row<'_, (), Asked<u64>, AllocError>] = &[(
+        "a queue of capacity zero refuses",
+        (),
+        &[Asked::IsFull(true), Asked::Push(7, false), Asked::Pop(None)],
+        None,
+    )];
+    const NO_WORDS: &[Row<'_, (), Asked<()>, AllocError>] = &[(
+        "values of no word are counted",
+        (),
+        &[
+            Asked::Push((), true),
+            Asked::Push((), true),
+            Asked::Push((), false),
+            Asked::Pop(Some(())),
+            Asked::Len(1),
+        ],
+        None,
+    )];
+    const BY_GUARDS: &[Row<'_, (), Asked<u128>, AllocError>] = &[(
+        "guards push and pop",
+        (),
+        &[
+            Asked::PushByGuard(3, true),
+            Asked::PushByGuard(4, false),
+            Asked::PopByGuard(Some(3)),
+            Asked::PopByGuard(None),
+        ],
+        None,
+    )];
+    plays::<(), Asked<u128>, AllocError, Queue<u128, 3>>(&rt, rt.alloc(), TWO_WORDS);
+    plays::<(), Asked<u64>, AllocError, Queue<u64, 1>>(&rt, rt.alloc(), ONE);
+    plays::<(), Asked<u64>, AllocError, Queue<u64, 0>>(&rt, rt.alloc(), NO_ROOM);
+    plays::<(), Asked<u128>, AllocError, Queue<u128, 1>>(&rt, rt.alloc(), BY_GUARDS);
+    plays::<(), Asked<()>, AllocError, Queue<(), 2>>(&rt, rt.alloc(), NO_WORDS);
 }
 
 /// Nothing is pushed past the last position, though there is room. No test comes there, so this is
@@ -89,14 +169,4 @@ fn pop_by_guard<T: Words, const CAPACITY: usize>(queue: &mut Queue<T, CAPACITY>)
 {
     let mut consumer = queue.acquire_consumer()?;
     consumer.pop()
-}
-
-#[test]
-fn guards_push_and_pop(rt: HostRuntime) -> Result<(), Fail> {
-    let mut queue = Queue::<u128, 1>::new(rt.alloc())?;
-    holds(&rt, push_by_guard(&mut queue, 3));
-    holds(&rt, !push_by_guard(&mut queue, 4));
-    equal(&rt, pop_by_guard(&mut queue), Some(3));
-    equal(&rt, pop_by_guard(&mut queue), None);
-    Ok(())
 }

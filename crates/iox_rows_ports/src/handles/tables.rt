@@ -33,6 +33,7 @@ fn entry(number: u64, kind: Kind) -> Entry
         node: 1,
         number,
         kind,
+        at: 0,
         port: 2,
         pool: 0,
         slot: 3,

@@ -1,109 +1,117 @@
-use crate::expected::{equal, holds};
-use iox_configs::config::{Config, Defaults};
+use super::{BLACKBOARD, REQUESTS, SAMPLES};
+use crate::expected::{are_shown, equal, shows};
+use iox_configs::config::{Config, Defaults, Event, Global};
 use iox_configs::path::{Path, PathError};
 use iox_names::TextError;
-use iox_types::{AllocationStrategy, BackpressureStrategy};
 use std::process::Abort;
-use std::test::Fail;
 
-#[test]
-fn directories_stand_below_the_root(rt: HostRuntime) -> Result<(), Fail> {
-    let mut config = Config::default();
-    equal(&rt, config.global.root_path().as_str(), "/tmp/iceoryx2");
-    equal(
-        &rt,
-        config.global.service_dir()?.as_str(),
-        "/tmp/iceoryx2/services",
-    );
-    equal(
-        &rt,
-        config.global.node_dir()?.as_str(),
-        "/tmp/iceoryx2/nodes",
-    );
-    config.global.set_root_path(&Path::new("/run")?);
-    let text = format!(in rt.alloc(); "{}", config.global.node_dir()?)?;
-    equal(&rt, text.as_str(), "/run/nodes");
-    Ok(())
+/// Why a path is refused, if it is.
+type Refused = Option<PathError>;
+
+const LONG: Refused = Some(PathError::ExceedsMaximumLength);
+
+const INVALID: Refused = Some(PathError::InvalidContent);
+
+/// Ends the test where bytes are refused otherwise as a path, or are another one.
+fn is_path(rt: &impl Abort, bytes: &[u8], refused: Refused) {
+    let text = str::from_utf8(bytes).expect(rt, "a text");
+    match Path::new(text) {
+        Ok(path) => equal(rt, (path.as_str(), None), (text, refused)),
+        Err(error) => equal(rt, (text, Some(error)), (text, refused)),
+    }
 }
 
 #[test]
-fn a_path_has_one_to_255_bytes(rt: HostRuntime) -> Result<(), Fail> {
-    let longest = [b'a'; 255];
-    let longest = Path::new(std::str::from_utf8(&longest)?)?;
-    equal(&rt, longest.as_str().len(), Path::max_len());
-    let mut config = Config::default();
-    config.global.set_root_path(&longest);
+fn a_path_has_1_to_255_bytes_from_1_to_127(rt: HostRuntime) {
+    const PATHS: &[(&[u8], Refused)] = &[
+        (&[b'a'; 255], None),
+        (&[0; 256], LONG),
+        (b"", INVALID),
+        (b"/a\0", INVALID),
+        (b"/\xc3\xa4", INVALID),
+        (b"\x7f", None),
+    ];
+    for (bytes, refused) in PATHS {
+        is_path(&rt, bytes, *refused);
+    }
+    equal(&rt, Path::max_len(), 255);
+}
+
+#[test]
+fn an_error_of_a_path_is_shown(rt: HostRuntime) {
+    const ERRORS: &[(PathError, &str)] = &[
+        (PathError::InvalidContent, "PathError::InvalidContent"),
+        (
+            PathError::ExceedsMaximumLength,
+            "PathError::ExceedsMaximumLength",
+        ),
+    ];
+    are_shown(&rt, rt.alloc(), ERRORS);
+    let error = PathError::from(TextError::InvalidContent);
+    equal(&rt, error, PathError::InvalidContent);
+}
+
+fn path(rt: &impl Abort, text: &str) -> Path {
+    Path::new(text).expect(rt, "a path")
+}
+
+/// What all services share, with that root.
+fn below(rt: &impl Abort, root: &str) -> Global {
+    let mut global = Global::default();
+    global.set_root_path(&path(rt, root));
+    global
+}
+
+/// Ends the test where the root is another one, or services and nodes lie elsewhere.
+fn lie(rt: &impl Abort, global: &Global, [root, services, nodes]: [&str; 3]) {
+    equal(rt, global.root_path().as_str(), root);
+    equal(rt, global.service_dir(), Ok(path(rt, services)));
+    equal(rt, global.node_dir(), Ok(path(rt, nodes)));
+}
+
+#[test]
+fn directories_stand_below_the_root(rt: HostRuntime) {
+    let first = [
+        "/tmp/iceoryx2",
+        "/tmp/iceoryx2/services",
+        "/tmp/iceoryx2/nodes",
+    ];
+    lie(&rt, &Config::default().global, first);
+    lie(
+        &rt,
+        &below(&rt, "/run"),
+        ["/run", "/run/services", "/run/nodes"],
+    );
+    shows(&rt, rt.alloc(), &path(&rt, "/run/nodes"), "/run/nodes");
+}
+
+#[test]
+fn no_directory_stands_below_the_longest_root(rt: HostRuntime) {
+    const LONGEST: &str = "/123456789abcdef0123456789abcdef0123456789abcdef0123456789abcdef\
+        0123456789abcdef0123456789abcdef0123456789abcdef0123456789abcdef\
+        0123456789abcdef0123456789abcdef0123456789abcdef0123456789abcdef\
+        0123456789abcdef0123456789abcdef0123456789abcdef0123456789abcde";
+    let global = below(&rt, LONGEST);
+    equal(&rt, global.root_path().as_str(), LONGEST);
     equal(
         &rt,
-        config.global.service_dir(),
-        Err(PathError::ExceedsMaximumLength),
+        [global.service_dir().err(), global.node_dir().err()],
+        [LONG, LONG],
     );
-    equal(
-        &rt,
-        config.global.node_dir(),
-        Err(PathError::ExceedsMaximumLength),
-    );
-    equal(&rt, config.global.root_path(), &longest);
-    let too_long = [0; 256];
-    let too_long = std::str::from_utf8(&too_long)?;
-    equal(
-        &rt,
-        Path::new(too_long),
-        Err(PathError::ExceedsMaximumLength),
-    );
-    equal(&rt, Path::new(""), Err(PathError::InvalidContent));
-    equal(&rt, Path::new("/a\0"), Err(PathError::InvalidContent));
-    equal(&rt, Path::new("/ä"), Err(PathError::InvalidContent));
-    equal(&rt, Path::new("\u{7f}")?.as_str(), "\u{7f}");
-    equal(
-        &rt,
-        PathError::from(TextError::InvalidContent),
-        PathError::InvalidContent,
-    );
-    let text = format!(in rt.alloc();
-        "{} {}",
-        PathError::InvalidContent,
-        PathError::ExceedsMaximumLength
-    )?;
-    equal(
-        &rt,
-        text.as_str(),
-        "PathError::InvalidContent PathError::ExceedsMaximumLength",
-    );
-    Ok(())
+}
+
+/// Ends the test where settings are not the documented first ones.
+fn are_first(rt: &impl Abort, defaults: &Defaults) {
+    equal(rt, &defaults.request_response, &REQUESTS);
+    equal(rt, &defaults.publish_subscribe, &SAMPLES);
+    equal(rt, &defaults.blackboard, &BLACKBOARD);
+    equal(rt, &defaults.event, &Event::default());
+    equal(rt, defaults.event.event_id_max_value, 255);
+    equal(rt, defaults.event.deadline, None);
 }
 
 #[test]
 fn first_settings_are_the_documented_ones(rt: HostRuntime) {
-    let defaults = Defaults::default();
-    let requests = defaults.request_response;
-    equal(&rt, requests.server_max_loaned_responses_per_request, 2);
-    equal(&rt, requests.client_expired_connection_buffer, 128);
-    equal(&rt, requests.server_expired_connection_buffer, 128);
-    equal(
-        &rt,
-        requests.client_backpressure_strategy,
-        BackpressureStrategy::RetryUntilDelivered,
-    );
-    equal(
-        &rt,
-        requests.server_backpressure_strategy,
-        BackpressureStrategy::RetryUntilDelivered,
-    );
-    equal(
-        &rt,
-        requests.client_allocation_strategy,
-        AllocationStrategy::Static,
-    );
-    equal(
-        &rt,
-        requests.server_allocation_strategy,
-        AllocationStrategy::Static,
-    );
-    equal(
-        &rt,
-        defaults.publish_subscribe.publisher_max_loaned_samples,
-        2,
-    );
-    holds(&rt, Config::default().defaults == defaults);
+    are_first(&rt, &Defaults::default());
+    are_first(&rt, &Config::default().defaults);
 }

@@ -1,74 +1,116 @@
-use crate::expected::{equal, holds};
+use super::are_ordered;
+use crate::expected::{debugs, equal, shows};
 use iox_names::{BoundedText, TextError, is_text};
-use std::hash::{DefaultHasher, Hash, Hasher};
-use std::test::Fail;
+use std::cmp::Ordering;
+use std::process::Abort;
 
-fn hash_of(text: &BoundedText<8>) -> u64 {
-    let mut hasher = DefaultHasher::new();
-    text.hash(&mut hasher);
-    hasher.finish()
+/// A text of at most eight bytes.
+type Text = BoundedText<8>;
+
+/// Why a text is refused, if it is.
+type Refused = Option<TextError>;
+
+const LONG: Refused = Some(TextError::ExceedsMaximumLength);
+
+const INVALID: Refused = Some(TextError::InvalidContent);
+
+fn text(rt: &impl Abort, text: &str) -> Text {
+    Text::new(text).expect(rt, "a text")
+}
+
+/// Ends the test where bytes are refused otherwise, or are another text.
+fn comes(rt: &impl Abort, made: &Result<Text, TextError>, bytes: &[u8], refused: Refused) {
+    match made {
+        Ok(text) => equal(
+            rt,
+            (text.as_bytes(), text.len(), text.is_empty(), None),
+            (bytes, bytes.len(), bytes.is_empty(), refused),
+        ),
+        Err(error) => equal(rt, (bytes, Some(*error)), (bytes, refused)),
+    }
 }
 
 #[test]
-fn a_text_is_its_bytes(rt: HostRuntime) -> Result<(), Fail> {
-    let text = BoundedText::<8>::new("iceoryx2")?;
-    equal(&rt, text.len(), 8);
-    holds(&rt, !text.is_empty());
+fn a_text_has_at_most_eight_bytes_from_1_to_127(rt: HostRuntime) {
+    const BYTES: &[(&[u8], Refused)] = &[
+        (b"iceoryx2", None),
+        (b"", None),
+        (b"\x01\x7f", None),
+        (&[0; 9], LONG),
+        (b"\x01\0", INVALID),
+        (b"\x80\x01", INVALID),
+    ];
+    for (bytes, refused) in BYTES {
+        comes(&rt, &Text::from_bytes(bytes), bytes, *refused);
+    }
+    const TEXTS: &[(&str, Refused)] = &[
+        ("iceoryx2", None),
+        ("", None),
+        ("iceoryx23", LONG),
+        ("\u{80}", INVALID),
+    ];
+    for (text, refused) in TEXTS {
+        comes(&rt, &Text::new(text), text.as_bytes(), *refused);
+    }
+    equal(&rt, BoundedText::<0>::new("").err(), None);
+    equal(&rt, BoundedText::<2>::from_bytes(b"\x01\x7f").err(), None);
+    equal(&rt, BoundedText::<2>::from_bytes(&[1; 3]).err(), LONG);
+}
+
+#[test]
+fn a_byte_of_a_text_is_from_1_to_127(rt: HostRuntime) {
+    const BYTES: &[(&[u8], bool)] = &[(&[1, 127], true), (&[1, 0], false), (&[128, 1], false)];
+    for (bytes, fact) in BYTES {
+        equal(&rt, (bytes, is_text(bytes)), (bytes, *fact));
+    }
+}
+
+#[test]
+fn a_text_is_its_bytes(rt: HostRuntime) {
+    let text = text(&rt, "iceoryx2");
     equal(&rt, text.as_str(), "iceoryx2");
-    holds(&rt, text.as_bytes() == b"iceoryx2".as_slice());
-    let shown = format!(in rt.alloc(); "{text} {text:?}")?;
-    equal(&rt, shown.as_str(), "iceoryx2 \"iceoryx2\"");
-    let none = BoundedText::<8>::new("")?;
-    holds(&rt, none.is_empty());
-    holds(&rt, none.as_str().is_empty());
-    Ok(())
+    shows(&rt, rt.alloc(), &text, "iceoryx2");
+    debugs(&rt, rt.alloc(), &text, "\"iceoryx2\"");
 }
 
 #[test]
-fn a_text_has_no_more_bytes_than_fit(rt: HostRuntime) {
-    let longer = BoundedText::<8>::new("iceoryx23");
-    equal(&rt, longer, Err(TextError::ExceedsMaximumLength));
-    let longer = BoundedText::<8>::from_bytes(&[0; 9]);
-    equal(&rt, longer, Err(TextError::ExceedsMaximumLength));
-    holds(&rt, BoundedText::<0>::new("").is_ok());
+fn two_texts_are_joined_where_they_fit(rt: HostRuntime) {
+    const TEXTS: &[([&str; 2], &[u8], Refused)] = &[
+        (["iceo", "ryx2"], b"iceoryx2", None),
+        (["a", "bc"], b"abc", None),
+        (["iceo", "ryx23"], b"", LONG),
+        (["iceo", "\0"], b"", INVALID),
+    ];
+    for ([front, back], both, refused) in TEXTS {
+        comes(&rt, &Text::joined(front, back), both, *refused);
+    }
 }
 
 #[test]
-fn a_byte_is_from_1_to_127(rt: HostRuntime) {
-    holds(&rt, BoundedText::<2>::from_bytes(&[1, 127]).is_ok());
-    holds(&rt, is_text(&[1, 127]));
-    holds(&rt, !is_text(&[1, 0]));
-    holds(&rt, !is_text(&[128, 1]));
-    let zero = BoundedText::<2>::from_bytes(&[1, 0]);
-    equal(&rt, zero, Err(TextError::InvalidContent));
-    let past = BoundedText::<2>::from_bytes(&[128, 1]);
-    equal(&rt, past, Err(TextError::InvalidContent));
-    let past = BoundedText::<2>::new("\u{80}");
-    equal(&rt, past, Err(TextError::InvalidContent));
+fn texts_are_told_apart_and_ordered_by_their_bytes(rt: HostRuntime) {
+    const TEXTS: &[(&str, &str, Ordering)] = &[
+        ("ab", "b", Ordering::Less),
+        ("ab", "abc", Ordering::Less),
+        ("abc", "b", Ordering::Less),
+        ("abc", "ab", Ordering::Greater),
+        ("abc", "abc", Ordering::Equal),
+    ];
+    for (first, second, order) in TEXTS {
+        are_ordered(&rt, &text(&rt, first), &text(&rt, second), *order);
+    }
 }
 
 #[test]
-fn two_texts_are_joined_where_they_fit(rt: HostRuntime) -> Result<(), Fail> {
-    let both = BoundedText::<8>::joined("iceo", "ryx2")?;
-    equal(&rt, both, BoundedText::new("iceoryx2")?);
-    let longer = BoundedText::<8>::joined("iceo", "ryx23");
-    equal(&rt, longer, Err(TextError::ExceedsMaximumLength));
-    let zero = BoundedText::<8>::joined("iceo", "\0");
-    equal(&rt, zero, Err(TextError::InvalidContent));
-    Ok(())
-}
-
-#[test]
-fn texts_are_told_apart_and_ordered_by_their_bytes(rt: HostRuntime) -> Result<(), Fail> {
-    let b = BoundedText::<8>::new("b")?;
-    let ab = BoundedText::<8>::new("ab")?;
-    let abc = BoundedText::<8>::joined("a", "bc")?;
-    holds(&rt, ab < b);
-    holds(&rt, ab < abc);
-    holds(&rt, abc < b);
-    holds(&rt, abc != ab);
-    equal(&rt, hash_of(&abc), hash_of(&BoundedText::new("abc")?));
+fn a_joined_text_is_as_one_that_is_made(rt: HostRuntime) {
+    const TEXTS: &[(&str, Ordering)] = &[
+        ("abc", Ordering::Equal),
+        ("b", Ordering::Less),
+        ("ab", Ordering::Greater),
+    ];
+    let abc = Text::joined("a", "bc").expect(&rt, "a text");
+    for (second, order) in TEXTS {
+        are_ordered(&rt, &abc, &text(&rt, second), *order);
+    }
     let copy = abc;
     equal(&rt, copy, abc);
-    Ok(())
 }

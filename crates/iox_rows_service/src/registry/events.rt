@@ -1,114 +1,82 @@
 //! Notifiers and listeners that come and go.
 use super::details::{listener, notifier};
-use super::expected::{equal, holds};
-use super::node;
+use super::{COME_AND_GO, DIE, Deed, Kind, Port, Register, plays, plays_alone, tell};
+use crate::expected::equal;
 use iox_registry::dynamic_config::event::DynamicConfig;
-use iox_registry::{RegistryHandle, ReleaseError};
-use iox_words::CallbackProgression;
-use std::process::Abort;
-use std::test::Fail;
+use iox_registry::{RegistryHandle, RegistryNewError, ReleaseError};
+use iox_types::identifiers::UniqueNodeId;
 
-fn add_notifier(config: &mut DynamicConfig, process: u32) -> Result<RegistryHandle, Fail> {
-    Ok(config.add_notifier_id(notifier(process)?).ok_or("no room")?)
-}
+impl Register for DynamicConfig {
+    fn add(&mut self, kind: Kind, port: &Port) -> Option<RegistryHandle> {
+        match kind {
+            Kind::First => self.add_notifier_id(notifier(port)),
+            Kind::Second => self.add_listener_id(listener(port)),
+        }
+    }
 
-fn add_listener(config: &mut DynamicConfig, process: u32) -> Result<RegistryHandle, Fail> {
-    Ok(config.add_listener_id(listener(process)?).ok_or("no room")?)
-}
+    fn release(&mut self, kind: Kind, handle: RegistryHandle) -> Result<(), ReleaseError> {
+        match kind {
+            Kind::First => self.release_notifier_handle(handle),
+            Kind::Second => self.release_listener_handle(handle),
+        }
+    }
 
-fn both_are_full(rt: &impl Abort, config: &mut DynamicConfig) -> Result<(), Fail> {
-    equal(rt, config.add_notifier_id(notifier(3)?), None);
-    equal(rt, config.add_listener_id(listener(3)?), None);
-    equal(rt, config.number_of_notifiers(), 2);
-    equal(rt, config.number_of_listeners(), 2);
-    Ok(())
-}
+    fn tells(&self, kind: Kind, handle: RegistryHandle, port: Option<&Port>) -> bool {
+        match (kind, port) {
+            (Kind::First, Some(port)) => self.notifier_details(handle) == Some(notifier(port)),
+            (Kind::First, None) => self.notifier_details(handle) == None,
+            (Kind::Second, Some(port)) => self.listener_details(handle) == Some(listener(port)),
+            (Kind::Second, None) => self.listener_details(handle) == None,
+        }
+    }
 
-fn each_listing_stops_where_it_is_told_to(rt: &impl Abort, config: &DynamicConfig) {
-    let mut calls = 0u8;
-    config.list_notifiers(|_| {
-        calls = calls.saturating_add(1);
-        CallbackProgression::Stop
-    });
-    equal(rt, calls, 1);
-    let mut calls = 0u8;
-    config.list_listeners(|_| {
-        calls = calls.saturating_add(1);
-        CallbackProgression::Stop
-    });
-    equal(rt, calls, 1);
-    let mut calls = 0u8;
-    config.list_listeners(|_| {
-        calls = calls.saturating_add(1);
-        CallbackProgression::Continue
-    });
-    equal(rt, calls, 2);
-}
+    fn number(&self, kind: Kind) -> usize {
+        match kind {
+            Kind::First => self.number_of_notifiers(),
+            Kind::Second => self.number_of_listeners(),
+        }
+    }
 
-fn a_released_handle_is_spent(rt: &impl Abort, config: &mut DynamicConfig, handle: RegistryHandle) {
-    equal(rt, config.release_notifier_handle(handle), Ok(()));
-    equal(
-        rt,
-        config.release_notifier_handle(handle),
-        Err(ReleaseError::Spent),
-    );
-    equal(rt, config.notifier_details(handle), None);
-}
+    fn listed(&self, kind: Kind, stops: bool) -> u8 {
+        let mut count = 0;
+        match kind {
+            Kind::First => self.list_notifiers(|_| tell(&mut count, stops)),
+            Kind::Second => self.list_listeners(|_| tell(&mut count, stops)),
+        }
+        count
+    }
 
-fn a_handle_of_the_other_kind_is_foreign(
-    rt: &impl Abort,
-    config: &mut DynamicConfig,
-    first: RegistryHandle,
-    other: RegistryHandle,
-) {
-    equal(
-        rt,
-        config.release_notifier_handle(other),
-        Err(ReleaseError::Foreign),
-    );
-    equal(
-        rt,
-        config.release_listener_handle(first),
-        Err(ReleaseError::Foreign),
-    );
-}
-
-/// Two notifiers and two listeners come and go.
-fn come_and_go(rt: &impl Abort, config: &mut DynamicConfig) -> Result<(), Fail> {
-    let first = add_notifier(config, 1)?;
-    let second = add_notifier(config, 2)?;
-    let other = add_listener(config, 1)?;
-    add_listener(config, 2)?;
-    both_are_full(rt, config)?;
-    equal(rt, config.notifier_details(second), Some(notifier(2)?));
-    equal(rt, config.listener_details(other), Some(listener(1)?));
-    a_handle_of_the_other_kind_is_foreign(rt, config, first, other);
-    each_listing_stops_where_it_is_told_to(rt, config);
-    a_released_handle_is_spent(rt, config, second);
-    equal(rt, config.release_listener_handle(other), Ok(()));
-    Ok(())
+    fn remove(&mut self, node: &UniqueNodeId) {
+        self.remove_dead_node_id(node);
+    }
 }
 
 #[test]
-fn notifiers_and_listeners_come_and_go(rt: HostRuntime) -> Result<(), Fail> {
-    let mut config = DynamicConfig::new(rt.alloc(), 5, 2, 2)?;
-    come_and_go(&rt, &mut config)
-}
-
-/// The node of a notifier and a listener dies.
-fn leaves_none(rt: &impl Abort, config: &mut DynamicConfig) -> Result<(), Fail> {
-    let first = add_notifier(config, 1)?;
-    add_listener(config, 1)?;
-    config.remove_dead_node_id(&node(1, 1)?);
-    equal(rt, config.number_of_notifiers(), 0);
-    equal(rt, config.number_of_listeners(), 0);
-    let next = add_notifier(config, 1)?;
-    holds(rt, next != first);
-    Ok(())
+fn notifiers_and_listeners_come_and_go(rt: HostRuntime) {
+    let full = DynamicConfig::new(rt.alloc(), 5, 2, 2);
+    plays_alone(&rt, rt.alloc(), full, COME_AND_GO);
+    let dying = DynamicConfig::new(rt.alloc(), 5, 2, 1);
+    plays_alone(&rt, rt.alloc(), dying, DIE);
 }
 
 #[test]
-fn a_dead_node_leaves_no_notifier_and_no_listener(rt: HostRuntime) -> Result<(), Fail> {
-    let mut config = DynamicConfig::new(rt.alloc(), 5, 2, 1)?;
-    leaves_none(&rt, &mut config)
+fn a_handle_of_another_service_is_foreign(rt: HostRuntime) {
+    const COME: &[Deed] = &[Deed::Add(Kind::First, 1)];
+    const REFUSE: &[Deed] = &[
+        Deed::Add(Kind::First, 1),
+        Deed::Release(Kind::First, 0, Err(ReleaseError::Foreign)),
+        Deed::Forgets(Kind::First, 0),
+        Deed::Number(Kind::First, 1),
+    ];
+    let mut handles = Vec::new(rt.alloc());
+    let other = DynamicConfig::new(rt.alloc(), 5, 1, 1);
+    plays(&rt, &mut handles, other, COME);
+    let config = DynamicConfig::new(rt.alloc(), 6, 1, 1);
+    plays(&rt, &mut handles, config, REFUSE);
+}
+
+#[test]
+fn a_limit_past_the_largest_is_refused(rt: HostRuntime) {
+    let refused = DynamicConfig::new(rt.alloc(), 5, 1, 1 << 24).err();
+    equal(&rt, refused, Some(RegistryNewError::LimitTooLarge));
 }

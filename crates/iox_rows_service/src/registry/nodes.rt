@@ -1,134 +1,46 @@
-use super::expected::{equal, holds};
-use super::node;
+//! Nodes that come, go and die.
+use super::{handle, node};
+use crate::expected::{are_shown, equal, holds};
 use iox_registry::dynamic_config::Nodes;
 use iox_registry::{
     RegisterNodeError, RegistryHandle, RegistryNewError, ReleaseError, RemainingOwners,
 };
 use iox_words::CallbackProgression;
+use std::alloc::Global;
 use std::process::Abort;
-use std::test::Fail;
 
-fn register(nodes: &mut Nodes, process: u32, counter: u32) -> Result<RegistryHandle, Fail> {
-    Ok(nodes.register_node_id(node(process, counter)?)?)
+/// What is done, and what has to come of it. A node is told by its process and its counter, and a
+/// handle by how many were handed out before.
+#[derive(Clone, Copy)]
+enum Deed<'a> {
+    /// A node is registered.
+    Comes(u32, u32),
+    /// A node of that process is not registered.
+    Refused(u32, RegisterNodeError),
+    Goes(usize, Result<RemainingOwners, ReleaseError>),
+    Dies(u32, u32, RemainingOwners),
+    /// The handle is that of the node.
+    Tells(usize, u32, u32),
+    /// The handle is that of no node.
+    Forgets(usize),
+    /// There are so many nodes.
+    Number(usize),
+    /// The register takes no more nodes.
+    Locked,
+    /// The processes of the last three nodes that are listed, where the listing is stopped at the
+    /// second one, or is not.
+    Listed(bool, &'a [Option<u32>]),
 }
 
-/// Two nodes come and go.
-fn last_one_locks(rt: &impl Abort, nodes: &mut Nodes) -> Result<(), Fail> {
-    let first = register(nodes, 1, 1)?;
-    let second = register(nodes, 2, 1)?;
-    equal(rt, nodes.number_of_nodes(), 2);
-    equal(
-        rt,
-        nodes.deregister_node_id(first),
-        Ok(RemainingOwners::HasOwners),
-    );
-    equal(
-        rt,
-        nodes.deregister_node_id(second),
-        Ok(RemainingOwners::NoMoreOwners),
-    );
-    holds(rt, nodes.is_locked());
-    equal(
-        rt,
-        nodes.register_node_id(node(3, 1)?),
-        Err(RegisterNodeError::MarkedForDestruction),
-    );
-    Ok(())
+/// What is done to a new register of so many nodes at most.
+struct Run<'a> {
+    /// What a failed test tells.
+    name: &'a str,
+    limit: usize,
+    deeds: &'a [Deed<'a>],
 }
 
-#[test]
-fn the_last_node_that_goes_locks_for_good(rt: HostRuntime) -> Result<(), Fail> {
-    let mut nodes = Nodes::new(rt.alloc(), 5, 3)?;
-    last_one_locks(&rt, &mut nodes)
-}
-
-/// A node that is registered twice dies, and then another one.
-fn both_entries_go(rt: &impl Abort, nodes: &mut Nodes) -> Result<(), Fail> {
-    let first = register(nodes, 1, 1)?;
-    let other = register(nodes, 2, 1)?;
-    let second = register(nodes, 1, 1)?;
-    equal(
-        rt,
-        nodes.remove_dead_node_id(&node(1, 1)?),
-        RemainingOwners::HasOwners,
-    );
-    equal(rt, nodes.number_of_nodes(), 1);
-    equal(rt, nodes.node_id(other), Some(node(2, 1)?));
-    equal(
-        rt,
-        nodes.deregister_node_id(first),
-        Err(ReleaseError::Spent),
-    );
-    equal(
-        rt,
-        nodes.deregister_node_id(second),
-        Err(ReleaseError::Spent),
-    );
-    equal(
-        rt,
-        nodes.remove_dead_node_id(&node(2, 1)?),
-        RemainingOwners::NoMoreOwners,
-    );
-    equal(rt, nodes.node_id(other), None);
-    Ok(())
-}
-
-#[test]
-fn both_entries_of_a_dead_node_go_and_no_other(rt: HostRuntime) -> Result<(), Fail> {
-    let mut nodes = Nodes::new(rt.alloc(), 5, 3)?;
-    both_entries_go(&rt, &mut nodes)
-}
-
-/// One of two nodes of the same counter dies.
-fn are_told_apart(rt: &impl Abort, nodes: &mut Nodes) -> Result<(), Fail> {
-    register(nodes, 1, 9)?;
-    let other = register(nodes, 2, 9)?;
-    equal(
-        rt,
-        nodes.remove_dead_node_id(&node(1, 9)?),
-        RemainingOwners::HasOwners,
-    );
-    equal(rt, nodes.node_id(other), Some(node(2, 9)?));
-    Ok(())
-}
-
-#[test]
-fn nodes_with_the_same_low_half_are_told_apart(rt: HostRuntime) -> Result<(), Fail> {
-    let mut nodes = Nodes::new(rt.alloc(), 5, 2)?;
-    are_told_apart(&rt, &mut nodes)
-}
-
-/// A node that is not there dies. Then one node is registered, as many as may be.
-fn has_owners(rt: &impl Abort, nodes: &mut Nodes) -> Result<(), Fail> {
-    equal(
-        rt,
-        nodes.remove_dead_node_id(&node(1, 1)?),
-        RemainingOwners::HasOwners,
-    );
-    register(nodes, 1, 1)?;
-    equal(
-        rt,
-        nodes.register_node_id(node(2, 1)?),
-        Err(RegisterNodeError::ExceedsMaxNumberOfNodes),
-    );
-    Ok(())
-}
-
-#[test]
-fn an_open_register_without_nodes_has_owners(rt: HostRuntime) -> Result<(), Fail> {
-    let mut nodes = Nodes::new(rt.alloc(), 5, 0)?;
-    has_owners(&rt, &mut nodes)
-}
-
-fn register_three(nodes: &mut Nodes) -> Result<(), Fail> {
-    register(nodes, 1, 1)?;
-    register(nodes, 2, 1)?;
-    register(nodes, 3, 1)?;
-    Ok(())
-}
-
-/// The processes of the last three nodes that are listed, where the listing is stopped at the
-/// second one, or is not.
+/// The processes of the last three nodes that are listed.
 fn listed(nodes: &Nodes, stops: bool) -> [Option<u32>; 3] {
     let mut seen = [None; 3];
     nodes.list_node_ids(|id| {
@@ -141,30 +53,168 @@ fn listed(nodes: &Nodes, stops: bool) -> [Option<u32>; 3] {
     seen
 }
 
-#[test]
-fn a_listing_of_nodes_ends_where_it_is_told_to(rt: HostRuntime) -> Result<(), Fail> {
-    let mut nodes = Nodes::new(rt.alloc(), 5, 3)?;
-    register_three(&mut nodes)?;
-    equal(&rt, listed(&nodes, false), [Some(1), Some(2), Some(3)]);
-    equal(&rt, listed(&nodes, true), [None, Some(1), Some(2)]);
-    Ok(())
+/// A node is registered, and its handle is kept.
+fn comes(
+    rt: &impl Abort,
+    nodes: &mut Nodes,
+    handles: &mut Vec<RegistryHandle>,
+    (process, counter): (u32, u32),
+) {
+    let handle = nodes
+        .register_node_id(node(rt, process, counter))
+        .expect(rt, "room");
+    handles.push(handle).expect(rt, "memory");
+}
+
+/// Ends the test where the register tells otherwise.
+fn is_told(
+    rt: &impl Abort,
+    nodes: &Nodes,
+    handles: &[RegistryHandle],
+    name: (&str, usize),
+    deed: Deed<'_>,
+) {
+    match deed {
+        Deed::Tells(of, process, counter) => {
+            let told = nodes.node_id(handle(rt, handles, of));
+            equal(rt, (name, told), (name, Some(node(rt, process, counter))));
+        }
+        Deed::Forgets(of) => {
+            let told = nodes.node_id(handle(rt, handles, of));
+            equal(rt, (name, told), (name, None));
+        }
+        Deed::Number(wanted) => equal(rt, (name, nodes.number_of_nodes()), (name, wanted)),
+        Deed::Listed(stops, wanted) => {
+            equal(rt, (name, listed(nodes, stops).as_slice()), (name, wanted));
+        }
+        Deed::Locked => equal(rt, (name, nodes.is_locked()), (name, true)),
+        _ => holds(rt, false),
+    }
+}
+
+/// Does it.
+fn does(
+    rt: &impl Abort,
+    nodes: &mut Nodes,
+    handles: &mut Vec<RegistryHandle>,
+    name: (&str, usize),
+    deed: Deed<'_>,
+) {
+    match deed {
+        Deed::Comes(process, counter) => comes(rt, nodes, handles, (process, counter)),
+        Deed::Refused(process, error) => {
+            let came = nodes.register_node_id(node(rt, process, 1)).err();
+            equal(rt, (name, came), (name, Some(error)));
+        }
+        Deed::Goes(of, wanted) => {
+            let came = nodes.deregister_node_id(handle(rt, handles.as_slice(), of));
+            equal(rt, (name, came), (name, wanted));
+        }
+        Deed::Dies(process, counter, wanted) => {
+            let came = nodes.remove_dead_node_id(&node(rt, process, counter));
+            equal(rt, (name, came), (name, wanted));
+        }
+        _ => is_told(rt, nodes, handles.as_slice(), name, deed),
+    }
+}
+
+/// Does all of it.
+fn goes(rt: &impl Abort, nodes: &mut Nodes, handles: &mut Vec<RegistryHandle>, run: &Run<'_>) {
+    for (place, deed) in run.deeds.iter().enumerate() {
+        does(rt, nodes, handles, (run.name, place), *deed);
+    }
+}
+
+/// The same to a new register.
+fn plays(rt: &impl Abort, alloc: Global, run: &Run<'_>) {
+    let mut nodes = Nodes::new(alloc, 5, run.limit).expect(rt, "a register");
+    let mut handles = Vec::new(alloc);
+    goes(rt, &mut nodes, &mut handles, run);
 }
 
 #[test]
-fn errors_are_shown_by_their_names(rt: HostRuntime) -> Result<(), Fail> {
-    let text = format!(in rt.alloc(); "{} {}", ReleaseError::Foreign, ReleaseError::Spent)?;
-    equal(
-        &rt,
-        text.as_str(),
-        "ReleaseError::Foreign ReleaseError::Spent",
-    );
-    let text = format!(in rt.alloc(); "{}", RegisterNodeError::MarkedForDestruction)?;
-    equal(
-        &rt,
-        text.as_str(),
+fn nodes_come_and_go_and_die(rt: HostRuntime) {
+    const RUNS: &[Run<'static>] = &[
+        Run {
+            name: "the last node that goes locks for good",
+            limit: 3,
+            deeds: &[
+                Deed::Comes(1, 1),
+                Deed::Comes(2, 1),
+                Deed::Number(2),
+                Deed::Goes(0, Ok(RemainingOwners::HasOwners)),
+                Deed::Goes(1, Ok(RemainingOwners::NoMoreOwners)),
+                Deed::Locked,
+                Deed::Refused(3, RegisterNodeError::MarkedForDestruction),
+            ],
+        },
+        Run {
+            name: "both entries of a dead node go, and no other",
+            limit: 3,
+            deeds: &[
+                Deed::Comes(1, 1),
+                Deed::Comes(2, 1),
+                Deed::Comes(1, 1),
+                Deed::Dies(1, 1, RemainingOwners::HasOwners),
+                Deed::Number(1),
+                Deed::Tells(1, 2, 1),
+                Deed::Goes(0, Err(ReleaseError::Spent)),
+                Deed::Goes(2, Err(ReleaseError::Spent)),
+                Deed::Dies(2, 1, RemainingOwners::NoMoreOwners),
+                Deed::Forgets(1),
+            ],
+        },
+        Run {
+            name: "nodes with the same low half are told apart",
+            limit: 2,
+            deeds: &[
+                Deed::Comes(1, 9),
+                Deed::Comes(2, 9),
+                Deed::Dies(1, 9, RemainingOwners::HasOwners),
+                Deed::Tells(1, 2, 9),
+            ],
+        },
+        Run {
+            name: "an open register without nodes has owners, and has room for one node",
+            limit: 0,
+            deeds: &[
+                Deed::Dies(1, 1, RemainingOwners::HasOwners),
+                Deed::Comes(1, 1),
+                Deed::Refused(2, RegisterNodeError::ExceedsMaxNumberOfNodes),
+            ],
+        },
+        Run {
+            name: "a listing ends where it is told to",
+            limit: 3,
+            deeds: &[
+                Deed::Comes(1, 1),
+                Deed::Comes(2, 1),
+                Deed::Comes(3, 1),
+                Deed::Listed(false, &[Some(1), Some(2), Some(3)]),
+                Deed::Listed(true, &[None, Some(1), Some(2)]),
+            ],
+        },
+    ];
+    for run in RUNS {
+        plays(&rt, rt.alloc(), run);
+    }
+}
+
+#[test]
+fn errors_are_shown_by_their_names(rt: HostRuntime) {
+    const RELEASES: &[(ReleaseError, &str)] = &[
+        (ReleaseError::Foreign, "ReleaseError::Foreign"),
+        (ReleaseError::Spent, "ReleaseError::Spent"),
+    ];
+    const REFUSALS: &[(RegisterNodeError, &str)] = &[(
+        RegisterNodeError::MarkedForDestruction,
         "RegisterNodeError::MarkedForDestruction",
-    );
-    let text = format!(in rt.alloc(); "{}", RegistryNewError::LimitTooLarge)?;
-    equal(&rt, text.as_str(), "RegistryNewError::LimitTooLarge");
-    Ok(())
+    )];
+    const LIMITS: &[(RegistryNewError, &str)] = &[(
+        RegistryNewError::LimitTooLarge,
+        "RegistryNewError::LimitTooLarge",
+    )];
+    are_shown(&rt, rt.alloc(), RELEASES);
+    are_shown(&rt, rt.alloc(), REFUSALS);
+    are_shown(&rt, rt.alloc(), LIMITS);
 }

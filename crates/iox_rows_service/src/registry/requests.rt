@@ -1,114 +1,59 @@
 //! Clients and servers that come and go.
 use super::details::{client, server};
-use super::expected::{equal, holds};
-use super::node;
+use super::{COME_AND_GO, DIE, Kind, Port, Register, plays_alone, tell};
 use iox_registry::dynamic_config::request_response::DynamicConfig;
 use iox_registry::{RegistryHandle, ReleaseError};
-use iox_words::CallbackProgression;
-use std::process::Abort;
-use std::test::Fail;
+use iox_types::identifiers::UniqueNodeId;
 
-fn add_client(config: &mut DynamicConfig, process: u32) -> Result<RegistryHandle, Fail> {
-    Ok(config.add_client_id(client(process)?).ok_or("no room")?)
-}
+impl Register for DynamicConfig {
+    fn add(&mut self, kind: Kind, port: &Port) -> Option<RegistryHandle> {
+        match kind {
+            Kind::First => self.add_client_id(client(port)),
+            Kind::Second => self.add_server_id(server(port)),
+        }
+    }
 
-fn add_server(config: &mut DynamicConfig, process: u32) -> Result<RegistryHandle, Fail> {
-    Ok(config.add_server_id(server(process)?).ok_or("no room")?)
-}
+    fn release(&mut self, kind: Kind, handle: RegistryHandle) -> Result<(), ReleaseError> {
+        match kind {
+            Kind::First => self.release_client_handle(handle),
+            Kind::Second => self.release_server_handle(handle),
+        }
+    }
 
-fn both_are_full(rt: &impl Abort, config: &mut DynamicConfig) -> Result<(), Fail> {
-    equal(rt, config.add_client_id(client(3)?), None);
-    equal(rt, config.add_server_id(server(3)?), None);
-    equal(rt, config.number_of_clients(), 2);
-    equal(rt, config.number_of_servers(), 2);
-    Ok(())
-}
+    fn tells(&self, kind: Kind, handle: RegistryHandle, port: Option<&Port>) -> bool {
+        match (kind, port) {
+            (Kind::First, Some(port)) => self.client_details(handle) == Some(client(port)),
+            (Kind::First, None) => self.client_details(handle) == None,
+            (Kind::Second, Some(port)) => self.server_details(handle) == Some(server(port)),
+            (Kind::Second, None) => self.server_details(handle) == None,
+        }
+    }
 
-fn each_listing_stops_where_it_is_told_to(rt: &impl Abort, config: &DynamicConfig) {
-    let mut calls = 0u8;
-    config.list_clients(|_| {
-        calls = calls.saturating_add(1);
-        CallbackProgression::Stop
-    });
-    equal(rt, calls, 1);
-    let mut calls = 0u8;
-    config.list_servers(|_| {
-        calls = calls.saturating_add(1);
-        CallbackProgression::Stop
-    });
-    equal(rt, calls, 1);
-    let mut calls = 0u8;
-    config.list_servers(|_| {
-        calls = calls.saturating_add(1);
-        CallbackProgression::Continue
-    });
-    equal(rt, calls, 2);
-}
+    fn number(&self, kind: Kind) -> usize {
+        match kind {
+            Kind::First => self.number_of_clients(),
+            Kind::Second => self.number_of_servers(),
+        }
+    }
 
-fn a_released_handle_is_spent(rt: &impl Abort, config: &mut DynamicConfig, handle: RegistryHandle) {
-    equal(rt, config.release_client_handle(handle), Ok(()));
-    equal(
-        rt,
-        config.release_client_handle(handle),
-        Err(ReleaseError::Spent),
-    );
-    equal(rt, config.client_details(handle), None);
-}
+    fn listed(&self, kind: Kind, stops: bool) -> u8 {
+        let mut count = 0;
+        match kind {
+            Kind::First => self.list_clients(|_| tell(&mut count, stops)),
+            Kind::Second => self.list_servers(|_| tell(&mut count, stops)),
+        }
+        count
+    }
 
-fn a_handle_of_the_other_kind_is_foreign(
-    rt: &impl Abort,
-    config: &mut DynamicConfig,
-    first: RegistryHandle,
-    other: RegistryHandle,
-) {
-    equal(
-        rt,
-        config.release_client_handle(other),
-        Err(ReleaseError::Foreign),
-    );
-    equal(
-        rt,
-        config.release_server_handle(first),
-        Err(ReleaseError::Foreign),
-    );
-}
-
-/// Two clients and two servers come and go.
-fn come_and_go(rt: &impl Abort, config: &mut DynamicConfig) -> Result<(), Fail> {
-    let first = add_client(config, 1)?;
-    let second = add_client(config, 2)?;
-    let other = add_server(config, 1)?;
-    add_server(config, 2)?;
-    both_are_full(rt, config)?;
-    equal(rt, config.client_details(second), Some(client(2)?));
-    equal(rt, config.server_details(other), Some(server(1)?));
-    a_handle_of_the_other_kind_is_foreign(rt, config, first, other);
-    each_listing_stops_where_it_is_told_to(rt, config);
-    a_released_handle_is_spent(rt, config, second);
-    equal(rt, config.release_server_handle(other), Ok(()));
-    Ok(())
+    fn remove(&mut self, node: &UniqueNodeId) {
+        self.remove_dead_node_id(node);
+    }
 }
 
 #[test]
-fn clients_and_servers_come_and_go(rt: HostRuntime) -> Result<(), Fail> {
-    let mut config = DynamicConfig::new(rt.alloc(), 5, 2, 2)?;
-    come_and_go(&rt, &mut config)
-}
-
-/// The node of a client and a server dies.
-fn leaves_none(rt: &impl Abort, config: &mut DynamicConfig) -> Result<(), Fail> {
-    let first = add_client(config, 1)?;
-    add_server(config, 1)?;
-    config.remove_dead_node_id(&node(1, 1)?);
-    equal(rt, config.number_of_clients(), 0);
-    equal(rt, config.number_of_servers(), 0);
-    let next = add_client(config, 1)?;
-    holds(rt, next != first);
-    Ok(())
-}
-
-#[test]
-fn a_dead_node_leaves_no_client_and_no_server(rt: HostRuntime) -> Result<(), Fail> {
-    let mut config = DynamicConfig::new(rt.alloc(), 5, 2, 1)?;
-    leaves_none(&rt, &mut config)
+fn clients_and_servers_come_and_go(rt: HostRuntime) {
+    let full = DynamicConfig::new(rt.alloc(), 5, 2, 2);
+    plays_alone(&rt, rt.alloc(), full, COME_AND_GO);
+    let dying = DynamicConfig::new(rt.alloc(), 5, 2, 1);
+    plays_alone(&rt, rt.alloc(), dying, DIE);
 }

@@ -1,28 +1,16 @@
 //! Worked runs of parties at counts. A test is a list of what is done to a machine, which `plays`
 //! does: what is known of each call would else stand in the proof of all that come after.
-use crate::expected::equal;
+use crate::rows::{Answers, Row, plays};
 use iox_set_steps::counting_bit_set::{
     CountCall, CountEvent, CountReply, CountSite, CountingBitSetMachine,
 };
 use iox_steps::{Entry, MachineError, Progress};
 use std::alloc::{AllocError, Global};
-use std::process::Abort;
-use std::test::Fail;
-
-/// A machine of two parties at this many counts, with one word before them.
-fn machine_of(
-    rt: &impl Abort,
-    alloc: Global,
-    capacity: usize,
-) -> Result<CountingBitSetMachine, AllocError> {
-    assert!(rt; capacity <= 8);
-    let words = vec![in alloc; 0u64; 9]?;
-    CountingBitSetMachine::new(alloc, words, CountSite { base: 1, capacity }, 2)
-}
 
 /// What is done to a machine, and what has to come of it. Parties are told by their numbers.
-#[derive(Clone, Copy)]
-enum Deed {
+enum Deed<'a> {
+    /// A schedule is played.
+    Runs(&'a [Entry<CountCall>]),
     /// The party begins a call.
     Begins(usize, CountCall),
     /// The next access of the party's call continues.
@@ -37,6 +25,8 @@ enum Deed {
     Stays(usize, MachineError),
     /// The word of this number is this.
     Word(usize, u64),
+    /// These events were told, and no other.
+    Tells(&'a [CountEvent]),
 }
 
 /// One access.
@@ -56,179 +46,115 @@ fn begin(
     machine.begin(party, call)
 }
 
-/// Plays a schedule.
-fn run(
-    machine: &mut CountingBitSetMachine,
-    schedule: &[Entry<CountCall>],
-) -> Result<(), MachineError> {
-    machine.run(schedule)
-}
-
-/// What a word is.
-fn word(machine: &CountingBitSetMachine, index: usize) -> Option<u64> {
-    machine.words().get(index).copied()
-}
-
-/// Ends the test if other events were told.
-fn tells(rt: &impl Abort, machine: &CountingBitSetMachine, told: &[CountEvent]) {
-    equal(rt, machine.events(), told);
-}
-
-/// Makes this many accesses of the party's call, all but the last going on. The last answers this.
+/// Whether the party's call ends at the access of this number, with this reply.
 fn ends(
-    rt: &impl Abort,
     machine: &mut CountingBitSetMachine,
     party: usize,
     steps: usize,
     reply: CountReply,
-) -> Result<(), MachineError> {
+) -> bool {
     for _ in 1..steps {
-        equal(rt, step(machine, party)?, Progress::Going);
+        if step(machine, party) != Ok(Progress::Going) {
+            return false;
+        }
     }
-    equal(rt, step(machine, party)?, Progress::Done(reply));
-    Ok(())
+    step(machine, party) == Ok(Progress::Done(reply))
 }
 
-/// Does it.
-fn does(
-    rt: &impl Abort,
-    machine: &mut CountingBitSetMachine,
-    deed: Deed,
-) -> Result<(), MachineError> {
-    match deed {
-        Deed::Begins(party, call) => begin(machine, party, call),
-        Deed::Goes(party) => {
-            equal(rt, step(machine, party)?, Progress::Going);
-            Ok(())
+impl<'a> Answers<usize, Deed<'a>, AllocError> for CountingBitSetMachine {
+    /// Of two parties at this many counts, with one word before them.
+    fn made(alloc: Global, capacity: usize) -> Result<Self, AllocError> {
+        if capacity > 8 {
+            return Err(AllocError);
         }
-        Deed::Ends(party, steps, reply) => ends(rt, machine, party, steps, reply),
-        Deed::Calls(party, call, steps, reply) => {
-            begin(machine, party, call)?;
-            ends(rt, machine, party, steps, reply)
-        }
-        Deed::Refuses(party, call, error) => {
-            equal(rt, begin(machine, party, call), Err(error));
-            Ok(())
-        }
-        Deed::Stays(party, error) => {
-            equal(rt, step(machine, party), Err(error));
-            Ok(())
-        }
-        Deed::Word(index, value) => {
-            equal(rt, word(machine, index), Some(value));
-            Ok(())
+        let words = vec![in alloc; 0u64; 9]?;
+        CountingBitSetMachine::new(alloc, words, CountSite { base: 1, capacity }, 2)
+    }
+
+    fn answers(&mut self, deed: &Deed<'a>) -> bool {
+        match deed {
+            Deed::Runs(schedule) => self.run(*schedule).is_ok(),
+            Deed::Begins(party, call) => begin(self, *party, *call).is_ok(),
+            Deed::Goes(party) => step(self, *party) == Ok(Progress::Going),
+            Deed::Ends(party, steps, reply) => ends(self, *party, *steps, *reply),
+            Deed::Calls(party, call, steps, reply) => {
+                begin(self, *party, *call).is_ok() && ends(self, *party, *steps, *reply)
+            }
+            Deed::Refuses(party, call, error) => begin(self, *party, *call) == Err(*error),
+            Deed::Stays(party, error) => step(self, *party) == Err(*error),
+            Deed::Word(index, value) => self.words().get(*index).copied() == Some(*value),
+            Deed::Tells(told) => self.events() == *told,
         }
     }
 }
 
-/// Does all of it.
-fn goes(
-    rt: &impl Abort,
-    machine: &mut CountingBitSetMachine,
-    deeds: &[Deed],
-) -> Result<(), MachineError> {
-    for deed in deeds {
-        does(rt, machine, *deed)?;
-    }
-    Ok(())
-}
-
-/// Does what comes before a schedule, plays the schedule, and does what comes after.
-fn plays(
-    rt: &impl Abort,
-    alloc: Global,
-    capacity: usize,
-    before: &[Deed],
-    schedule: &[Entry<CountCall>],
-    after: &[Deed],
-    told: &[CountEvent],
-) -> Result<(), Fail> {
-    let mut machine = machine_of(rt, alloc, capacity)?;
-    goes(rt, &mut machine, before)?;
-    run(&mut machine, schedule)?;
-    goes(rt, &mut machine, after)?;
-    tells(rt, &machine, told);
-    Ok(())
-}
-
 #[test]
-fn a_count_is_taken_out_whole(rt: HostRuntime) -> Result<(), Fail> {
-    plays(
-        &rt,
-        rt.alloc(),
-        8,
-        &[
-            Deed::Calls(0, CountCall::Set(3), 2, CountReply::Set(true)),
-            Deed::Calls(0, CountCall::Set(3), 2, CountReply::Set(true)),
-            Deed::Word(4, 2),
-            Deed::Calls(1, CountCall::ResetAll, 8, CountReply::ResetAll),
-            Deed::Word(4, 0),
-        ],
-        &[],
-        &[],
-        &[
-            CountEvent::Added(3),
-            CountEvent::Added(3),
-            CountEvent::Taken(3, 2),
-        ],
-    )
-}
-
-#[test]
-fn a_missed_exchange_is_tried_again(rt: HostRuntime) -> Result<(), Fail> {
-    plays(
-        &rt,
-        rt.alloc(),
-        2,
-        &[],
-        &[
-            Entry::Begin(0, CountCall::Set(1)),
-            Entry::Begin(1, CountCall::Set(1)),
-            Entry::Step(0),
-            Entry::Step(1),
-            Entry::Step(1),
-        ],
-        &[Deed::Ends(0, 2, CountReply::Set(true)), Deed::Word(2, 2)],
-        &[CountEvent::Added(1), CountEvent::Added(1)],
-    )
-}
-
-#[test]
-fn counts_are_taken_out_between_a_load_and_its_exchange(rt: HostRuntime) -> Result<(), Fail> {
-    plays(
-        &rt,
-        rt.alloc(),
-        1,
-        &[Deed::Calls(0, CountCall::Set(0), 2, CountReply::Set(true))],
-        &[Entry::Begin(0, CountCall::Set(0)), Entry::Step(0)],
-        &[
-            Deed::Calls(1, CountCall::ResetAll, 1, CountReply::ResetAll),
-            Deed::Ends(0, 2, CountReply::Set(true)),
-        ],
-        &[
-            CountEvent::Added(0),
-            CountEvent::Taken(0, 1),
-            CountEvent::Added(0),
-        ],
-    )
-}
-
-#[test]
-fn a_refused_entry_changes_nothing(rt: HostRuntime) -> Result<(), Fail> {
-    plays(
-        &rt,
-        rt.alloc(),
-        2,
-        &[
-            Deed::Refuses(2, CountCall::Set(1), MachineError::UnknownParty),
-            Deed::Stays(0, MachineError::AtRest),
-            Deed::Stays(2, MachineError::UnknownParty),
-            Deed::Calls(0, CountCall::Set(2), 1, CountReply::Set(false)),
-            Deed::Begins(0, CountCall::Set(1)),
-            Deed::Refuses(0, CountCall::ResetAll, MachineError::Busy),
-        ],
-        &[],
-        &[],
-        &[],
-    )
+fn parties_meet_at_counts(rt: HostRuntime) {
+    const ROWS: &[Row<'_, usize, Deed<'_>, AllocError>] = &[
+        (
+            "a count is taken out whole",
+            8,
+            &[
+                Deed::Calls(0, CountCall::Set(3), 2, CountReply::Set(true)),
+                Deed::Calls(0, CountCall::Set(3), 2, CountReply::Set(true)),
+                Deed::Word(4, 2),
+                Deed::Calls(1, CountCall::ResetAll, 8, CountReply::ResetAll),
+                Deed::Word(4, 0),
+                Deed::Tells(&[
+                    CountEvent::Added(3),
+                    CountEvent::Added(3),
+                    CountEvent::Taken(3, 2),
+                ]),
+            ],
+            None,
+        ),
+        (
+            "a missed exchange is tried again",
+            2,
+            &[
+                Deed::Runs(&[
+                    Entry::Begin(0, CountCall::Set(1)),
+                    Entry::Begin(1, CountCall::Set(1)),
+                    Entry::Step(0),
+                    Entry::Step(1),
+                    Entry::Step(1),
+                ]),
+                Deed::Ends(0, 2, CountReply::Set(true)),
+                Deed::Word(2, 2),
+                Deed::Tells(&[CountEvent::Added(1), CountEvent::Added(1)]),
+            ],
+            None,
+        ),
+        (
+            "counts are taken out between a load and its exchange",
+            1,
+            &[
+                Deed::Calls(0, CountCall::Set(0), 2, CountReply::Set(true)),
+                Deed::Runs(&[Entry::Begin(0, CountCall::Set(0)), Entry::Step(0)]),
+                Deed::Calls(1, CountCall::ResetAll, 1, CountReply::ResetAll),
+                Deed::Ends(0, 2, CountReply::Set(true)),
+                Deed::Tells(&[
+                    CountEvent::Added(0),
+                    CountEvent::Taken(0, 1),
+                    CountEvent::Added(0),
+                ]),
+            ],
+            None,
+        ),
+        (
+            "a refused entry changes nothing",
+            2,
+            &[
+                Deed::Refuses(2, CountCall::Set(1), MachineError::UnknownParty),
+                Deed::Stays(0, MachineError::AtRest),
+                Deed::Stays(2, MachineError::UnknownParty),
+                Deed::Calls(0, CountCall::Set(2), 1, CountReply::Set(false)),
+                Deed::Begins(0, CountCall::Set(1)),
+                Deed::Refuses(0, CountCall::ResetAll, MachineError::Busy),
+                Deed::Tells(&[]),
+            ],
+            None,
+        ),
+    ];
+    plays::<usize, Deed<'_>, AllocError, CountingBitSetMachine>(&rt, rt.alloc(), ROWS);
 }

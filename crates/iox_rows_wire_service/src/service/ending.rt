@@ -1,18 +1,13 @@
 //! Nodes that leave, die and are cleaned up.
-use super::openers::fit;
-use super::starts::{SETTINGS, first, with_nodes};
-use super::{Ask, Row, Told, Way, ends, goes_until, plays};
-use crate::expected::holds;
+use super::openers::FITS;
+use super::starts::SETTINGS;
+use super::{Ask, Part, Row, Then, Told, plays, plays_parts};
 use iceoryx2_wire::{Refusal, Settings};
-use std::alloc::Global;
-use std::process::Abort;
-use std::test::Fail;
 
 #[test]
-fn only_the_dead_are_cleaned_up(rt: HostRuntime) -> Result<(), Fail> {
-    let fits = fit()?;
-    let script = [
-        (Ask::Open(2, &fits), Told::Node(1)),
+fn only_the_dead_are_cleaned_up(rt: HostRuntime) {
+    const SCRIPT: &[Row<'static>] = &[
+        (Ask::Open(2, FITS), Told::Node(1)),
         (Ask::Cleanup(1), Told::Refused(Refusal::NodeIsAlive)),
         (Ask::Cleanup(2), Told::Refused(Refusal::UnknownNode)),
         (Ask::Nodes, Told::Listed(&[0, 1])),
@@ -23,14 +18,13 @@ fn only_the_dead_are_cleaned_up(rt: HostRuntime) -> Result<(), Fail> {
         (Ask::Cleanup(1), Told::Refused(Refusal::UnknownNode)),
         (Ask::Nodes, Told::Listed(&[0])),
     ];
-    plays(&rt, rt.alloc(), SETTINGS, &script)
+    plays(&rt, rt.alloc(), &SETTINGS, SCRIPT);
 }
 
 #[test]
-fn a_dead_node_asks_nothing_more(rt: HostRuntime) -> Result<(), Fail> {
-    let fits = fit()?;
-    let script = [
-        (Ask::Open(2, &fits), Told::Node(1)),
+fn a_dead_node_asks_nothing_more(rt: HostRuntime) {
+    const SCRIPT: &[Row<'static>] = &[
+        (Ask::Open(2, FITS), Told::Node(1)),
         (Ask::Client(1), Told::Client(0)),
         (Ask::Die(1), Told::Done),
         (Ask::Leave(1), Told::Refused(Refusal::NodeIsDead)),
@@ -46,12 +40,12 @@ fn a_dead_node_asks_nothing_more(rt: HostRuntime) -> Result<(), Fail> {
         (Ask::Release(1, 0), Told::Refused(Refusal::UnknownNode)),
         (Ask::Clients, Told::Listed(&[])),
     ];
-    plays(&rt, rt.alloc(), SETTINGS, &script)
+    plays(&rt, rt.alloc(), &SETTINGS, SCRIPT);
 }
 
 #[test]
-fn a_node_with_a_value_does_not_leave(rt: HostRuntime) -> Result<(), Fail> {
-    let script = [
+fn a_node_with_a_value_does_not_leave(rt: HostRuntime) {
+    const SCRIPT: &[Row<'static>] = &[
         (Ask::Client(0), Told::Client(0)),
         (Ask::Loan(0, 0), Told::Handle(1)),
         (Ask::Leave(0), Told::Refused(Refusal::HasPorts)),
@@ -65,14 +59,13 @@ fn a_node_with_a_value_does_not_leave(rt: HostRuntime) -> Result<(), Fail> {
         (Ask::Leave(0), Told::Done),
         (Ask::Leave(0), Told::Refused(Refusal::UnknownNode)),
     ];
-    plays(&rt, rt.alloc(), SETTINGS, &script)
+    plays(&rt, rt.alloc(), &SETTINGS, SCRIPT);
 }
 
 #[test]
-fn a_cleanup_leaves_the_servers_of_others(rt: HostRuntime) -> Result<(), Fail> {
-    let fits = fit()?;
-    let script = [
-        (Ask::Open(2, &fits), Told::Node(1)),
+fn a_cleanup_leaves_the_servers_of_others(rt: HostRuntime) {
+    const SCRIPT: &[Row<'static>] = &[
+        (Ask::Open(2, FITS), Told::Node(1)),
         (Ask::Server(0), Told::Server(0)),
         (Ask::Server(1), Told::Server(1)),
         (Ask::Die(1), Told::Done),
@@ -83,75 +76,53 @@ fn a_cleanup_leaves_the_servers_of_others(rt: HostRuntime) -> Result<(), Fail> {
         (Ask::Request(0, 2, 9), Told::Handle(3)),
         (Ask::Receive(0, 0), Told::Handle(4)),
         (Ask::Read(0, 4), Told::Words(&[9])),
-        (Ask::Open(2, &fits), Told::Node(2)),
+        (Ask::Open(2, FITS), Told::Node(2)),
     ];
-    plays(&rt, rt.alloc(), SETTINGS, &script)
-}
-
-/// Asks a new service one list after another. It is closed by the second.
-fn closes(
-    rt: &impl Abort,
-    alloc: Global,
-    way: Way,
-    first_list: &[Row<'_>],
-    second_list: &[Row<'_>],
-) -> Result<(), Fail> {
-    let mut service = first(alloc, SETTINGS)?;
-    goes_until(rt, alloc, &mut service, way, first_list, false)?;
-    goes_until(rt, alloc, &mut service, way, second_list, true)
-}
-
-/// Asks a new service in each way. It is closed in the end.
-fn ends_closed(
-    rt: &impl Abort,
-    alloc: Global,
-    settings: Settings,
-    script: &[Row<'_>],
-) -> Result<(), Fail> {
-    holds(rt, ends(rt, alloc, settings, Way::Called, script)?);
-    holds(rt, ends(rt, alloc, settings, Way::Ran, script)?);
-    Ok(())
+    plays(&rt, rt.alloc(), &SETTINGS, SCRIPT);
 }
 
 #[test]
-fn the_cleanup_of_the_only_node_closes_the_service(rt: HostRuntime) -> Result<(), Fail> {
-    let fits = fit()?;
-    let dies = [
+fn the_cleanup_of_the_only_node_closes_the_service(rt: HostRuntime) {
+    const DIES: &[Row<'static>] = &[
         (Ask::Server(0), Told::Server(0)),
         (Ask::Die(0), Told::Done),
         (Ask::Nodes, Told::Listed(&[0])),
         (Ask::Servers, Told::Listed(&[0])),
     ];
-    let script = [
+    const CLEANED_UP: &[Row<'static>] = &[
         (Ask::Cleanup(0), Told::Done),
         (Ask::Nodes, Told::Listed(&[])),
         (Ask::Servers, Told::Listed(&[])),
         (
-            Ask::Open(2, &fits),
+            Ask::Open(2, FITS),
             Told::Refused(Refusal::MarkedForDestruction),
         ),
         (Ask::Client(0), Told::Refused(Refusal::UnknownNode)),
         (Ask::Die(0), Told::Refused(Refusal::UnknownNode)),
     ];
-    closes(&rt, rt.alloc(), Way::Called, &dies, &script)?;
-    closes(&rt, rt.alloc(), Way::Ran, &dies, &script)
+    const PARTS: &[Part<'static>] = &[(DIES, Then::Open), (CLEANED_UP, Then::Closed)];
+    plays_parts(&rt, rt.alloc(), &SETTINGS, PARTS);
 }
 
 #[test]
-fn the_last_node_that_leaves_closes_the_service(rt: HostRuntime) -> Result<(), Fail> {
-    let fits = fit()?;
-    let script = [
-        (Ask::Open(2, &fits), Told::Node(1)),
+fn the_last_node_that_leaves_closes_the_service(rt: HostRuntime) {
+    const TWO: Settings = Settings {
+        nodes: 2,
+        ..SETTINGS
+    };
+    const SCRIPT: &[Row<'static>] = &[
+        (Ask::Open(2, FITS), Told::Node(1)),
         (
-            Ask::Open(3, &fits),
+            Ask::Open(3, FITS),
             Told::Refused(Refusal::ExceedsMaxNumberOfNodes),
         ),
         (Ask::Leave(0), Told::Done),
         (Ask::Leave(1), Told::Done),
         (
-            Ask::Open(3, &fits),
+            Ask::Open(3, FITS),
             Told::Refused(Refusal::MarkedForDestruction),
         ),
     ];
-    ends_closed(&rt, rt.alloc(), with_nodes(2), &script)
+    const PARTS: &[Part<'static>] = &[(SCRIPT, Then::Closed)];
+    plays_parts(&rt, rt.alloc(), &TWO, PARTS);
 }

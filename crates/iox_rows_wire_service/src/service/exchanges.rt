@@ -1,15 +1,13 @@
 //! Requests and responses of nodes that opened a service.
-use super::openers::fit;
+use super::openers::FITS;
 use super::starts::SETTINGS;
-use super::{Ask, Told, plays};
+use super::{Ask, Row, Told, plays};
 use iceoryx2_wire::Settings;
-use std::test::Fail;
 
 #[test]
-fn a_request_is_answered(rt: HostRuntime) -> Result<(), Fail> {
-    let fits = fit()?;
-    let script = [
-        (Ask::Open(2, &fits), Told::Node(1)),
+fn a_request_is_answered(rt: HostRuntime) {
+    const SCRIPT: &[Row<'static>] = &[
+        (Ask::Open(2, FITS), Told::Node(1)),
         (Ask::Client(0), Told::Client(0)),
         (Ask::Server(1), Told::Server(1)),
         (Ask::Request(0, 0, 123), Told::Handle(2)),
@@ -19,19 +17,18 @@ fn a_request_is_answered(rt: HostRuntime) -> Result<(), Fail> {
         (Ask::Receive(0, 2), Told::Handle(4)),
         (Ask::Read(0, 4), Told::Words(&[456])),
     ];
-    let settings = Settings {
+    const QUEUES: Settings = Settings {
         request_overflow: false,
         response_overflow: false,
         ..SETTINGS
     };
-    plays(&rt, rt.alloc(), settings, &script)
+    plays(&rt, rt.alloc(), &QUEUES, SCRIPT);
 }
 
 #[test]
-fn a_response_of_the_dead_is_received_and_then_no_more(rt: HostRuntime) -> Result<(), Fail> {
-    let fits = fit()?;
-    let script = [
-        (Ask::Open(2, &fits), Told::Node(1)),
+fn a_response_of_the_dead_is_received_and_then_no_more(rt: HostRuntime) {
+    const SCRIPT: &[Row<'static>] = &[
+        (Ask::Open(2, FITS), Told::Node(1)),
         (Ask::Client(0), Told::Client(0)),
         (Ask::Server(1), Told::Server(1)),
         (Ask::Request(0, 0, 9), Told::Handle(2)),
@@ -45,14 +42,13 @@ fn a_response_of_the_dead_is_received_and_then_no_more(rt: HostRuntime) -> Resul
         (Ask::Receive(0, 2), Told::Nothing),
         (Ask::Servers, Told::Listed(&[])),
     ];
-    plays(&rt, rt.alloc(), SETTINGS, &script)
+    plays(&rt, rt.alloc(), &SETTINGS, SCRIPT);
 }
 
 #[test]
-fn a_loan_is_filled_and_sent(rt: HostRuntime) -> Result<(), Fail> {
-    let fits = fit()?;
-    let script = [
-        (Ask::Open(2, &fits), Told::Node(1)),
+fn a_loan_is_filled_and_sent(rt: HostRuntime) {
+    const SCRIPT: &[Row<'static>] = &[
+        (Ask::Open(2, FITS), Told::Node(1)),
         (Ask::Client(0), Told::Client(0)),
         (Ask::Server(1), Told::Server(1)),
         (Ask::Loan(0, 0), Told::Handle(2)),
@@ -68,5 +64,5 @@ fn a_loan_is_filled_and_sent(rt: HostRuntime) -> Result<(), Fail> {
         (Ask::Read(1, 3), Told::Words(&[8])),
         (Ask::Clients, Told::Listed(&[0])),
     ];
-    plays(&rt, rt.alloc(), SETTINGS, &script)
+    plays(&rt, rt.alloc(), &SETTINGS, SCRIPT);
 }

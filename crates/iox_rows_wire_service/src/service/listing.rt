@@ -1,15 +1,13 @@
 //! Ids of nodes and ports, told to a callback.
-use super::openers::fit;
-use super::starts::{SETTINGS, first};
-use super::{Ask, Row, TheService, Told, Way, goes_until};
+use super::openers::FITS;
+use super::starts::SETTINGS;
+use super::{Ask, Part, Row, TheService, Then, Told, plays_parts};
 use crate::expected::equal;
-use iceoryx2_wire::{CallbackProgression, Settings, UniqueSystemId};
-use std::alloc::Global;
+use iceoryx2_wire::{Backpressure, CallbackProgression, Settings, UniqueSystemId};
 use std::process::Abort;
-use std::test::Fail;
 
 /// The process numbers and counters of the last three that were told.
-type Seen = [Option<(u32, u32)>; 3];
+pub(super) type Seen = [Option<(u32, u32)>; 3];
 
 /// What was told, and then this; the third that is told is the last.
 fn then(seen: Seen, id: UniqueSystemId) -> (Seen, CallbackProgression) {
@@ -21,7 +19,7 @@ fn then(seen: Seen, id: UniqueSystemId) -> (Seen, CallbackProgression) {
 }
 
 /// The last nodes whose ids are told, at most three.
-fn nodes(service: &TheService) -> Seen {
+fn nodes<H: Backpressure>(service: &TheService<H>) -> Seen {
     let mut seen = [None; 3];
     service.list_node_ids(|id| {
         let (all, goes_on) = then(seen, id.system_id());
@@ -32,7 +30,7 @@ fn nodes(service: &TheService) -> Seen {
 }
 
 /// The last clients whose ids are told, at most three.
-fn clients(service: &TheService) -> Seen {
+fn clients<H: Backpressure>(service: &TheService<H>) -> Seen {
     let mut seen = [None; 3];
     service.list_client_ids(|id| {
         let (all, goes_on) = then(seen, id.system_id());
@@ -43,7 +41,7 @@ fn clients(service: &TheService) -> Seen {
 }
 
 /// The last servers whose ids are told, at most three.
-fn servers(service: &TheService) -> Seen {
+fn servers<H: Backpressure>(service: &TheService<H>) -> Seen {
     let mut seen = [None; 3];
     service.list_server_ids(|id| {
         let (all, goes_on) = then(seen, id.system_id());
@@ -53,99 +51,86 @@ fn servers(service: &TheService) -> Seen {
     seen
 }
 
-/// What is known about nodes, clients and servers.
-type AllSeen = (Seen, Seen, Seen);
+/// The same, as a list of three.
+type Ids<'a> = &'a [Option<(u32, u32)>];
 
-/// Asks a new service in this way. Then it is open, and tells these ids.
-fn lists_in(
-    rt: &impl Abort,
-    alloc: Global,
-    settings: Settings,
-    way: Way,
-    script: &[Row<'_>],
-    wanted: AllSeen,
-) -> Result<(), Fail> {
-    let mut service = first(alloc, settings)?;
-    goes_until(rt, alloc, &mut service, way, script, false)?;
-    equal(rt, nodes(&service), wanted.0);
-    equal(rt, clients(&service), wanted.1);
-    equal(rt, servers(&service), wanted.2);
-    Ok(())
-}
+/// What is told of nodes, clients and servers.
+pub(super) type AllIds<'a> = (Ids<'a>, Ids<'a>, Ids<'a>);
 
-/// The same in each way.
-fn lists(
+/// Ends the test where the service is closed, or tells other ids.
+pub(super) fn are_told<H: Backpressure>(
     rt: &impl Abort,
-    alloc: Global,
-    settings: Settings,
-    script: &[Row<'_>],
-    wanted: AllSeen,
-) -> Result<(), Fail> {
-    lists_in(rt, alloc, settings, Way::Called, script, wanted)?;
-    lists_in(rt, alloc, settings, Way::Ran, script, wanted)
+    service: &TheService<H>,
+    wanted: &AllIds<'_>,
+) {
+    equal(rt, service.is_closed(), false);
+    equal(rt, nodes(service).as_slice(), wanted.0);
+    equal(rt, clients(service).as_slice(), wanted.1);
+    equal(rt, servers(service).as_slice(), wanted.2);
 }
 
 #[test]
-fn ids_of_the_dead_are_told_too(rt: HostRuntime) -> Result<(), Fail> {
-    let fits = fit()?;
-    let script = [
-        (Ask::Open(20, &fits), Told::Node(1)),
+fn ids_of_the_dead_are_told_too(rt: HostRuntime) {
+    const SCRIPT: &[Row<'static>] = &[
+        (Ask::Open(20, FITS), Told::Node(1)),
         (Ask::Client(1), Told::Client(0)),
         (Ask::Server(0), Told::Server(1)),
         (Ask::Client(0), Told::Client(2)),
-        (Ask::Open(30, &fits), Told::Node(2)),
+        (Ask::Open(30, FITS), Told::Node(2)),
         (Ask::Die(1), Told::Done),
     ];
     // A port has the process number of its node.
-    let wanted = (
-        [Some((1, 0)), Some((20, 0)), Some((30, 0))],
-        [None, Some((20, 0)), Some((1, 2))],
-        [None, None, Some((1, 1))],
+    const DEAD_TOO: AllIds<'static> = (
+        &[Some((1, 0)), Some((20, 0)), Some((30, 0))],
+        &[None, Some((20, 0)), Some((1, 2))],
+        &[None, None, Some((1, 1))],
     );
-    lists(&rt, rt.alloc(), SETTINGS, &script, wanted)
+    const PARTS: &[Part<'static>] = &[(SCRIPT, Then::Tells(DEAD_TOO))];
+    plays_parts(&rt, rt.alloc(), &SETTINGS, PARTS);
 }
 
 #[test]
-fn ids_are_told_until_the_callback_stops(rt: HostRuntime) -> Result<(), Fail> {
-    let fits = fit()?;
-    let script = [
-        (Ask::Open(20, &fits), Told::Node(1)),
+fn ids_are_told_until_the_callback_stops(rt: HostRuntime) {
+    const SCRIPT: &[Row<'static>] = &[
+        (Ask::Open(20, FITS), Told::Node(1)),
         (Ask::Client(1), Told::Client(0)),
         (Ask::Client(0), Told::Client(1)),
-        (Ask::Open(30, &fits), Told::Node(2)),
+        (Ask::Open(30, FITS), Told::Node(2)),
         (Ask::Die(1), Told::Done),
-        (Ask::Open(40, &fits), Told::Node(3)),
+        (Ask::Open(40, FITS), Told::Node(3)),
         (Ask::Cleanup(1), Told::Done),
-        (Ask::Open(20, &fits), Told::Node(4)),
+        (Ask::Open(20, FITS), Told::Node(4)),
         (Ask::Client(0), Told::Client(2)),
         (Ask::Client(0), Told::Client(3)),
         (Ask::Client(0), Told::Client(4)),
     ];
     // There are four nodes and four clients, and the third was the last that was told.
-    let wanted = (
-        [Some((1, 0)), Some((30, 0)), Some((40, 0))],
-        [Some((1, 1)), Some((1, 2)), Some((1, 3))],
-        [None; 3],
+    const FIRST_THREE: AllIds<'static> = (
+        &[Some((1, 0)), Some((30, 0)), Some((40, 0))],
+        &[Some((1, 1)), Some((1, 2)), Some((1, 3))],
+        &[None, None, None],
     );
-    lists(&rt, rt.alloc(), SETTINGS, &script, wanted)
+    const PARTS: &[Part<'static>] = &[(SCRIPT, Then::Tells(FIRST_THREE))];
+    plays_parts(&rt, rt.alloc(), &SETTINGS, PARTS);
 }
 
 #[test]
-fn servers_are_told_until_the_callback_stops(rt: HostRuntime) -> Result<(), Fail> {
-    let script = [
+fn servers_are_told_until_the_callback_stops(rt: HostRuntime) {
+    const SCRIPT: &[Row<'static>] = &[
         (Ask::Server(0), Told::Server(0)),
         (Ask::Server(0), Told::Server(1)),
         (Ask::Server(0), Told::Server(2)),
         (Ask::Server(0), Told::Server(3)),
     ];
-    let many = Settings {
+    const THREE_SERVERS: AllIds<'static> = (
+        &[None, None, Some((1, 0))],
+        &[None, None, None],
+        &[Some((1, 0)), Some((1, 1)), Some((1, 2))],
+    );
+    const PARTS: &[Part<'static>] = &[(SCRIPT, Then::Tells(THREE_SERVERS))];
+    const FOUR: Settings = Settings {
         servers: 4,
         ..SETTINGS
     };
-    let wanted = (
-        [None, None, Some((1, 0))],
-        [None; 3],
-        [Some((1, 0)), Some((1, 1)), Some((1, 2))],
-    );
-    lists(&rt, rt.alloc(), many, &script, wanted)
+    plays_parts(&rt, rt.alloc(), &FOUR, PARTS);
 }

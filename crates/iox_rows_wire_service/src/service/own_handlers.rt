@@ -1,14 +1,13 @@
 //! Requests to full servers, of a client whose handler is a type of the caller and answers by the
 //! server.
-use super::starts::{DEFAULTS, SETTINGS, description, id, identity};
-use super::{TheReply, Told, tells};
+use super::starts::SETTINGS;
+use super::{Ask, Row, Told, plays};
 use iceoryx2_wire::{
-    Backpressure, BackpressureAction, BackpressureInfo, BackpressureStrategy, Elements, Many,
-    PortCommand, PortOptions, Refusal, Service, Settings, UniqueNodeId, Words,
+    Backpressure, BackpressureAction, BackpressureInfo, BackpressureStrategy, Refusal, Settings,
+    Words,
 };
-use std::alloc::{AllocError, Global};
+use std::alloc::Global;
 use std::process::Abort;
-use std::test::Fail;
 
 /// It fails at this server, and passes over each other.
 #[derive(Clone, Copy)]
@@ -69,105 +68,40 @@ impl Backpressure for FailsAt {
     }
 }
 
-type Handled = Service<Many<u64>, (), Many<u64>, (), FailsAt>;
+/// Requests do not overflow, and a client has one active request.
+const FULL_AT_ONE: Settings = Settings {
+    active_requests: 1,
+    request_overflow: false,
+    ..SETTINGS
+};
 
-type AtPort = PortCommand<Elements<u64, u64>, FailsAt>;
-
-/// A service in which requests do not overflow, and a client has one active request.
-fn full_at_one(alloc: Global) -> Result<Handled, Fail> {
-    let settings = Settings {
-        active_requests: 1,
-        request_overflow: false,
-        ..SETTINGS
-    };
-    let (identity, description) = (identity()?, description()?);
-    Ok(Handled::create(
-        alloc,
-        settings,
-        identity,
-        description,
-        DEFAULTS,
-        DEFAULTS,
-        id(1),
-    )?)
-}
-
-/// The options of a port with this handler, or with none.
-fn options(handler: Option<FailsAt>) -> PortOptions<FailsAt> {
-    PortOptions {
-        max_slice_len: 1,
-        pool: None,
-        strategy: Some(BackpressureStrategy::DiscardData),
-        allocation: None,
-        loaned_responses: None,
-        handler,
-    }
-}
+/// The strategy of all ports.
+const DISCARDS: Option<BackpressureStrategy> = Some(BackpressureStrategy::DiscardData);
 
 /// Node 0 makes two servers, and a client whose handler fails at the server of that number. It
-/// sends a request, which it gives up and which still waits at both servers, and sends another.
-fn asked(alloc: Global, server: u64) -> Result<Vec<AtPort>, Fail> {
-    let (id, node) = (UniqueNodeId::new(id(1))?, 0);
-    let mut asked = Vec::new(alloc);
-    for _ in 0..2 {
-        asked.push(PortCommand::Server {
-            node,
-            id,
-            options: options(None),
-        })?;
-    }
-    asked.push(PortCommand::Client {
-        node,
-        id,
-        options: options(Some(FailsAt { server })),
-    })?;
-    asked.push(PortCommand::SendCopy {
-        node,
-        number: 2,
-        payload: Elements::Requests(vec![in alloc; 5]?),
-    })?;
-    asked.push(PortCommand::Release { node, number: 3 })?;
-    asked.push(PortCommand::Loan {
-        node,
-        number: 2,
-        elements: 1,
-    })?;
-    asked.push(PortCommand::Send { node, number: 4 })?;
-    Ok(asked)
-}
-
-fn calls(service: &mut Handled, alloc: Global, command: AtPort) -> TheReply<'static> {
-    service.port(alloc, command)
-}
-
-/// The reply to the last of these commands.
-fn last_reply(alloc: Global, asked: Vec<AtPort>) -> Result<TheReply<'static>, Fail> {
-    let mut service = full_at_one(alloc)?;
-    let mut last = None;
-    for command in asked {
-        last = Some(calls(&mut service, alloc, command));
-    }
-    match last {
-        Some(reply) => Ok(reply),
-        None => Err(Fail::from(AllocError)),
-    }
-}
-
-/// Ends the test where another reply comes of a handler that fails at the server of that number.
-fn is_told(rt: &impl Abort, alloc: Global, server: u64, wanted: Told<'_>) -> Result<(), Fail> {
-    let reply = last_reply(alloc, asked(alloc, server)?)?;
-    tells(rt, &reply, &wanted);
-    Ok(())
+/// sends a request, which it gives up and which still waits at both servers, and sends another,
+/// which is told this.
+fn is_told(rt: &impl Abort, alloc: Global, server: u64, told: Told<'static>) {
+    let client = Ask::MadeClient(0, DISCARDS, Some(FailsAt { server }));
+    let script: [Row<'_, FailsAt>; 7] = [
+        (Ask::MadeServer(0, DISCARDS, None), Told::Server(0)),
+        (Ask::MadeServer(0, DISCARDS, None), Told::Server(1)),
+        (client, Told::Client(2)),
+        (Ask::Request(0, 2, 5), Told::Handle(3)),
+        (Ask::Release(0, 3), Told::Done),
+        (Ask::Loan(0, 2), Told::Handle(4)),
+        (Ask::Send(0, 4), told),
+    ];
+    plays(rt, alloc, &FULL_AT_ONE, &script);
 }
 
 #[test]
-fn a_handler_that_fails_at_the_second_of_two_full_servers_refuses(
-    rt: HostRuntime,
-) -> Result<(), Fail> {
-    is_told(&rt, rt.alloc(), 1, Told::Refused(Refusal::UnableToDeliver))
+fn a_handler_that_fails_at_the_second_of_two_full_servers_refuses(rt: HostRuntime) {
+    let refused = Told::Refused(Refusal::UnableToDeliver);
+    is_told(&rt, rt.alloc(), 1, refused);
 }
 
 #[test]
-fn a_handler_that_fails_at_another_server_passes_over_both(rt: HostRuntime) -> Result<(), Fail> {
-    is_told(&rt, rt.alloc(), 2, Told::Sent(0))
+fn a_handler_that_fails_at_another_server_passes_over_both(rt: HostRuntime) {
+    is_told(&rt, rt.alloc(), 2, Told::Sent(0));
 }

@@ -1,101 +1,83 @@
 //! Runs of no command, of one, and of one after another.
-use super::asking::TheCommand;
-use super::openers::fit;
-use super::starts::{SETTINGS, first, id};
-use super::{TheReply, TheService, Told, are, tells};
-use iceoryx2_wire::{Command, Opener, Reply};
-use std::alloc::{AllocError, Global};
+use super::asking::runs;
+use super::openers::{FITS, openers};
+use super::starts::{SETTINGS, first};
+use super::{Ask, Row, TheReply, TheService, Then, Told, Way, plays_in, tells};
+use crate::expected::equal;
+use iceoryx2_wire::{Opener, Reply};
+use std::alloc::Global;
 use std::process::Abort;
-use std::test::Fail;
 
 /// A node opens the service, and all are listed.
-fn opening(alloc: Global, opener: &Opener) -> Result<Vec<TheCommand<'_>>, AllocError> {
-    let opens = Command::Join {
-        id: id(2),
-        asked: opener,
-    };
-    two(alloc, opens, Command::ListNodes)
-}
+const OPENS: &[Row<'static>] = &[
+    (Ask::Open(2, FITS), Told::Node(1)),
+    (Ask::Nodes, Told::Listed(&[0, 1])),
+];
 
 /// Node 0 leaves, and all are listed.
-fn leaving<'a>(alloc: Global) -> Result<Vec<TheCommand<'a>>, AllocError> {
-    two(alloc, Command::Leave { node: 0 }, Command::ListNodes)
-}
-
-/// These two commands.
-fn two<'a>(
-    alloc: Global,
-    a: TheCommand<'a>,
-    b: TheCommand<'a>,
-) -> Result<Vec<TheCommand<'a>>, AllocError> {
-    let mut commands = Vec::with_capacity(alloc, 2)?;
-    commands.push(a)?;
-    commands.push(b)?;
-    Ok(commands)
-}
+const LEAVES: &[Row<'static>] = &[
+    (Ask::Leave(0), Told::Done),
+    (Ask::Nodes, Told::Listed(&[1])),
+];
 
 /// The replies to three lists, of which the first is empty, behind a reply that was there.
 fn three<'a>(
+    rt: &impl Abort,
     alloc: Global,
     service: &mut TheService,
-    opener: &'a Opener,
-) -> Result<Vec<TheReply<'a>>, AllocError> {
-    let mut replies: Vec<TheReply<'a>> = vec![in alloc; Reply::Nothing]?;
-    runs(service, alloc, Vec::new(alloc), &mut replies)?;
-    runs(service, alloc, opening(alloc, opener)?, &mut replies)?;
-    runs(service, alloc, leaving(alloc)?, &mut replies)?;
-    Ok(replies)
+    openers: &'a [Opener],
+) -> Vec<TheReply<'a>> {
+    let mut replies: Vec<TheReply<'a>> = Vec::from_array(alloc, [Reply::Nothing]).expect(
+        rt, "room",
+    );
+    runs(rt, alloc, service, openers, &[], &mut replies);
+    runs(rt, alloc, service, openers, OPENS, &mut replies);
+    runs(rt, alloc, service, openers, LEAVES, &mut replies);
+    replies
 }
 
-/// Runs these commands.
-fn runs<'a>(
-    service: &mut TheService,
-    alloc: Global,
-    commands: Vec<TheCommand<'a>>,
-    replies: &mut Vec<TheReply<'a>>,
-) -> Result<(), AllocError> {
-    service.run(alloc, commands, replies)
+/// Ends the test where replies are not the wanted ones.
+fn are(rt: &impl Abort, replies: &[TheReply<'_>], wanted: &[Told<'_>]) {
+    equal(rt, replies.len(), wanted.len());
+    for (place, (reply, told)) in replies.iter().zip(wanted.iter()).enumerate() {
+        tells(rt, place, reply, told);
+    }
+}
+
+/// The same of a new service's replies.
+fn stand_behind(rt: &impl Abort, alloc: Global, openers: &[Opener], wanted: &[Told<'_>]) {
+    let mut service = first(rt, alloc, &SETTINGS);
+    let replies = three(rt, alloc, &mut service, openers);
+    are(rt, &replies, wanted);
 }
 
 #[test]
-fn replies_stand_behind_those_of_earlier_runs(rt: HostRuntime) -> Result<(), Fail> {
-    let fits = fit()?;
-    let mut service = first(rt.alloc(), SETTINGS)?;
-    let replies = three(rt.alloc(), &mut service, &fits)?;
-    let told = [
+fn replies_stand_behind_those_of_earlier_runs(rt: HostRuntime) {
+    const WANTED: &[Told<'static>] = &[
         Told::Nothing,
         Told::Node(1),
         Told::Listed(&[0, 1]),
         Told::Done,
         Told::Listed(&[1]),
     ];
-    are(&rt, &replies, &told);
-    Ok(())
+    let openers = openers(&rt, rt.alloc());
+    stand_behind(&rt, rt.alloc(), &openers, WANTED);
 }
 
-/// Ends the test where there is no memory for a command, or the reply is not the wanted one.
-fn tries(
-    rt: &impl Abort,
-    alloc: Global,
-    service: &mut TheService,
-    command: TheCommand<'_>,
-    wanted: Told<'_>,
-) -> Result<(), AllocError> {
-    let reply = service.try_serve(alloc, command)?;
-    tells(rt, &reply, &wanted);
-    Ok(())
+/// Ends the test where a new service, asked by `try_serve`, answers otherwise.
+fn tries(rt: &impl Abort, alloc: Global, script: &[Row<'_>]) {
+    let openers = openers(rt, alloc);
+    plays_in(
+        rt,
+        alloc,
+        &SETTINGS,
+        &openers,
+        Way::Tried,
+        &[(script, Then::Open)],
+    );
 }
 
 #[test]
-fn a_command_is_answered_where_memory_is_there(rt: HostRuntime) -> Result<(), Fail> {
-    let (alloc, fits) = (rt.alloc(), fit()?);
-    let mut service = first(alloc, SETTINGS)?;
-    let opens: TheCommand<'_> = Command::Join {
-        id: id(2),
-        asked: &fits,
-    };
-    tries(&rt, alloc, &mut service, opens, Told::Node(1))?;
-    let lists = Command::ListNodes;
-    tries(&rt, alloc, &mut service, lists, Told::Listed(&[0, 1]))?;
-    Ok(())
+fn a_command_is_answered_where_memory_is_there(rt: HostRuntime) {
+    tries(&rt, rt.alloc(), OPENS);
 }

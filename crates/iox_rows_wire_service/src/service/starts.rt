@@ -1,11 +1,13 @@
 //! Services to begin with.
 use super::{TheRefusal, TheService};
+use crate::expected::holds;
 use iceoryx2_wire::{
-    AllocationStrategy, AttributeKey, AttributeSpecifier, AttributeValue, BackpressureStrategy,
-    Defaults, ServiceDescription, ServiceIdentity, ServiceName, Settings, UniqueSystemId,
+    AllocationStrategy, AttributeKey, AttributeSpecifier, AttributeValue, Backpressure,
+    BackpressureStrategy, Defaults, MessageTypes, ServiceDescription, ServiceIdentity, ServiceName,
+    Settings, UniqueSystemId,
 };
 use std::alloc::Global;
-use std::test::Fail;
+use std::process::Abort;
 
 /// The defaults.
 pub(super) const SETTINGS: Settings = Settings {
@@ -28,11 +30,6 @@ pub(super) const SETTINGS: Settings = Settings {
     server_allocation: AllocationStrategy::Static,
 };
 
-/// The defaults, but for so many nodes.
-pub(super) fn with_nodes(nodes: u64) -> Settings {
-    Settings { nodes, ..SETTINGS }
-}
-
 /// The id N 0 0 0.
 pub(super) fn id(process: u32) -> UniqueSystemId {
     UniqueSystemId {
@@ -43,42 +40,44 @@ pub(super) fn id(process: u32) -> UniqueSystemId {
     }
 }
 
-/// The service's own types, and the attributes (a, 1) and (b, 2).
-pub(super) fn description() -> Result<ServiceDescription, Fail> {
+/// The attribute is defined.
+fn define(rt: &impl Abort, attributes: &mut AttributeSpecifier, key: &str, value: &str) {
+    let key = AttributeKey::new(key).expect(rt, "a key");
+    let value = AttributeValue::new(value).expect(rt, "a value");
+    holds(rt, attributes.try_define(&key, &value).is_ok());
+}
+
+/// The attributes (a, 1) and (b, 2).
+fn attributes(rt: &impl Abort) -> AttributeSpecifier {
     let mut attributes = AttributeSpecifier::new();
-    for (key, value) in [("a", "1"), ("b", "2")] {
-        let (key, value) = (AttributeKey::new(key)?, AttributeValue::new(value)?);
-        attributes.try_define(&key, &value)?;
-    }
-    Ok(ServiceDescription {
-        types: TheService::own_types()?,
-        attributes,
-    })
+    define(rt, &mut attributes, "a", "1");
+    define(rt, &mut attributes, "b", "2");
+    attributes
 }
 
 /// What a message holds at first.
-pub(super) const DEFAULTS: Defaults<u64, ()> = Defaults {
+const DEFAULTS: Defaults<u64, ()> = Defaults {
     element: 7,
     user_header: (),
 };
 
 /// The service a/b, with number 7.
-pub(super) fn identity() -> Result<ServiceIdentity, Fail> {
-    let name = ServiceName::new("a/b")?;
-    Ok(ServiceIdentity { name, number: 7 })
+pub(super) fn identity(rt: &impl Abort) -> ServiceIdentity {
+    let name = ServiceName::new("a/b").expect(rt, "a name");
+    ServiceIdentity { name, number: 7 }
 }
 
 /// A service with that description, or why it is refused.
-pub(super) fn new(
+pub(super) fn new<H: Backpressure>(
     alloc: Global,
-    settings: Settings,
+    settings: &Settings,
     identity: ServiceIdentity,
     description: ServiceDescription,
     id: UniqueSystemId,
-) -> Result<TheService, TheRefusal<'static>> {
+) -> Result<TheService<H>, TheRefusal<'static>> {
     TheService::create(
         alloc,
-        settings,
+        *settings,
         identity,
         description,
         DEFAULTS,
@@ -87,19 +86,35 @@ pub(super) fn new(
     )
 }
 
-/// A service with this description, whose first node has the id 1 0 0 0.
-pub(super) fn described(
-    alloc: Global,
-    settings: Settings,
-    description: ServiceDescription,
-) -> Result<TheService, Fail> {
-    match new(alloc, settings, identity()?, description, id(1)) {
-        Ok(service) => Ok(service),
-        Err(_) => Err(Fail::new("refused")),
+/// The description of a service of these types, with the attributes (a, 1) and (b, 2).
+pub(super) fn description(rt: &impl Abort, types: MessageTypes) -> ServiceDescription {
+    ServiceDescription {
+        types,
+        attributes: attributes(rt),
     }
 }
 
-/// The same with the service's own types, and the attributes (a, 1) and (b, 2).
-pub(super) fn first(alloc: Global, settings: Settings) -> Result<TheService, Fail> {
-    described(alloc, settings, description()?)
+/// A service that is described so, whose first node has the id 1 0 0 0.
+pub(super) fn described<H: Backpressure>(
+    rt: &impl Abort,
+    alloc: Global,
+    settings: &Settings,
+    types: MessageTypes,
+) -> TheService<H> {
+    let description = description(rt, types);
+    new(alloc, settings, identity(rt), description, id(1)).expect(rt, "a service")
+}
+
+/// The service's own types.
+pub(super) fn own_types(rt: &impl Abort) -> MessageTypes {
+    TheService::<()>::own_types().expect(rt, "types")
+}
+
+/// The same with the service's own types.
+pub(super) fn first<H: Backpressure>(
+    rt: &impl Abort,
+    alloc: Global,
+    settings: &Settings,
+) -> TheService<H> {
+    described(rt, alloc, settings, own_types(rt))
 }

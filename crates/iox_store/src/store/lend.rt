@@ -31,6 +31,18 @@ impl<E: Words, H: Words> Store<E, H> {
         self.keep(left);
     }
 
+    /// The same, where the message has room of its own for so many elements.
+    #[inline(always)]
+    pub fn lend_own(&mut self, place: usize, elements: usize, user: H)
+        requires there { place < length self.old.messages }
+        requires room { elements ≤ self.old.longest }
+        ensures { self.new ≡ with_stored self.old place
+            (lent_uninit (stored_at self.old place) elements (H.words user)) }
+    {
+        let cell = &mut self.cells[place];
+        cell.lend_own(elements, user);
+    }
+
     /// Lends the message for so many elements, each filled with the same value. Where it has no
     /// room for them, it takes the room that is given.
     #[inline]

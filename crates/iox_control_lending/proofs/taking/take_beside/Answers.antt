@@ -1,9 +1,17 @@
-use Rattle.std.proofs.Common.{sym, ap, find, not, ◌∙◌}
+use Rattle.std.proofs.Common.{◌≡◌, is_some, subst, sym, ap, find, not, true, ℕ, ◌∙◌}
 use Rattle.std.specs.List.{range_with_len}
 use Rattle.iox_slots.specs.Pools.{free_count}
+use Rattle.iox_tables.specs.HubStates.Tables.{pool_at}
 use Rattle.iox_tables.specs.HubLoans.Counts.{is_lane_taken}
+use Rattle.iox_control.proofs.HeldLemmas.{port_has_pool}
 use Rattle.iox_control_lending.proofs.FreeLemmas.{none_free}
 use Rattle.iox_control_lending.proofs.taking.take_beside.Goals as goal
+
+pub take-requires : goal.take-requires
+take-requires c =
+    let p = c.requires.port in
+    subst (λ (k : ℕ). is_some (pool_at c.args.control.now.tables.pools k) ≡ true) p.2
+    (port_has_pool c.args.control.now.tables c.requires.order.order c.args.client p.0 p.1)
 
 pub returns-in_default-clause-full : goal.returns-in_default-clause-full
 returns-in_default-clause-full c =

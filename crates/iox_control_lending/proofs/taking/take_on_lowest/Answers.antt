@@ -1,9 +1,16 @@
-use Rattle.std.proofs.Common.{sym, ap, refl, ◌∙◌}
-use Rattle.iox_tables.specs.HubStates.Tables.{slots_of}
+use Rattle.std.proofs.Common.{◌≡◌, is_some, subst, sym, ap, refl, true, ℕ, ◌∙◌}
+use Rattle.iox_tables.specs.HubStates.Tables.{pool_at, slots_of}
 use Rattle.iox_slots.specs.Pools.{is_idle}
+use Rattle.iox_control.proofs.HeldLemmas.{port_has_pool}
 use Rattle.iox_control_lending.proofs.HeldLemmas.{idle_none}
 use Rattle.iox_control_lending.proofs.LowestLemmas.{first_is}
 use Rattle.iox_control_lending.proofs.taking.take_on_lowest.Goals as goal
+
+pub take_first-requires : goal.take_first-requires
+take_first-requires c =
+    let p = c.requires.port in
+    subst (λ (k : ℕ). is_some (pool_at c.args.control.now.tables.pools k) ≡ true) p.2
+    (port_has_pool c.args.control.now.tables c.requires.order.order c.args.client p.0 p.1)
 
 pub returns-in-Some-clause-taken : goal.returns-in-Some-clause-taken
 returns-in-Some-clause-taken c =

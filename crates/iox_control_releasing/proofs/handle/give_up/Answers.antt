@@ -1,7 +1,9 @@
-use Rattle.iox_control_releasing.proofs.Upped.{active_with}
+use Rattle.std.specs.Prelude.{◌<◌, length}
+use Rattle.std.proofs.Common.{subst, sym}
+use Rattle.iox_hub_ports.proofs.Finding.{is_within, place_is_at}
 use Rattle.iox_control_releasing.proofs.handle.give_up.Goals as goal
 
-pub returns-in-ActiveRequest : goal.returns-in-ActiveRequest
-returns-in-ActiveRequest c =
-    active_with c.args.control.now c.give_back.new.self c.close.new.self c.args.entry c.args.label c.args.owner c.in-ActiveRequest.is
-    c.give_back.ensures.released c.close.ensures
+pub rank-hint-requires : goal.rank-hint-requires
+rank-hint-requires c =
+    subst (λ ps. c.args.at < length ps) (sym c.ports.ensures.ports)
+    (is_within c.args.control.now.tables.ports c.args.entry.port c.args.at (place_is_at c.args.control.now.tables.ports c.args.entry.port c.args.at c.requires.there))

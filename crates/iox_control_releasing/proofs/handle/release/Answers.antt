@@ -1,18 +1,37 @@
-use Rattle.std.specs.Prelude.{◌≡◌, IfSome, false, refl, true}
+use Rattle.std.specs.Prelude.{◌≡◌, ◌<◌, IfSome, false, is_some, refl, true}
 use Rattle.std.specs.Option.{option_map_or}
 use Rattle.std.proofs.Common.{ap, subst, sym}
-use Rattle.iox_tables.specs.HubStates.Tables.{HubTables, port_in}
+use Rattle.iox_tables.specs.HubStates.Tables.{HubTables, port_in, slot_at}
+use Rattle.iox_hub_ports.specs.InPlace.{AllApart}
 use Rattle.iox_control.specs.Controls.{ControlState}
 use Rattle.iox_control.specs.Entries.{handle_state}
+use Rattle.iox_control.proofs.HeldLemmas.{handle_holds}
+use Rattle.iox_control.proofs.InPlaceLemmas.{all_apart}
 use Rattle.iox_control_releasing.specs.Goings.{ArePoolsThere}
 use Rattle.iox_control_releasing.proofs.Ended.{ended}
 use Rattle.iox_control_releasing.proofs.Kept.{kept_end}
-use Rattle.iox_control_releasing.proofs.StillThere.{pools_there, port_after}
+use Rattle.iox_control_releasing.proofs.StillThere.{handle_has_port, pools_there, port_after}
 use Rattle.iox_control_releasing.proofs.Released.{is_released, named_itself}
 use Rattle.iox_control_releasing.proofs.Tidy.{release_tidies}
 use Rattle.iox_control_releasing.proofs.HeldStays.{still_used}
 use Rattle.iox_control_releasing.proofs.Upped.{found_itself, named_if_found, released_left, then_left, then_room}
 use Rattle.iox_control_releasing.proofs.handle.release.Goals as goal
+
+pub end_removed-goes-requires-clause-taken : goal.end_removed-goes-requires-clause-taken
+end_removed-goes-requires-clause-taken c =
+    subst (λ (d : ControlState). 0 < (slot_at d.tables.pools c.in_ok-entry.entry.pool c.in_ok-entry.entry.slot).holders) (sym (c.in_ok-entry.ensures.dropped refl))
+    (handle_holds c.args.control.now.tables c.requires.order.order c.args.node c.args.number (handle_state c.in_ok-entry.entry)
+    (sym (found_itself c.args.kind _ c.in_ok-entry.entry c.in_ok-entry.ensures.found)))
+
+pub end_removed-goes-requires-clause-port : goal.end_removed-goes-requires-clause-port
+end_removed-goes-requires-clause-port c =
+    subst (λ (d : ControlState). is_some (port_in d.tables.ports c.in_ok-entry.entry.port) ≡ true) (sym (c.in_ok-entry.ensures.dropped refl))
+    (handle_has_port c.args.control.now.tables c.requires.order.order c.args.node c.args.number (handle_state c.in_ok-entry.entry)
+    (sym (found_itself c.args.kind _ c.in_ok-entry.entry c.in_ok-entry.ensures.found)))
+
+pub end_removed-goes-requires-clause-apart : goal.end_removed-goes-requires-clause-apart
+end_removed-goes-requires-clause-apart c =
+    subst (λ (d : ControlState). AllApart d.tables.ports) (sym (c.in_ok-entry.ensures.dropped refl)) (all_apart c.args.control.now c.requires.order)
 
 pub leave-place-requires-clause-order : goal.leave-place-requires-clause-order
 leave-place-requires-clause-order c =

@@ -1,8 +1,17 @@
 use Rattle.std.proofs.Common.{◌∙◌, false, sym, true}
 use Rattle.std.proofs.lemmas.Option.{same_Some}
 use Rattle.iox_control.specs.Entries.{handle_state}
+use Rattle.iox_control.proofs.HeldLemmas.{handle_has_pool, handle_has_slot}
 use Rattle.iox_control_requests.proofs.Emptied.{calls_then, counts_then, ended_bare, ended_is, fails_then, got_back, is_loan_then, labels_same, nothing_returned, only_loan, sent_then, still_named, the_port, waits_then}
 use Rattle.iox_control_requests.proofs.attempts.attempt.Goals as goal
+
+pub label_of-label-requires : goal.label_of-label-requires
+label_of-label-requires g c =
+    handle_has_slot c.args.control.now.tables c.requires.order.order c.args.entry.node c.args.entry.number (handle_state c.args.entry) c.requires.named.there
+
+pub has_one_out-alone-requires : goal.has_one_out-alone-requires
+has_one_out-alone-requires g c =
+    handle_has_pool c.args.control.now.tables c.requires.order.order c.args.entry.node c.args.entry.number (handle_state c.args.entry) c.requires.named.there
 
 pub retrieve_all_unless-requires-clause-there : goal.retrieve_all_unless-requires-clause-there
 retrieve_all_unless-requires-clause-there g c =
@@ -40,7 +49,7 @@ send_to_all-requires-clause-named g c =
 
 pub send_to_all-requires-clause-label : goal.send_to_all-requires-clause-label
 send_to_all-requires-clause-label g c =
-    c.label-label.ensures
+    c.label_of-label.ensures
     ∙ labels_same c.args.control.now.tables.pools c.retrieve_all_unless.new.control.tables.pools c.args.entry.pool c.args.entry.slot
     (c.retrieve_all_unless.ensures.back (the_port c.args.control.now c.args.entry.node c.args.entry.number (handle_state c.args.entry) c.requires.order c.requires.named c.requires.kind).0 (the_port c.args.control.now c.args.entry.node c.args.entry.number (handle_state c.args.entry) c.requires.order c.requires.named c.requires.kind).1).same
 

@@ -1,27 +1,25 @@
-use Rattle.std.proofs.Common.{◌∙◌, arith, sym}
-use Rattle.iox_control_requests.proofs.Walks.{none_refused, one_refused, passes_none, passes_one}
+use Rattle.std.proofs.Common.{◌∙◌, ◌≡◌, Some, ap, arith, slice_get, sym}
+use Rattle.iox_model.specs.declared.kind.Role.TheVariants.{Server}
+use Rattle.iox_hub_ports.specs.InPlace.{places_of}
+use Rattle.iox_control_requests.proofs.Walks.{none_refused, one_refused, passes_one}
 use Rattle.iox_control_requests.proofs.servers.is_refused.Goals as goal
-use Rattle.iox_control_requests.proofs.servers.is_refused.Goals.{in-Some+else-is_refused_by, in_default}
 
 pub returns-then-is_refused_by : goal.returns-then-is_refused_by
 returns-then-is_refused_by g c =
-    one_refused (g.B.WhenFull.fails c.args.backpressure.now) c.args.control.now.tables.ports c.args.client c.loop-place.place c.in-Some.server
-    (sym c.server_at.ensures ∙ c.in-Some.is) (sym c.is_refused_by.ensures ∙ c.if-is_refused_by.true)
+    one_refused (g.B.WhenFull.fails c.args.backpressure.now) c.args.control.now.tables.ports c.args.client c.loop-rank.rank c.server-place.result
+    (ap (λ ps. slice_get (places_of Server ps) c.loop-rank.rank) (sym c.ports-in-loop-rank.ensures.ports) ∙ c.server-place.ensures.place)
+    (λ n e. sym c.if-is_refused_by.true ∙ c.is_refused_by.ensures n e)
 
-pub loop-place-preserved : goal.loop-place-preserved
-loop-place-preserved g c = record {
-  none = elim c.match-server_at.branch [
-    | in-Some+else-is_refused_by w ↦
-        passes_one (g.B.WhenFull.fails c.args.backpressure.now) c.args.control.now.tables.ports c.args.client c.loop-place.place w.in-Some.server
-        c.loop-place.invariant.none (sym c.server_at.ensures ∙ w.in-Some.is) (sym w.is_refused_by.ensures ∙ w.if-is_refused_by.false)
-    | in_default w ↦
-        passes_none (g.B.WhenFull.fails c.args.backpressure.now) c.args.control.now.tables.ports c.args.client c.loop-place.place
-        c.loop-place.invariant.none (sym c.server_at.ensures ∙ w.in_default.is)
-  ];
-  size = c.loop-place.invariant.size;
+pub loop-rank-preserved : goal.loop-rank-preserved
+loop-rank-preserved g c = record {
+  none =
+      passes_one (g.B.WhenFull.fails c.args.backpressure.now) c.args.control.now.tables.ports c.args.client c.loop-rank.rank c.server-place.result
+      (ap (λ ps. slice_get (places_of Server ps) c.loop-rank.rank) (sym c.ports-in-loop-rank.ensures.ports) ∙ c.server-place.ensures.place)
+      c.loop-rank.invariant.none (λ n e. sym c.if-is_refused_by.false ∙ c.is_refused_by.ensures n e);
+  size = c.loop-rank.invariant.size;
 }
 
 pub returns : goal.returns
 returns g c =
-    none_refused (g.B.WhenFull.fails c.args.backpressure.now) c.args.control.now.tables.ports c.args.client c.loop-place.place
-    (omega (arith, c.loop-place-test.false, c.loop-place.invariant.size)) c.loop-place.invariant.none
+    none_refused (g.B.WhenFull.fails c.args.backpressure.now) c.args.control.now.tables.ports c.args.client c.loop-rank.rank
+    (omega (arith, c.loop-rank-test.false, c.loop-rank.invariant.size)) c.loop-rank.invariant.none

@@ -1,4 +1,5 @@
 use Rattle.std.proofs.Common.{sym, ◌∙◌, arith, refl}
+use Rattle.iox_handles.specs.Places.{handles_there}
 use Rattle.iox_handles.proofs.NodeListLemmas.{entry_at, gone_more}
 use Rattle.iox_handles.proofs.numbered.first_there.Goals as goal
 
@@ -13,7 +14,7 @@ returns-then-is_listed_there-clause-gone c = c.loop-at.invariant.gone
 
 pub loop-at-preserved : goal.loop-at-preserved
 loop-at-preserved c = record {
-  gone = gone_more c.args.node c.args.places.now c.args.list.now c.args.from c.loop-at.at (entry_at 0 0) c.loop-at-test.true
+  gone = gone_more c.args.node (handles_there c.args.places.now) c.args.list.now c.args.from c.loop-at.at (entry_at 0 0) c.loop-at-test.true
       (sym c.is_listed_there.ensures ∙ c.if-is_listed_there.false) c.loop-at.invariant.gone;
   size = c.loop-at.invariant.size;
 }

@@ -1,30 +1,43 @@
-use Rattle.std.specs.Prelude.{Some, false, option_map, refl}
-use Rattle.std.proofs.Common.{ap, ◌∙◌}
+use Rattle.std.specs.Prelude.{false}
+use Rattle.std.proofs.Common.{arith}
 use Rattle.iox_store.specs.Stored.{stored_at}
-use Rattle.iox_hub.specs.Words.{all_carried, carried}
+use Rattle.iox_hub.proofs.AllCarried.{response_now, responses_found, responses_low}
 use Rattle.iox_hub.proofs.FillingPut.{put_by_answers, put_only}
-use Rattle.iox_hub.proofs.LendingPut.{put_is, there_is}
+use Rattle.iox_hub.proofs.Reading.{has_slot}
 use Rattle.iox_hub.proofs.filled.write_response_from_fn_in.Goals as goal
+
+pub index_mut-responses-requires : goal.index_mut-responses-requires
+index_mut-responses-requires g c =
+    let low = responses_low c.words.inside.roles.items c.words.inside.requests.items c.words.inside.responses.items _ c.args.words.now c.words.view_is
+    c.args.pool c.args.slot c.requires.there c.requires.responses in
+    omega (arith, low, c.words.inside.responses.ok.0)
+
+pub write_from_fn-requires-clause-there : goal.write_from_fn-requires-clause-there
+write_from_fn-requires-clause-there g c =
+    has_slot c.args.words.now.pools c.args.pool c.args.slot false _
+    (responses_found c.words.inside.roles.items c.words.inside.requests.items c.words.inside.responses.items _ c.args.words.now c.words.view_is
+    c.args.pool c.args.slot c.requires.there c.requires.responses
+    c.index_mut-responses.result.now c.index_mut-responses.ensures.value)
+    c.requires.there
 
 pub returns-clause-only : goal.returns-clause-only
 returns-clause-only g c =
-    put_only (all_carried c.args.words.now.items) _ c.args.pool c.args.slot _
-    (put_is c.args.words.now.items _ c.args.pool c.args.slot false c.in-Some-Responses.store _
-    (λ s. stored_at c.write_from_fn.new.self c.args.slot)
-    (there_is c.args.words.now.items c.args.pool c.args.slot c.index_mut.result.now c.requires.there c.index_mut.ensures.value
-    ∙ ap (option_map carried) (c.in-Some-Responses.is ∙ ap (λ p. Some p) c.in-Some-Responses.field-0-is))
-    refl c.write_from_fn.ensures.only)
+    put_only c.args.words.now.pools _ c.args.pool c.args.slot _
+    (response_now c.words.inside.roles.items c.words.inside.requests.items c.words.inside.responses.items _ c.args.words.now c.words.view_is
+    c.args.pool c.args.slot c.requires.there c.requires.responses
+    c.index_mut-responses.result.now c.index_mut-responses.ensures.value _
+    (λ s. stored_at c.write_from_fn.new.self c.args.slot) c.write_from_fn.ensures.only)
     c.requires.there
 
 pub returns-clause-filled : goal.returns-clause-filled
 returns-clause-filled g c =
-    put_by_answers (all_carried c.args.words.now.items) _ c.args.pool c.args.slot _
-    (put_is c.args.words.now.items _ c.args.pool c.args.slot false c.in-Some-Responses.store _
-    (λ s. stored_at c.write_from_fn.new.self c.args.slot)
-    (there_is c.args.words.now.items c.args.pool c.args.slot c.index_mut.result.now c.requires.there c.index_mut.ensures.value
-    ∙ ap (option_map carried) (c.in-Some-Responses.is ∙ ap (λ p. Some p) c.in-Some-Responses.field-0-is))
-    refl c.write_from_fn.ensures.only)
-    c.requires.there _ _ c.args.f false c.in-Some-Responses.store
-    (there_is c.args.words.now.items c.args.pool c.args.slot c.index_mut.result.now c.requires.there c.index_mut.ensures.value
-    ∙ ap (option_map carried) (c.in-Some-Responses.is ∙ ap (λ p. Some p) c.in-Some-Responses.field-0-is))
+    put_by_answers c.args.words.now.pools _ c.args.pool c.args.slot _
+    (response_now c.words.inside.roles.items c.words.inside.requests.items c.words.inside.responses.items _ c.args.words.now c.words.view_is
+    c.args.pool c.args.slot c.requires.there c.requires.responses
+    c.index_mut-responses.result.now c.index_mut-responses.ensures.value _
+    (λ s. stored_at c.write_from_fn.new.self c.args.slot) c.write_from_fn.ensures.only)
+    c.requires.there _ _ c.args.f false _
+    (responses_found c.words.inside.roles.items c.words.inside.requests.items c.words.inside.responses.items _ c.args.words.now c.words.view_is
+    c.args.pool c.args.slot c.requires.there c.requires.responses
+    c.index_mut-responses.result.now c.index_mut-responses.ensures.value)
     c.write_from_fn.ensures.filled

@@ -1,14 +1,9 @@
-use Rattle.std.specs.Prelude.{Some, false, option_map}
-use Rattle.std.proofs.Common.{ap, ◌∙◌}
-use Rattle.iox_store.specs.Stored.{Contents}
-use Rattle.iox_hub.specs.Words.{carried}
-use Rattle.iox_hub.proofs.GrowingRoom.{same_put}
-use Rattle.iox_hub.proofs.LendingPut.{there_is}
+use Rattle.std.proofs.Common.{arith}
+use Rattle.iox_hub.proofs.AllCarried.{responses_low}
 use Rattle.iox_hub.proofs.growing.spare_of_responses.Goals as goal
 
-pub returns-clause-unchanged : goal.returns-clause-unchanged
-returns-clause-unchanged g c =
-    same_put c.args.words.now.items c.args.pool _ (record { requests = false; contents = c.in-Some-Responses.store })
-    (there_is c.args.words.now.items c.args.pool 0 c.index_mut.result.now c.requires.there c.index_mut.ensures.value
-    ∙ ap (option_map carried) (c.in-Some-Responses.is ∙ ap (λ p. Some p) c.in-Some-Responses.field-0-is))
-    (ap (λ (s : Contents). record { requests = false; contents = s }) c.spare.ensures.unchanged)
+pub index_mut-responses-requires : goal.index_mut-responses-requires
+index_mut-responses-requires g c =
+    let low = responses_low c.words.inside.roles.items c.words.inside.requests.items c.words.inside.responses.items _ c.args.words.now c.words.view_is
+    c.args.pool 0 c.requires.there c.requires.responses in
+    omega (arith, low, c.words.inside.responses.ok.0)

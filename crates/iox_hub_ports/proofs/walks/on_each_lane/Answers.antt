@@ -1,6 +1,7 @@
 use Rattle.std.proofs.Common.{ap, ◌∙◌, arith}
 use Rattle.iox_tables.specs.HubStates.Tables.{numbers_of}
-use Rattle.iox_hub_ports.proofs.Keeping.{lanes_keep}
+use Rattle.iox_hub_ports.specs.InPlace.{roles_of}
+use Rattle.iox_hub_ports.proofs.Keeping.{lanes_keep, lanes_keep_roles}
 use Rattle.iox_hub_ports.specs.Ports.{if_role, ways_from, with_lane_from}
 use Rattle.iox_hub_ports.proofs.Walking.{each_lane, ends, set_size, turns}
 use Rattle.iox_hub_ports.proofs.walks.on_each_lane.Goals as goal
@@ -26,3 +27,8 @@ pub returns-clause-numbers : goal.returns-clause-numbers
 returns-clause-numbers g c =
     ap numbers_of (returns-clause-changed g c)
     ∙ lanes_keep (g.S.LaneStep.changed c.args.step.now) c.args.ports.now.items (ways_from c.args.sender c.args.lane c.args.role c.args.ports.now.items)
+
+pub returns-clause-roles : goal.returns-clause-roles
+returns-clause-roles g c =
+    ap roles_of (returns-clause-changed g c)
+    ∙ lanes_keep_roles (g.S.LaneStep.changed c.args.step.now) c.args.ports.now.items (ways_from c.args.sender c.args.lane c.args.role c.args.ports.now.items)

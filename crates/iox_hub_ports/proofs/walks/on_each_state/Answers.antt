@@ -1,6 +1,7 @@
 use Rattle.std.proofs.Common.{ap, ◌∙◌, arith}
 use Rattle.iox_tables.specs.HubStates.Tables.{numbers_of}
-use Rattle.iox_hub_ports.proofs.Keeping.{states_keep}
+use Rattle.iox_hub_ports.specs.InPlace.{roles_of}
+use Rattle.iox_hub_ports.proofs.Keeping.{states_keep, states_keep_roles}
 use Rattle.iox_hub_ports.specs.Ports.{if_role, state_ways, with_state_from}
 use Rattle.iox_hub_ports.proofs.Walking.{each_state, ends, set_size, turns}
 use Rattle.iox_hub_ports.proofs.walks.on_each_state.Goals as goal
@@ -26,3 +27,8 @@ pub returns-clause-numbers : goal.returns-clause-numbers
 returns-clause-numbers g c =
     ap numbers_of (returns-clause-changed g c)
     ∙ states_keep (g.S.StateStep.changed c.args.step.now) c.args.ports.now.items (state_ways c.args.receiver c.args.lane c.args.role c.args.ports.now.items)
+
+pub returns-clause-roles : goal.returns-clause-roles
+returns-clause-roles g c =
+    ap roles_of (returns-clause-changed g c)
+    ∙ states_keep_roles (g.S.StateStep.changed c.args.step.now) c.args.ports.now.items (state_ways c.args.receiver c.args.lane c.args.role c.args.ports.now.items)

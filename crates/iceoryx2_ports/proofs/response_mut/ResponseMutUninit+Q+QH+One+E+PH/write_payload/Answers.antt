@@ -1,6 +1,6 @@
 use Rattle.std.specs.Prelude.{◌∷◌, [], flat_map, refl}
 use Rattle.iox_model.specs.declared.kind.Role.TheVariants as roles
-use Rattle.iox_hub_laws.specs.Fills.{reply_of_write}
+use Rattle.iox_model.specs.declared.reply.Reply.TheVariants.{Done}
 use Rattle.iox_hub_laws.specs.Lending.{payload_of}
 use Rattle.iceoryx2_ports.proofs.Coming.{write_brings_nothing}
 use Rattle.iox_model.specs.declared.call.Call.TheVariants.{Write}
@@ -14,35 +14,35 @@ use Rattle.iceoryx2_ports.proofs.response_mut.ResponseMutUninit+Q+QH+One+E+PH.wr
 
 pub returns-clause-comes : goal.returns-clause-comes
 returns-clause-comes g c =
-    write_brings_nothing c.args.hub.now c.write_response.new.self c.args.self.node c.args.self.number
-    (payload_of roles.Server 1 (flat_map g.E.Words.words (c.args.value ∷ []))) (reply_of_write c.write_response.result)
-    c.write_response.ensures.whole
+    write_brings_nothing c.args.hub.now c.write_one_response.new.self c.args.self.node c.args.self.number
+    (payload_of roles.Server 1 (flat_map g.E.Words.words (c.args.value ∷ []))) Done
+    c.write_one_response.ensures.whole
 
 pub returns-clause-asks : goal.returns-clause-asks
 returns-clause-asks g c =
-    loan_asks_as_always c.args.hub.now c.write_response.new.self c.args.self.node
-    (Write c.args.self.number (payload_of roles.Server 1 (flat_map g.E.Words.words (c.args.value ∷ [])))) (reply_of_write c.write_response.result)
-    refl c.write_response.ensures.whole ResponseMutUninit refl c.requires.has
+    loan_asks_as_always c.args.hub.now c.write_one_response.new.self c.args.self.node
+    (Write c.args.self.number (payload_of roles.Server 1 (flat_map g.E.Words.words (c.args.value ∷ [])))) Done
+    refl c.write_one_response.ensures.whole ResponseMutUninit refl c.requires.has
 
 pub returns-clause-room : goal.returns-clause-room
 returns-clause-room g c =
-    keeps_room c.args.hub.now c.write_response.new.self c.args.self.node
-    (Write c.args.self.number (payload_of roles.Server 1 (flat_map g.E.Words.words (c.args.value ∷ [])))) (reply_of_write c.write_response.result)
-    refl c.write_response.ensures.whole
+    keeps_room c.args.hub.now c.write_one_response.new.self c.args.self.node
+    (Write c.args.self.number (payload_of roles.Server 1 (flat_map g.E.Words.words (c.args.value ∷ [])))) Done
+    refl c.write_one_response.ensures.whole
 
 pub returns-clause-answers : goal.returns-clause-answers
 returns-clause-answers g c =
-    write_answers_as c.args.hub.now c.write_response.new.self c.args.self.node c.args.self.number
-    (payload_of roles.Server 1 (flat_map g.E.Words.words (c.args.value ∷ []))) (reply_of_write c.write_response.result)
-    c.write_response.ensures.whole ResponseMutUninit refl c.requires.has
+    write_answers_as c.args.hub.now c.write_one_response.new.self c.args.self.node c.args.self.number
+    (payload_of roles.Server 1 (flat_map g.E.Words.words (c.args.value ∷ []))) Done
+    c.write_one_response.ensures.whole ResponseMutUninit refl c.requires.has
 
 pub returns-clause-requests : goal.returns-clause-requests
 returns-clause-requests g c =
-    write_keeps_requests c.args.hub.now c.write_response.new.self c.args.self.node c.args.self.number
-    (payload_of roles.Server 1 (flat_map g.E.Words.words (c.args.value ∷ []))) (reply_of_write c.write_response.result)
-    c.write_response.ensures.whole ResponseMutUninit refl c.requires.has
+    write_keeps_requests c.args.hub.now c.write_one_response.new.self c.args.self.node c.args.self.number
+    (payload_of roles.Server 1 (flat_map g.E.Words.words (c.args.value ∷ []))) Done
+    c.write_one_response.ensures.whole ResponseMutUninit refl c.requires.has
 
 pub returns-clause-shapes : goal.returns-clause-shapes
 returns-clause-shapes g c =
-    same_shapes c.args.hub.now c.write_response.new.self c.args.self.node (Write c.args.self.number (payload_of roles.Server 1 (flat_map g.E.Words.words (c.args.value ∷ [])))) (reply_of_write c.write_response.result)
-    c.write_response.ensures.whole
+    same_shapes c.args.hub.now c.write_one_response.new.self c.args.self.node (Write c.args.self.number (payload_of roles.Server 1 (flat_map g.E.Words.words (c.args.value ∷ [])))) Done
+    c.write_one_response.ensures.whole

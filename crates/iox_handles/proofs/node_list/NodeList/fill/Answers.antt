@@ -1,6 +1,7 @@
 use Rattle.std.proofs.Common.{rules, refl}
 use Rattle.std.proofs.lemmas.List.Sorted.{IsNonDecreasingBy-from_sort_by_key}
 use Rattle.iox_handles.specs.declared.numbered.Numbered.{Numbered}
+use Rattle.iox_handles.specs.Places.{handles_there}
 use Rattle.iox_handles.proofs.NodeListLemmas.{sorted_listed}
 use Rattle.iox_handles.proofs.node_list.NodeList.fill.Goals as goal
 
@@ -10,6 +11,6 @@ invariant_of-self c =
 
 pub returns-clause-listed : goal.returns-clause-listed
 returns-clause-listed c =
-    sorted_listed c.args.places.now
+    sorted_listed (handles_there c.args.places.now)
     (record { list = c.sort_unstable_by_key.new.self.items; from = 0; node = c.args.node; next = c.args.next; room = 0 })
     c.list_in.new.list.items c.list_in.ensures.listed c.sort_unstable_by_key.ensures.permutation refl

@@ -1,6 +1,7 @@
-use Rattle.std.proofs.Common.{◌≡◌, ap, ap₂, sym, ◌∙◌}
+use Rattle.std.proofs.Common.{◌≡◌, ℕ, List, ap, ap₂, sym, ◌∙◌}
+use Rattle.iox_handles.specs.declared.entry.Entry.{Entry}
 use Rattle.iox_handles.specs.NodeLists.{ListState}
-use Rattle.iox_handles.specs.Places.{least_in}
+use Rattle.iox_handles.specs.Places.{handles_there, least_in}
 use Rattle.iox_handles.proofs.LeastLemmas.{least-places}
 use Rattle.iox_handles.proofs.NodeListLemmas.{list_is_of}
 use Rattle.iox_handles.proofs.table.Table.first_of.Goals as goal
@@ -9,8 +10,8 @@ use Rattle.iox_handles.proofs.table.Table.first_of.Goals.{then-not-is_of, else-n
 pub returns-clause-first : goal.returns-clause-first
 returns-clause-first c =
     rw (← c.self.view_is)
-    (c.first.ensures.least ∙ ap₂ least_in node (c.deref-2.ensures.value ∙ places)
-    ∙ least-places c.args.node c.self.inside.places.items c.self.inside.next c.self.invariant.0.table.apart c.self.invariant.0.table.below)
+    (c.first.ensures.least ∙ ap₂ (λ (n : ℕ) (ps : List Entry). least_in n (handles_there ps)) node (c.deref-2.ensures.value ∙ places)
+    ∙ least-places c.args.node (handles_there c.self.inside.places.items) c.self.inside.next c.self.invariant.whole.table.apart c.self.invariant.whole.table.below)
   where
     node : c.if-not-is_of.self-inside.listed.node ≡ c.args.node
     node = elim c.if-not-is_of.branch [

@@ -1,21 +1,18 @@
 use Rattle.std.specs.Prelude.{false}
-use Rattle.std.proofs.Common.{ap}
-use Rattle.iox_hub.specs.Words.{all_carried}
 use Rattle.iox_hub.proofs.LoanReading.{is_with_responses, loan_has_words}
-use Rattle.iox_hub.proofs.Reading.{are_requests_same, carried_same, count_same, has_slot}
+use Rattle.iox_hub.proofs.Reading.{has_slot, some_there}
 use Rattle.iox_hub.proofs.hub.Hub.loaned_response.Goals as goal
 
 pub responses_in-requires-clause-there : goal.responses_in-requires-clause-there
 responses_in-requires-clause-there g c =
-    count_same _ _ c.handle-entry.result.pool c.handle-entry.result.slot (ap all_carried c.deref.ensures.value)
+    some_there _ c.handle-entry.result.pool c.handle-entry.result.slot
     (loan_has_words c.self.invariant c.args.self.now c.self.view_is c.args.node c.args.number c.handle-entry.result c.handle-entry.ensures)
 
 pub responses_in-requires-clause-responses : goal.responses_in-requires-clause-responses
 responses_in-requires-clause-responses g c =
-    are_requests_same _ _ c.handle-entry.result.pool false (ap all_carried c.deref.ensures.value)
     (is_with_responses c.self.invariant c.args.self.now c.self.view_is c.args.node c.args.number c.handle-entry.result c.handle-entry.ensures c.requires.has)
 
 pub payload-requires : goal.payload-requires
 payload-requires g c =
-    has_slot _ c.handle-entry.result.pool c.handle-entry.result.slot false _ (carried_same _ _ c.handle-entry.result.pool false _ (ap all_carried c.deref.ensures.value) c.responses_in.ensures)
+    has_slot _ c.handle-entry.result.pool c.handle-entry.result.slot false _ c.responses_in.ensures
     (loan_has_words c.self.invariant c.args.self.now c.self.view_is c.args.node c.args.number c.handle-entry.result c.handle-entry.ensures)

@@ -1,29 +1,27 @@
 use Rattle.std.specs.Prelude.{true}
-use Rattle.std.proofs.Common.{ap, ◌∙◌}
+use Rattle.std.proofs.Common.{◌∙◌}
 use Rattle.iox_hub.specs.Reads.{has_request}
-use Rattle.iox_hub.specs.Words.{all_carried}
-use Rattle.iox_hub.proofs.Reading.{are_requests_same, carried_same, has_slot, has_words, is_read_as_payload, of_request, passing, requests_pass, suits_kind}
+use Rattle.iox_hub.proofs.Reading.{has_slot, has_words, is_read_as_payload, of_request, passing, requests_pass, suits_kind}
 use Rattle.iox_hub.proofs.hub.Hub.request.Goals as goal
 
 pub requests_in-requires : goal.requests_in-requires
 requests_in-requires g c = record {
   requests =
-      are_requests_same _ _ c.handle-entry.result.pool true (ap all_carried c.deref.ensures.value)
       (suits_kind has_request requests_pass c.self.invariant c.args.self.now c.self.view_is c.args.node c.args.number c.requires.has
-      c.handle-entry.result c.handle-entry.ensures
-      ∙ of_request c.handle-entry.result.kind (passing has_request requests_pass c.self.invariant c.args.self.now c.self.view_is c.args.node c.args.number c.requires.has
-      c.handle-entry.result c.handle-entry.ensures));
+      c.in-Some.entry c.in-Some.ensures
+      ∙ of_request c.in-Some.entry.kind (passing has_request requests_pass c.self.invariant c.args.self.now c.self.view_is c.args.node c.args.number c.requires.has
+      c.in-Some.entry c.in-Some.ensures));
 }
 
 pub payload-requires : goal.payload-requires
 payload-requires g c =
-    has_slot _ c.handle-entry.result.pool c.handle-entry.result.slot true _ (carried_same _ _ c.handle-entry.result.pool true _ (ap all_carried c.deref.ensures.value) c.requests_in.ensures)
+    has_slot _ c.in-Some.entry.pool c.in-Some.entry.slot true _ c.requests_in.ensures
     (has_words has_request requests_pass c.self.invariant c.args.self.now c.self.view_is c.args.node c.args.number c.requires.has
-    c.handle-entry.result c.handle-entry.ensures)
+    c.in-Some.entry c.in-Some.ensures)
 
-pub returns-clause-whole : goal.returns-clause-whole
-returns-clause-whole g c =
+pub returns-in-Some-clause-whole : goal.returns-in-Some-clause-whole
+returns-in-Some-clause-whole g c =
     rw (← c.self.view_is)
     (λ x. is_read_as_payload has_request requests_pass c.self.invariant c.args.self.now c.self.view_is c.args.node c.args.number c.requires.has
-    c.handle-entry.result c.handle-entry.ensures true _
-    (carried_same _ _ c.handle-entry.result.pool true _ (ap all_carried c.deref.ensures.value) c.requests_in.ensures) _ c.payload.ensures.words x)
+    c.in-Some.entry c.in-Some.ensures true _
+    c.requests_in.ensures _ c.payload.ensures.words x)

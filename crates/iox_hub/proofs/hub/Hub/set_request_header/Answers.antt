@@ -1,7 +1,5 @@
 use Rattle.std.specs.Prelude.{true}
-use Rattle.std.proofs.Common.{ap}
 use Rattle.iox_model.specs.declared.kind.Role.TheVariants as roles
-use Rattle.iox_hub.specs.Words.{all_carried}
 use Rattle.iox_hub.proofs.FillingCalls.{fill_call, fill_of, fill_within, loan_in, looked_of, looked_slot, looked_suits}
 use Rattle.iox_hub.proofs.FillingWays.{header_hub, header_loan}
 use Rattle.iox_hub.proofs.hub.Hub.set_request_header.Goals as goal
@@ -20,21 +18,21 @@ set_request_header_in-requires-clause-there g c =
 pub requests_in-requires : goal.requests_in-requires
 requests_in-requires g c =
     let call = fill_call roles.Client c.self.invariant c.args.self.now c.self.view_is c.args.node c.args.number c.requires.has c.fill_loan-place.ensures in
-    record { requests = looked_of call _ _ c.set_request_header_in.ensures _ (ap all_carried c.deref.ensures.value) }
+    record { requests = looked_of call _ _ c.set_request_header_in.ensures }
 
 pub known_in-requires : goal.known_in-requires
 known_in-requires g c =
     let call = fill_call roles.Client c.self.invariant c.args.self.now c.self.view_is c.args.node c.args.number c.requires.has c.fill_loan-place.ensures in
-    looked_slot call _ _ c.set_request_header_in.ensures _ (ap all_carried c.deref.ensures.value) true _ c.requests_in.ensures
+    looked_slot call _ _ c.set_request_header_in.ensures true _ c.requests_in.ensures
 
 pub invariant_of-self : goal.invariant_of-self
 invariant_of-self g c =
     let call = fill_call roles.Client c.self.invariant c.args.self.now c.self.view_is c.args.node c.args.number c.requires.has c.fill_loan-place.ensures in
-    let suits = looked_suits call _ _ c.set_request_header_in.ensures _ (ap all_carried c.deref.ensures.value) true _ c.requests_in.ensures _ (c.known_in.ensures g.Q.Payload.MANY) in
+    let suits = looked_suits call _ _ c.set_request_header_in.ensures true _ c.requests_in.ensures _ (c.known_in.ensures g.Q.Payload.MANY) in
     header_hub call (g.QH.Words.words c.args.user) _ c.set_request_header_in.ensures suits
 
 pub returns : goal.returns
 returns g c =
     let call = fill_call roles.Client c.self.invariant c.args.self.now c.self.view_is c.args.node c.args.number c.requires.has c.fill_loan-place.ensures in
-    let suits = looked_suits call _ _ c.set_request_header_in.ensures _ (ap all_carried c.deref.ensures.value) true _ c.requests_in.ensures _ (c.known_in.ensures g.Q.Payload.MANY) in
+    let suits = looked_suits call _ _ c.set_request_header_in.ensures true _ c.requests_in.ensures _ (c.known_in.ensures g.Q.Payload.MANY) in
     rw (← c.self.view_is) (header_loan call (g.QH.Words.words c.args.user) _ c.set_request_header_in.ensures suits)

@@ -1,9 +1,8 @@
 use Rattle.std.specs.Prelude.{true, ◌<◌}
-use Rattle.std.proofs.Common.{ap, subst, sym}
+use Rattle.std.proofs.Common.{subst, sym}
 use Rattle.iox_model.specs.declared.kind.Role.TheVariants as roles
 use Rattle.iox_hub.specs.Hubs.{HubState}
 use Rattle.iox_hub.specs.Reads.{message_in}
-use Rattle.iox_hub.specs.Words.{all_carried}
 use Rattle.iox_hub.proofs.FillingCalls.{fill_call, fill_of, fill_within, loan_in, looked_of, looked_slot, looked_suits}
 use Rattle.iox_hub.proofs.FillingWays.{next_hub, next_loan, room_there}
 use Rattle.iox_hub.proofs.hub.Hub.write_next_request.Goals as goal
@@ -27,23 +26,23 @@ write_next_request_in-requires-clause-room g c =
 pub requests_in-requires : goal.requests_in-requires
 requests_in-requires g c =
     let call = fill_call roles.Client c.self.invariant c.args.self.now c.self.view_is c.args.node c.args.number c.requires.has c.fill_loan-place.ensures in
-    record { requests = looked_of call _ _ c.write_next_request_in.ensures _ (ap all_carried c.deref.ensures.value) }
+    record { requests = looked_of call _ _ c.write_next_request_in.ensures }
 
 pub known_in-requires : goal.known_in-requires
 known_in-requires g c =
     let call = fill_call roles.Client c.self.invariant c.args.self.now c.self.view_is c.args.node c.args.number c.requires.has c.fill_loan-place.ensures in
-    looked_slot call _ _ c.write_next_request_in.ensures _ (ap all_carried c.deref.ensures.value) true _ c.requests_in.ensures
+    looked_slot call _ _ c.write_next_request_in.ensures true _ c.requests_in.ensures
 
 pub invariant_of-self : goal.invariant_of-self
 invariant_of-self g c =
     let call = fill_call roles.Client c.self.invariant c.args.self.now c.self.view_is c.args.node c.args.number c.requires.has c.fill_loan-place.ensures in
-    let suits = looked_suits call _ _ c.write_next_request_in.ensures _ (ap all_carried c.deref.ensures.value) true _ c.requests_in.ensures _ (c.known_in.ensures g.Q.Payload.MANY) in
+    let suits = looked_suits call _ _ c.write_next_request_in.ensures true _ c.requests_in.ensures _ (c.known_in.ensures g.Q.Payload.MANY) in
     next_hub call (g.Q.Element.Words.words c.args.value) _
     (subst (λ (d : HubState). (message_in d c.args.node c.args.number).filled < (message_in d c.args.node c.args.number).elements) (sym c.self.view_is) c.requires.room) c.write_next_request_in.ensures suits
 
 pub returns : goal.returns
 returns g c =
     let call = fill_call roles.Client c.self.invariant c.args.self.now c.self.view_is c.args.node c.args.number c.requires.has c.fill_loan-place.ensures in
-    let suits = looked_suits call _ _ c.write_next_request_in.ensures _ (ap all_carried c.deref.ensures.value) true _ c.requests_in.ensures _ (c.known_in.ensures g.Q.Payload.MANY) in
+    let suits = looked_suits call _ _ c.write_next_request_in.ensures true _ c.requests_in.ensures _ (c.known_in.ensures g.Q.Payload.MANY) in
     rw (← c.self.view_is) (next_loan call (g.Q.Element.Words.words c.args.value) _
     (subst (λ (d : HubState). (message_in d c.args.node c.args.number).filled < (message_in d c.args.node c.args.number).elements) (sym c.self.view_is) c.requires.room) c.write_next_request_in.ensures suits)

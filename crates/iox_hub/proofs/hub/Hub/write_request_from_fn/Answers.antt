@@ -1,7 +1,5 @@
 use Rattle.std.specs.Prelude.{true}
-use Rattle.std.proofs.Common.{ap}
 use Rattle.iox_model.specs.declared.kind.Role.TheVariants as roles
-use Rattle.iox_hub.specs.Words.{all_carried}
 use Rattle.iox_hub.proofs.FillingCalls.{fill_call, fill_of, fill_within, loan_in, looked_of, looked_slot, looked_suits}
 use Rattle.iox_hub.proofs.FillingWays.{answered_by, answered_hub, answered_loan}
 use Rattle.iox_hub.proofs.hub.Hub.write_request_from_fn.Goals as goal
@@ -20,27 +18,27 @@ write_request_from_fn_in-requires-clause-there g c =
 pub requests_in-requires : goal.requests_in-requires
 requests_in-requires g c =
     let call = fill_call roles.Client c.self.invariant c.args.self.now c.self.view_is c.args.node c.args.number c.requires.has c.fill_loan-place.ensures in
-    record { requests = looked_of call _ _ c.write_request_from_fn_in.ensures.only _ (ap all_carried c.deref.ensures.value) }
+    record { requests = looked_of call _ _ c.write_request_from_fn_in.ensures.only }
 
 pub known_in-requires : goal.known_in-requires
 known_in-requires g c =
     let call = fill_call roles.Client c.self.invariant c.args.self.now c.self.view_is c.args.node c.args.number c.requires.has c.fill_loan-place.ensures in
-    looked_slot call _ _ c.write_request_from_fn_in.ensures.only _ (ap all_carried c.deref.ensures.value) true _ c.requests_in.ensures
+    looked_slot call _ _ c.write_request_from_fn_in.ensures.only true _ c.requests_in.ensures
 
 pub invariant_of-self : goal.invariant_of-self
 invariant_of-self g c =
     let call = fill_call roles.Client c.self.invariant c.args.self.now c.self.view_is c.args.node c.args.number c.requires.has c.fill_loan-place.ensures in
-    let suits = looked_suits call _ _ c.write_request_from_fn_in.ensures.only _ (ap all_carried c.deref.ensures.value) true _ c.requests_in.ensures _ (c.known_in.ensures g.Q.Payload.MANY) in
+    let suits = looked_suits call _ _ c.write_request_from_fn_in.ensures.only true _ c.requests_in.ensures _ (c.known_in.ensures g.Q.Payload.MANY) in
     answered_hub call _ c.write_request_from_fn_in.ensures.only suits _ _ c.args.f c.write_request_from_fn_in.ensures.filled
 
 pub returns-clause-answered : goal.returns-clause-answered
 returns-clause-answered g c =
     let call = fill_call roles.Client c.self.invariant c.args.self.now c.self.view_is c.args.node c.args.number c.requires.has c.fill_loan-place.ensures in
-    let suits = looked_suits call _ _ c.write_request_from_fn_in.ensures.only _ (ap all_carried c.deref.ensures.value) true _ c.requests_in.ensures _ (c.known_in.ensures g.Q.Payload.MANY) in
+    let suits = looked_suits call _ _ c.write_request_from_fn_in.ensures.only true _ c.requests_in.ensures _ (c.known_in.ensures g.Q.Payload.MANY) in
     rw (← c.self.view_is) (answered_by call _ c.write_request_from_fn_in.ensures.only suits _ _ c.args.f c.write_request_from_fn_in.ensures.filled)
 
 pub returns-clause-filled : goal.returns-clause-filled
 returns-clause-filled g c =
     let call = fill_call roles.Client c.self.invariant c.args.self.now c.self.view_is c.args.node c.args.number c.requires.has c.fill_loan-place.ensures in
-    let suits = looked_suits call _ _ c.write_request_from_fn_in.ensures.only _ (ap all_carried c.deref.ensures.value) true _ c.requests_in.ensures _ (c.known_in.ensures g.Q.Payload.MANY) in
+    let suits = looked_suits call _ _ c.write_request_from_fn_in.ensures.only true _ c.requests_in.ensures _ (c.known_in.ensures g.Q.Payload.MANY) in
     rw (← c.self.view_is) (answered_loan call _ c.write_request_from_fn_in.ensures.only suits _ _ c.args.f c.write_request_from_fn_in.ensures.filled)

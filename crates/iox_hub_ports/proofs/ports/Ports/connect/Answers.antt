@@ -10,7 +10,7 @@ use Rattle.iox_hub_ports.proofs.ports.Ports.connect.Goals as goal
 pub invariant_of-self : goal.invariant_of-self
 invariant_of-self c =
     IsPorts-set c.self.inside.ports.items c.in-Some.place c.self.inside.room c.self.inside.last c.self.inside.ports.cap c.index_mut.result.now c.connect.new.self
-    c.self.invariant c.index_mut.ensures.value (ap (λ (p : PortState). p.number) c.connect.ensures.connected)
+    c.self.invariant c.index_mut.ensures.value (ap (λ (p : PortState). p.number) c.connect.ensures.connected) (ap (λ (p : PortState). p.role) c.connect.ensures.connected)
 
 pub returns-in-Some-clause-connected : goal.returns-in-Some-clause-connected
 returns-in-Some-clause-connected c =

@@ -17,7 +17,7 @@ count_loan-requires c =
 pub invariant_of-self : goal.invariant_of-self
 invariant_of-self c =
     IsPorts-set c.self.inside.ports.items c.in-Some.place c.self.inside.room c.self.inside.last c.self.inside.ports.cap c.index_mut.result.now c.count_loan.new.self
-    c.self.invariant c.index_mut.ensures.value (ap (λ (p : PortState). p.number) c.count_loan.ensures)
+    c.self.invariant c.index_mut.ensures.value (ap (λ (p : PortState). p.number) c.count_loan.ensures) (ap (λ (p : PortState). p.role) c.count_loan.ensures)
 
 pub returns-in-Some : goal.returns-in-Some
 returns-in-Some c =

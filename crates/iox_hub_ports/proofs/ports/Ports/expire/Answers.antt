@@ -10,7 +10,7 @@ use Rattle.iox_hub_ports.proofs.ports.Ports.expire.Goals as goal
 pub invariant_of-self : goal.invariant_of-self
 invariant_of-self c =
     IsPorts-set c.self.inside.ports.items c.in-Some.place c.self.inside.room c.self.inside.last c.self.inside.ports.cap c.index_mut.result.now c.expire.new.self
-    c.self.invariant c.index_mut.ensures.value (ap (λ (p : PortState). p.number) c.expire.ensures.left)
+    c.self.invariant c.index_mut.ensures.value (ap (λ (p : PortState). p.number) c.expire.ensures.left) (ap (λ (p : PortState). p.role) c.expire.ensures.left)
 
 pub returns-in-Some-clause-left : goal.returns-in-Some-clause-left
 returns-in-Some-clause-left c =

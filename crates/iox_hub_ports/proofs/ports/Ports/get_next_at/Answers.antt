@@ -11,7 +11,7 @@ use Rattle.iox_hub_ports.proofs.ports.Ports.get_next_at.Goals as goal
 pub invariant_of-self : goal.invariant_of-self
 invariant_of-self c =
     IsPorts-set c.self.inside.ports.items c.args.at c.self.inside.room c.self.inside.last c.self.inside.ports.cap c.index_mut.result.now c.get_next.new.self
-    c.self.invariant c.index_mut.ensures.value c.get_next.ensures.number
+    c.self.invariant c.index_mut.ensures.value c.get_next.ensures.number c.get_next.ensures.role
 
 pub returns-then-at-len-clause-lowest : goal.returns-then-at-len-clause-lowest
 returns-then-at-len-clause-lowest c =

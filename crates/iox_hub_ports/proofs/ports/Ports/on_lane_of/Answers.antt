@@ -1,7 +1,8 @@
 use Rattle.std.proofs.Common.{refl, sym, ap, ◌∙◌, slice_set}
+use Rattle.iox_hub_ports.specs.InPlace.{roles_of}
 use Rattle.iox_hub_ports.specs.Ports.{PortsState, with_lane_from}
 use Rattle.iox_tables.specs.HubStates.Tables.{numbers_of}
-use Rattle.iox_hub_ports.proofs.Keeping.{IsPorts-kept, lane_keeps}
+use Rattle.iox_hub_ports.proofs.Keeping.{IsPorts-kept, lane_keeps, lane_keeps_roles}
 use Rattle.iox_hub_ports.proofs.Places.{changed, looked, unchanged, way_missing, way_told, with_those}
 use Rattle.iox_hub_ports.proofs.ports.Ports.on_lane_of.Goals as goal
 
@@ -37,11 +38,11 @@ returns-in-None-clause-changed g c =
 
 pub invariant_of-self : goal.invariant_of-self
 invariant_of-self g c =
-    IsPorts-kept c.self.inside.ports.items _ c.self.inside.room c.self.inside.last _ _ c.self.invariant
-    (ap numbers_of
-    (ap (slice_set c.self.inside.ports.items c.in-Some.place) c.on_lane.ensures.changed
+    let is = ap (slice_set c.self.inside.ports.items c.in-Some.place) c.on_lane.ensures.changed
     ∙ changed c.self.inside.ports.items c.args.way.receiver c.in-Some.place c.index_mut.result.now
     (λ p. with_lane_from (g.S.LaneStep.changed c.args.step.now) p c.args.way.sender c.args.way.lane)
-    (looked _ _ c.args.way.receiver _ _ (ap (λ (s : PortsState). s.ports) (sym c.self.view_is)) c.place.ensures.first c.in-Some.is) c.index_mut.ensures.value)
-    ∙ lane_keeps (g.S.LaneStep.changed c.args.step.now) c.self.inside.ports.items c.args.way)
+    (looked _ _ c.args.way.receiver _ _ (ap (λ (s : PortsState). s.ports) (sym c.self.view_is)) c.place.ensures.first c.in-Some.is) c.index_mut.ensures.value in
+    IsPorts-kept c.self.inside.ports.items _ c.self.inside.room c.self.inside.last _ _ c.self.invariant
+    (ap numbers_of is ∙ lane_keeps (g.S.LaneStep.changed c.args.step.now) c.self.inside.ports.items c.args.way)
+    (ap roles_of is ∙ lane_keeps_roles (g.S.LaneStep.changed c.args.step.now) c.self.inside.ports.items c.args.way)
     refl

@@ -8,7 +8,7 @@ use Rattle.iox_hub_ports.proofs.ports.Ports.release_value.Goals as goal
 pub invariant_of-self : goal.invariant_of-self
 invariant_of-self c =
     IsPorts-set c.self.inside.ports.items c.in-Some.place c.self.inside.room c.self.inside.last c.self.inside.ports.cap c.index_mut.result.now c.release_value.new.self
-    c.self.invariant c.index_mut.ensures.value (ap (λ (p : PortState). p.number) c.release_value.ensures)
+    c.self.invariant c.index_mut.ensures.value (ap (λ (p : PortState). p.number) c.release_value.ensures) (ap (λ (p : PortState). p.role) c.release_value.ensures)
 
 pub returns-in-Some : goal.returns-in-Some
 returns-in-Some c =

@@ -12,7 +12,7 @@ use Rattle.iox_hub_ports.proofs.ports.Ports.visit.Goals as goal
 pub invariant_of-self : goal.invariant_of-self
 invariant_of-self g c =
     IsPorts-set c.self.inside.ports.items c.in-Some.place c.self.inside.room c.self.inside.last c.self.inside.ports.cap c.index_mut.result.now c.visit.new.self
-    c.self.invariant c.index_mut.ensures.value (ap (λ (p : PortState). p.number) c.visit.ensures.visited)
+    c.self.invariant c.index_mut.ensures.value (ap (λ (p : PortState). p.number) c.visit.ensures.visited) (ap (λ (p : PortState). p.role) c.visit.ensures.visited)
 
 pub returns-in-Some-clause-visited : goal.returns-in-Some-clause-visited
 returns-in-Some-clause-visited g c =

@@ -5,7 +5,7 @@ use Rattle.iox_lanes.proofs.lane.Lane.returned_times.Goals as goal
 
 pub loop-rank-preserved : goal.loop-rank-preserved
 loop-rank-preserved c =
-    let same : c.self.inside.returned.waiting ≡ c.args.self.now.returned = ap (λ (s : LaneState). s.returned) c.self.view_is in
+    let same : c.self.inside.returned.places ≡ c.args.self.now.returned = ap (λ (s : LaneState). s.returned) c.self.view_is in
     let at : slice_get c.args.self.now.returned c.loop-rank.rank ≡ Some c.in-Some.other
     = ap (λ (xs : List ℕ). slice_get xs c.loop-rank.rank) (sym same) ∙ sym c.get.ensures ∙ c.in-Some.is in
     record {

@@ -1,11 +1,11 @@
-use Rattle.std.proofs.Common.{None, sym, ap, ◌∙◌}
-use Rattle.std.specs.Prelude.{slice_get}
-use Rattle.iox_lanes.specs.Lanes.{LaneState}
-use Rattle.iox_lanes.specs.Pipes.{on_lane}
+use Rattle.std.proofs.Common.{ap, sym, ◌∙◌}
+use Rattle.iox_lanes.specs.Marks.{has_returned_at}
+use Rattle.iox_lanes.specs.Pipes.{PipeState}
 use Rattle.iox_lanes.proofs.Returns.{lowest_has}
 use Rattle.iox_lanes.proofs.pipe.Pipe.get_next.Goals as goal
 
-pub unreachable-requires : goal.unreachable-requires
-unreachable-requires c =
-    lowest_has c.args.self.now c.in_ok-lane.lane (sym c.in_ok-lane.ensures.lowest)
-    (c.in_default.ensures.oldest ∙ ap (λ p. on_lane (λ (l : LaneState). slice_get l.returned 0) None p c.in_ok-lane.lane) c.lane_to_get.ensures.unchanged)
+pub get_one_back-place-requires : goal.get_one_back-place-requires
+get_one_back-place-requires c = record {
+  some = ap (λ (p : PipeState). has_returned_at p.lanes c.in_ok-lane.lane) c.in_ok-lane.ensures.unchanged
+      ∙ lowest_has c.args.self.now c.in_ok-lane.lane (sym c.in_ok-lane.ensures.lowest);
+}

@@ -1,14 +1,43 @@
-use Rattle.std.proofs.Common.{arith}
-use Rattle.std.proofs.lemmas.List.{length-set}
-use Rattle.iox_lanes.proofs.Returns.{none_below, none_past}
+use Rattle.std.proofs.Common.{false, sym, ap, ◌∙◌, arith}
+use Rattle.iox_lanes.specs.Lanes.{LaneState, has_returned, is_taken, released}
+use Rattle.iox_lanes.specs.Pipes.{PipeState}
+use Rattle.iox_lanes.proofs.OneLane.{on_lane_at, with_lane_at}
+use Rattle.iox_lanes.proofs.Returns.{marked_more, released_some}
 use Rattle.iox_lanes.proofs.pipe.Pipe.release.Goals as goal
 
 pub invariant_of-self : goal.invariant_of-self
 invariant_of-self c =
-    let size = length-set c.self.inside.lanes.items c.args.lane c.release.new.self in (
-      none_below c.self.inside.none_below c.min-lower.result c.self.inside.lanes.items c.args.lane c.release.new.self c.self.invariant.0
-          (omega (arith, c.min-lower.ensures)) (omega (arith, c.min-lower.ensures)),
-      none_past c.self.inside.none_from c.max-upper.result c.self.inside.lanes.items c.args.lane c.release.new.self c.self.invariant.1
-          (omega (arith, c.max-upper.ensures)) (omega (arith, c.max-upper.ensures)),
-      omega (arith, c.max-upper.ensures, c.self.invariant.2, c.if-lane-len.true, c.len.ensures, size),
-    )
+    marked_more c.self.inside.marks c.with_mark-self-inside.result c.self.inside.lanes.items c.args.lane c.release.new.self
+    c.self.invariant (omega (arith, c.if-len-lane.false, c.len.ensures))
+    (ap has_returned c.release.ensures.released ∙ released_some c.index_mut.result.now c.args.place (sym c.if-release.ensures.taken))
+    c.with_mark-self-inside.ensures.here c.with_mark-self-inside.ensures.others
+
+pub returns-then-release-clause-taken : goal.returns-then-release-clause-taken
+returns-then-release-clause-taken c =
+    let p : PipeState = record { sender = c.self.inside.sender; lanes = c.self.inside.lanes.items; states = c.self.inside.states.items } in
+    rw (← c.self.view_is)
+    (c.if-release.ensures.taken
+    ∙ sym (on_lane_at p c.args.lane c.index_mut.result.now (omega (arith, c.if-len-lane.false, c.len.ensures)) c.index_mut.ensures.value
+    (λ (l : LaneState). is_taken l c.args.place) false))
+
+pub returns-then-release-clause-released : goal.returns-then-release-clause-released
+returns-then-release-clause-released c =
+    let p : PipeState = record { sender = c.self.inside.sender; lanes = c.self.inside.lanes.items; states = c.self.inside.states.items } in
+    rw (← c.self.view_is)
+    (with_lane_at p c.args.lane c.index_mut.result.now (omega (arith, c.if-len-lane.false, c.len.ensures)) c.index_mut.ensures.value
+    (λ (l : LaneState). released l c.args.place) c.release.new.self c.release.ensures.released)
+
+pub returns-clause-taken : goal.returns-clause-taken
+returns-clause-taken c =
+    let p : PipeState = record { sender = c.self.inside.sender; lanes = c.self.inside.lanes.items; states = c.self.inside.states.items } in
+    rw (← c.self.view_is)
+    (c.if-release.ensures.taken
+    ∙ sym (on_lane_at p c.args.lane c.index_mut.result.now (omega (arith, c.if-len-lane.false, c.len.ensures)) c.index_mut.ensures.value
+    (λ (l : LaneState). is_taken l c.args.place) false))
+
+pub returns-clause-released : goal.returns-clause-released
+returns-clause-released c =
+    let p : PipeState = record { sender = c.self.inside.sender; lanes = c.self.inside.lanes.items; states = c.self.inside.states.items } in
+    rw (← c.self.view_is)
+    (with_lane_at p c.args.lane c.index_mut.result.now (omega (arith, c.if-len-lane.false, c.len.ensures)) c.index_mut.ensures.value
+    (λ (l : LaneState). released l c.args.place) c.release.new.self c.release.ensures.released)
