@@ -1,6 +1,6 @@
 #!/usr/bin/env python3
 """tables.py tables FOLDER: what begins and steps take, from callgrind's files FOLDER/NAME.WIRE.few and .many, NAME being
-ours, clang or g++. A begin is a call of a function whose name begins with `one_begin`, and a step one of `one_step` or of the
+ours, clang, g++, clang-DHELD or g++-DHELD (a twin whose caller holds the node). A begin is a call of a function whose name begins with `one_begin`, and a step one of `one_step` or of the
 wire's own `step`, from a function that is named after the call of the wire. FOLDER/WIRE.counts has of how many exchanges they are.
 tables.py counts ROUNDS: of how many exchanges they are to be, from ROUNDS to four times as many, so that between them no
 list doubles its room. Standard input has the last lines of runs of 64 and of 128: the second and the third word count the
@@ -94,11 +94,12 @@ def counts(rounds):
 
 
 def main(folder):
-    told = {(name, wire): exchange(folder, name, wire) for name in ("ours", "clang", "g++") for wire in (0, 1)}
+    names = ("ours", "clang", "g++", "clang-DHELD", "g++-DHELD")
+    told = {(name, wire): exchange(folder, name, wire) for name in names for wire in (0, 1)}
     print("| Wire | what | instructions | C++ by clang | by g++ | ratio to the better |")
     print("|---|---|--:|--:|--:|--:|")
     for wire, label in enumerate(WIRES):
-        sums = {name: total(told[name, wire][0]) for name in ("ours", "clang", "g++")}
+        sums = {name: total(told[name, wire][0]) for name in names}
         begins, _, steps, _ = sums["ours"]
         each = {
             f"a step, of {steps:.0f} in an exchange": lambda s: s[3] / s[2],
@@ -111,6 +112,8 @@ def main(folder):
             print(f"| {label} | {what} | {ours:,.{digits}f} | {clang:,.{digits}f} | {gcc:,.{digits}f} "
                   f"| {ours / min(clang, gcc):.2f} |")
             label = ""
+        clang, gcc = (sums[f"{name}-DHELD"][3] / steps for name in ("clang", "g++"))
+        print(f"|  | a step of the twin, by a caller that holds its node | | {clang:,.1f} | {gcc:,.1f} | |")
     print()
     for wire, label in enumerate(WIRES):
         print(f"Where {label}:\n")
