@@ -32,6 +32,8 @@ mod lists;
 #[cfg(test)]
 mod on;
 #[cfg(test)]
+mod plan_rows;
+#[cfg(test)]
 mod play;
 #[cfg(test)]
 mod replies;
@@ -67,6 +69,8 @@ mod two_servers;
 mod units;
 #[cfg(test)]
 mod unnamed;
+#[cfg(test)]
+mod unserved;
 #[cfg(test)]
 mod whole_calls;
 #[cfg(test)]

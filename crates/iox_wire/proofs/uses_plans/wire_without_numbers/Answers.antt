@@ -1,6 +1,6 @@
 use Rattle.std.proofs.Common.{arith}
 use Rattle.iox_wire.proofs.NewRefusals.{few_of_both, on_ok}
-use Rattle.iox_wire.proofs.uses.wire_without_numbers.Goals as goal
+use Rattle.iox_wire.proofs.uses_plans.wire_without_numbers.Goals as goal
 
 pub new-requires-clause-opens : goal.new-requires-clause-opens
 new-requires-clause-opens c told =

@@ -1,5 +1,5 @@
 use Rattle.iox_wire.proofs.NewRefusals.{opened_have_layouts}
-use Rattle.iox_wire.proofs.uses.messages_have_layouts.Goals as goal
+use Rattle.iox_wire.proofs.uses_plans.messages_have_layouts.Goals as goal
 
 pub returns : goal.returns
 returns c =

@@ -1,6 +1,6 @@
 use Rattle.std.proofs.Common.{[], true≢false, ◌∷◌}
 use Rattle.iox_wire.proofs.NewRefusals.{are_named, on_ok}
-use Rattle.iox_wire.proofs.uses.wire_of_a_node_twice.Goals as goal
+use Rattle.iox_wire.proofs.uses_plans.wire_of_a_node_twice.Goals as goal
 
 pub new-requires-clause-opens : goal.new-requires-clause-opens
 new-requires-clause-opens c told =
