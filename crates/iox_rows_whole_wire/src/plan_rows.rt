@@ -115,7 +115,7 @@ fn lengthen(plan: &mut WirePlan, number: u64, longest: usize, slot_words: usize)
 }
 
 /// That limit is so many.
-fn limit(plan: &mut WirePlan, terms: &mut WireTerms, limit: Limit, count: usize) {
+fn set_limit(plan: &mut WirePlan, terms: &mut WireTerms, limit: Limit, count: usize) {
     match limit {
         Limit::ActiveRequests => plan.limits.active_requests = count,
         Limit::ResponseBuffer => plan.limits.response_buffer = count,
@@ -177,7 +177,7 @@ fn changes(plan: &mut WirePlan, terms: &mut WireTerms, change: Change) -> Result
         Change::Terms => {
             terms.ports.pop();
         }
-        Change::Limit(of, count) => limit(plan, terms, of, count),
+        Change::Limit(limit, count) => set_limit(plan, terms, limit, count),
         Change::ResponseOverflow => plan.limits.response_overflow = false,
         Change::RequestOverflow => plan.limits.request_overflow = false,
         Change::Longest(number, longest, slot_words) => {
