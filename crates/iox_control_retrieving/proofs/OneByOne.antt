@@ -30,7 +30,7 @@ use Rattle.iox_slots.specs.Slots.{let_go}
 use Rattle.iox_slots.proofs.BareLemmas.{let_go_bare}
 use Rattle.iox_slots.proofs.CallerLemmas.{holders_let_go, one_at}
 use Rattle.iox_control.specs.Controls.{ControlState, IsControl, with_pools, with_tables}
-use Rattle.iox_control_retrieving.specs.Retrieving.{GetsBack}
+use Rattle.iox_control_retrieving.specs.Retrieving.{GetsBack, GoesOn}
 use Rattle.iox_control_retrieving.proofs.Emptied.{IsEmptied, all_emptied, all_stay, emptied_both, lane_after, none_counted}
 use Rattle.iox_control_retrieving.proofs.KeptInOrder.{emptied_is_control}
 
@@ -47,17 +47,6 @@ fits_one pools P k Q j some = step (P == Q) refl (k == j) refl
     step false e b d = omega arith
 
 -- ---- what is left to get back
-
--- To empty these ways comes to the same ports as it did at the start, and each slot has lost a
--- holder for each time that it was got back since.
-pub record GoesOn (old : ControlState) (ws : List Way) (now : ControlState) : Type 0 where
-  pub others : now ≡ with_tables old (record (old.tables) { ports = now.tables.ports; pools = now.tables.pools })
-  pub ports : with_lanes_on emptied_lane now.tables.ports ws ≡ with_lanes_on emptied_lane old.tables.ports ws
-  pub pools : bare_pools old.tables.pools ≡ bare_pools now.tables.pools
-  pub holders :
-      (pool k : ℕ)
-      → (slot_at old.tables.pools pool k).holders + returned_on now.tables ws pool k
-      ≡ (slot_at now.tables.pools pool k).holders + returned_on old.tables ws pool k
 
 pub starts : (c : ControlState) (ws : List Way) → GoesOn c ws c
 starts c ws = record { others = refl; ports = refl; pools = refl; holders = λ pool k. refl }

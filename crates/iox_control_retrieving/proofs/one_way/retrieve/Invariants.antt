@@ -1,5 +1,6 @@
 use Rattle.std.proofs.Common.{◌∷◌, []}
-use Rattle.iox_control_retrieving.proofs.OneByOne.{GoesOn, all_returned}
+use Rattle.iox_control_retrieving.specs.Retrieving.{GoesOn}
+use Rattle.iox_control_retrieving.proofs.OneByOne.{all_returned}
 use Rattle.iox_control_retrieving.proofs.one_way.retrieve.Given as goal
 
 -- as much is left to get back as is there still

@@ -1,0 +1,64 @@
+use Rattle.std.proofs.Common.{◌<◌, ap, refl, subst, sym, ◌∙◌}
+use Rattle.iox_tables.specs.HubStates.Tables.{slot_at}
+use Rattle.iox_hub_ports.specs.InPlace.{AllApart}
+use Rattle.iox_hub_ports.specs.Ports.{info_of, lane_to_get_at}
+use Rattle.iox_slots.specs.Pools.{with_slot}
+use Rattle.iox_slots.specs.Slots.{let_go}
+use Rattle.iox_control.specs.Controls.{ControlState, with_pools}
+use Rattle.iox_control_retrieving.specs.Retrieving.{GetsBack, ways_to}
+use Rattle.iox_control_retrieving.proofs.FromPort.{done, fewer_left, goes_on, is_held, is_within, none_more}
+use Rattle.iox_control_retrieving.proofs.port.retrieve_rest.Goals as goal
+
+pub loop-next-init : goal.loop-next-init
+loop-next-init c = record { goes = λ b. b.goes; apart = c.requires.apart }
+
+pub get_next_in-requires-clause-there : goal.get_next_in-requires-clause-there
+get_next_in-requires-clause-there c =
+    let b = c.requires in
+    is_within b.start (record b.known { number = c.args.sender; pool = c.args.pool }) c.args.at b.order b.said (b.to, b.stands, b.differ) b.to b.stands
+    c.loop-next.control (c.loop-next.invariant.goes b)
+
+pub get_next_in-requires-clause-apart : goal.get_next_in-requires-clause-apart
+get_next_in-requires-clause-apart c = c.loop-next.invariant.apart
+
+pub let_go_of-requires : goal.let_go_of-requires
+let_go_of-requires c =
+    let b = c.requires in
+    subst (λ (d : ControlState). 0 < (slot_at d.tables.pools c.args.pool c.in-Some.next.place).holders) (sym c.in-Some.ensures.got_back)
+    (is_held b.start (record b.known { number = c.args.sender; pool = c.args.pool }) c.args.at b.order b.said (b.to, b.stands, b.differ) b.to b.stands
+    c.loop-next.control (c.loop-next.invariant.goes b)
+    c.get_next_in.new.self (with_pools c.get_next_in.new.self (with_slot let_go c.get_next_in.new.self.tables.pools c.args.pool c.in-Some.next.place))
+    c.in-Some.next.lane c.in-Some.next.place c.in-Some.ensures.lowest c.in-Some.ensures.oldest c.in-Some.ensures.got_back refl)
+
+pub loop-next-smaller : goal.loop-next-smaller
+loop-next-smaller c =
+    let b = c.requires in
+    fewer_left b.start (record b.known { number = c.args.sender; pool = c.args.pool }) c.args.at b.order b.said (b.to, b.stands, b.differ) b.to b.stands
+    c.loop-next.control (c.loop-next.invariant.goes b)
+    c.get_next_in.new.self c.let_go_of.new.self c.in-Some.next.lane c.in-Some.next.place c.in-Some.ensures.lowest c.in-Some.ensures.oldest c.in-Some.ensures.got_back c.let_go_of.ensures.left
+
+pub loop-next-preserved : goal.loop-next-preserved
+loop-next-preserved c = record {
+  goes = λ b.
+      goes_on b.start (record b.known { number = c.args.sender; pool = c.args.pool }) c.args.at b.order b.said (b.to, b.stands, b.differ) b.to b.stands
+      c.loop-next.control (c.loop-next.invariant.goes b)
+      c.get_next_in.new.self c.let_go_of.new.self c.in-Some.next.lane c.in-Some.next.place c.in-Some.ensures.lowest c.in-Some.ensures.oldest c.in-Some.ensures.got_back c.let_go_of.ensures.left;
+  apart = subst (λ (d : ControlState). AllApart d.tables.ports) (sym c.let_go_of.ensures.left) c.get_next_in.ensures.apart;
+}
+
+pub returns-then-not-next : goal.returns-then-not-next
+returns-then-not-next c b =
+    done b.start (record b.known { number = c.args.sender; pool = c.args.pool }) c.args.at b.order b.said (b.to, b.stands, b.differ) b.to b.stands
+    c.let_go_of.new.self
+    (goes_on b.start (record b.known { number = c.args.sender; pool = c.args.pool }) c.args.at b.order b.said (b.to, b.stands, b.differ) b.to b.stands
+    c.loop-next.control (c.loop-next.invariant.goes b)
+    c.get_next_in.new.self c.let_go_of.new.self c.in-Some.next.lane c.in-Some.next.place c.in-Some.ensures.lowest c.in-Some.ensures.oldest c.in-Some.ensures.got_back c.let_go_of.ensures.left)
+    (ap (λ (d : ControlState). lane_to_get_at d.tables.ports c.args.at c.args.sender) c.let_go_of.ensures.left
+    ∙ none_more (lane_to_get_at c.get_next_in.new.self.tables.ports c.args.at c.args.sender) c.in-Some.next.more c.in-Some.ensures.more c.if-not-next.true)
+
+pub returns : goal.returns
+returns c b =
+    subst (λ (d : ControlState). GetsBack b.start (ways_to b.known.role b.start.tables c.args.sender (info_of b.to)) d)
+    (sym (c.in_default.ensures.unchanged refl))
+    (done b.start (record b.known { number = c.args.sender; pool = c.args.pool }) c.args.at b.order b.said (b.to, b.stands, b.differ) b.to b.stands
+    c.loop-next.control (c.loop-next.invariant.goes b) (sym c.in_default.ensures.lowest))
