@@ -5,6 +5,7 @@ mod control;
 mod fitting;
 mod in_places;
 mod lanes;
+mod loans_in_places;
 mod making;
 mod parts;
 mod questions;

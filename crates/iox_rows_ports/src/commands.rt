@@ -24,6 +24,7 @@ mod growing;
 mod handlers;
 mod handlers_by_receiver;
 mod limits;
+mod loans;
 mod names;
 mod numbers;
 mod pools;
