@@ -11,6 +11,7 @@ pub mod HintKept
 pub mod ChangeLemmas
 pub mod RoomLemmas
 pub mod FittingLemmas
+pub mod KnownEntries
 pub mod RemovalLemmas
 pub mod KindLemmas
 pub mod HeldLemmas

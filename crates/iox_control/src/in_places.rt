@@ -148,7 +148,7 @@ impl Control {
 
     /// No two ports have one number. It has nothing to do: it is there for its contract.
     #[inline(always)]
-    fn ports_are_apart(&self)
+    pub(crate) fn ports_are_apart(&self)
         ensures { AreDistinct (numbers_of self.now.tables.ports) }
     {
         self.ports.len();

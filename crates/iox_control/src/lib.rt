@@ -4,6 +4,8 @@
 mod control;
 mod fitting;
 mod in_places;
+mod known_handles;
+mod known_sends;
 mod lanes;
 mod making;
 mod parts;

@@ -31,7 +31,7 @@ pipe_info h s p = step (has_number s (senders_of p.expired.pipes))
     step true = refl
     step false = refl
 
-lanes_infos : (g : LaneState → LaneState) (ports : List PortState) (ws : List Way) → infos_of (with_lanes_on g ports ws) ≡ infos_of ports
+pub lanes_infos : (g : LaneState → LaneState) (ports : List PortState) (ws : List Way) → infos_of (with_lanes_on g ports ws) ≡ infos_of ports
 lanes_infos g ports [] = refl
 lanes_infos g ports (w ∷ ws) =
     lanes_infos g (with_lane_on g ports w) ws

@@ -16,6 +16,7 @@ ghost use Rattle.iox_hub_ports.specs.Ports.{gone_from, info_at, info_in, kept_at
 ghost use Rattle.iox_hub_ports.specs.Ports.{with_port_added, with_port_removed, with_ports, without_value};
 
 mod in_place;
+mod known;
 mod near;
 mod sender;
 mod states;

@@ -28,6 +28,7 @@ mod names;
 mod numbers;
 mod pools;
 mod runs;
+mod usual;
 
 use crate::expected::is_wanted;
 use answering::AnswersAt;
