@@ -7,8 +7,7 @@
                                    prints the lines of crates.txt of that crate and of all that it stands on
 
 In crates.txt a comment line above a group of crates is the group's title. A crate's sentence is the first one of the
-`//!` lines of its src/lib.rt or src/main.rt. Of a crate in which no function does anything it says so. A crate of laws has a line for each of its
-modules. A library of the toolchain is named as crates.txt names it.
+`//!` lines of its src/lib.rt or src/main.rt. A crate of laws has a line for each of its modules. A library of the toolchain is named as crates.txt names it.
 
 With --check it also refuses a count of folders in docs/USING.md that is not that of --below, a library of ours in crates.txt that
 the crate does not name, and more than MOST_WAYS ways down crates.txt in all: some kits' rt sums up the files of a library once for each way that leads down to it, so each needless line
@@ -58,12 +57,6 @@ def root_of(name):
     return next(it for it in roots if it.exists())
 
 
-def has_code(name):
-    """Whether a function of the crate does something. Those of a crate of laws have an empty body each."""
-    lines = [line for file in (TOP / "crates" / name / "src").rglob("*.rt") for line in file.read_text().splitlines()]
-    return sum(bool(re.search(r"\bfn ", line)) for line in lines) > lines.count("{}")
-
-
 def modules(name):
     """The modules of a crate of laws, in the order of its definitions."""
     root = root_of(name)
@@ -78,8 +71,7 @@ def section():
         lines += [f"### {title}", "", "| Crate | Has | Stands on |", "|---|---|---|"]
         for name, below in crates:
             shown = f"**`{name}`**" if name.startswith("iceoryx2") or name == "iox_run" else f"`{name}`"
-            has = first_sentence(root_of(name)) + ("" if has_code(name) or name.startswith("iceoryx2") else " *No code that runs.*")
-            lines.append(f"| {shown} | {has} | {', '.join(f'`{it}`' for it in below)} |")
+            lines.append(f"| {shown} | {first_sentence(root_of(name))} | {', '.join(f'`{it}`' for it in below)} |")
             for module in modules(name):
                 lines.append(f"| `{name}::{module}` | {first_sentence(root_of(name).parent / f'{module}.rt')} | |")
         lines.append("")

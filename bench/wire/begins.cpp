@@ -53,7 +53,6 @@ Wire::Wire(const std::vector<PlanPort>& plan, const Limits& limits, u64 nodes)
 Refusal Wire::send_copy(u64 node, u64 number, const u64* payload, u64 count) {
     if (const Refusal no = may_begin(node); no != Refusal::None) return no;
     Node& x = nodes_[node];
-    begins(x, Call::SendCopy, number, payload, count);
     if (number < ports_.size()) {
         Port& client = ports_[number];
         if (const Refusal no = at_port(x, client, Role::Client); no != Refusal::None) return no;
@@ -105,7 +104,6 @@ Refusal Wire::lend(Node& x, Port& port, const u64* payload, u64 count) {
 Refusal Wire::receive(u64 node, u64 number) {
     if (const Refusal no = may_begin(node); no != Refusal::None) return no;
     Node& x = nodes_[node];
-    begins(x, Call::Receive, number);
     if (number < ports_.size()) {
         Port& server = ports_[number];
         if (const Refusal no = at_port(x, server, Role::Server); no != Refusal::None) return no;
@@ -137,7 +135,6 @@ Refusal Wire::visit(Node& x, WayPlace* first, u64 stride, u64 count, const Queue
 Refusal Wire::read(u64 node, u64 number) {
     if (const Refusal no = may_begin(node); no != Refusal::None) return no;
     Node& x = nodes_[node];
-    begins(x, Call::Read, number);
     if (number < ports_.size()) {
         return ports_[number].plan.node == x.number ? Refusal::WrongKind : Refusal::ForeignNumber;
     }
@@ -155,7 +152,6 @@ Refusal Wire::read(u64 node, u64 number) {
 Refusal Wire::release(u64 node, u64 number) {
     if (const Refusal no = may_begin(node); no != Refusal::None) return no;
     Node& x = nodes_[node];
-    begins(x, Call::Release, number);
     if (number < ports_.size()) {
         return ports_[number].plan.node == x.number ? Refusal::WrongKind : Refusal::ForeignNumber;
     }

@@ -19,14 +19,7 @@ struct Came {
     u64 steps, number;
 };
 
-// HELD: the caller of a step holds the node, so that none is looked for.
-#ifdef HELD
-APART Progress one_step(Wire& wire, Node& node) { return wire.step(node); }
-inline Node& stepped(Wire& wire, u64 node) { return wire.node(node); }
-#else
 APART Progress one_step(Wire& wire, u64 node) { return wire.step(node); }
-inline u64 stepped(Wire&, u64 node) { return node; }
-#endif
 APART Refusal one_copy(Wire& wire, u64 node, u64 number, const u64* words, u64 count) {
     return wire.send_copy(node, number, words, count);
 }
@@ -35,9 +28,8 @@ APART Refusal one_read(Wire& wire, u64 node, u64 number) { return wire.read(node
 APART Refusal one_release(Wire& wire, u64 node, u64 number) { return wire.release(node, number); }
 
 inline Came finish(Wire& wire, u64 node) {
-    auto&& held = stepped(wire, node);
     for (u64 steps = 1;; ++steps) {
-        const Progress came = one_step(wire, held);
+        const Progress came = one_step(wire, node);
         if (came.refusal != Refusal::None) return {0, 0};
         if (!came.done) continue;
         if (came.answer > Answer::Handle) return {0, 0};

@@ -2,13 +2,9 @@
 
 namespace wire {
 
-#ifdef HELD
-Progress Wire::step(Node& x) {
-#else
 Progress Wire::step(u64 node) {
     if (node >= nodes_.size()) return {Refusal::UnknownNode};
     Node& x = nodes_[node];
-#endif
     if (!x.alive) return {Refusal::NodeIsDead};
     if (x.place == Place::Rest) return {Refusal::AtRest};
     if (x.accesses >= most_accesses) return {Refusal::AccessesSpent};

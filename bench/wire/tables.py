@@ -1,6 +1,6 @@
 #!/usr/bin/env python3
 """tables.py tables FOLDER: what begins and steps take, from callgrind's files FOLDER/NAME.WIRE.few and .many, NAME being
-ours, clang, g++, clang-DHELD or g++-DHELD (a twin whose caller holds the node). A begin is a call of a function whose name begins with `one_begin`, and a step one of `one_step` or of the
+ours, clang or g++. A begin is a call of a function whose name begins with `one_begin`, and a step one of `one_step` or of the
 wire's own `step`, from a function that is named after the call of the wire. FOLDER/WIRE.counts has of how many exchanges they are.
 tables.py counts ROUNDS: of how many exchanges they are to be, from ROUNDS to four times as many, so that between them no
 list doubles its room. Standard input has the last lines of runs of 64 and of 128: the second and the third word count the
@@ -12,8 +12,8 @@ import re
 import sys
 
 WIRES = ["each limit is 1, one server", "a service's first limits, two servers"]
-# The most instructions that a step of ours may take, of an exchange's steps on average, on each of these wires. On 30
-# November 2026 it took 173.1 and 174.8. Lower them with what makes a step faster; who raises them says why.
+# The most instructions that a step of ours may take, of an exchange's steps on average, on each of these wires. On 28
+# November 2026 it took 173.1 and 174.0. Lower them with what makes a step faster; who raises them says why.
 MOST = [176, 177]
 CALLS = {
     "copies_request": "copy of a request",
@@ -94,12 +94,11 @@ def counts(rounds):
 
 
 def main(folder):
-    names = ("ours", "clang", "g++", "clang-DHELD", "g++-DHELD")
-    told = {(name, wire): exchange(folder, name, wire) for name in names for wire in (0, 1)}
+    told = {(name, wire): exchange(folder, name, wire) for name in ("ours", "clang", "g++") for wire in (0, 1)}
     print("| Wire | what | instructions | C++ by clang | by g++ | ratio to the better |")
     print("|---|---|--:|--:|--:|--:|")
     for wire, label in enumerate(WIRES):
-        sums = {name: total(told[name, wire][0]) for name in names}
+        sums = {name: total(told[name, wire][0]) for name in ("ours", "clang", "g++")}
         begins, _, steps, _ = sums["ours"]
         each = {
             f"a step, of {steps:.0f} in an exchange": lambda s: s[3] / s[2],
@@ -112,8 +111,6 @@ def main(folder):
             print(f"| {label} | {what} | {ours:,.{digits}f} | {clang:,.{digits}f} | {gcc:,.{digits}f} "
                   f"| {ours / min(clang, gcc):.2f} |")
             label = ""
-        clang, gcc = (sums[f"{name}-DHELD"][3] / steps for name in ("clang", "g++"))
-        print(f"|  | a step of the twin, by a caller that holds its node | | {clang:,.1f} | {gcc:,.1f} | |")
     print()
     for wire, label in enumerate(WIRES):
         print(f"Where {label}:\n")

@@ -28,23 +28,11 @@ enum class Answer : std::uint8_t {
     ExceedsMaxBorrows, UnableToDeliver
 };
 
-enum class Call : std::uint8_t { SendCopy, Receive, Read, Release };
-
-// Words of a list, from the first to behind the last.
-struct Span {
-    u64 from, to;
-};
-
-// A finished call of a node: what it named, the words that it brought and read, and how many events came before its begin and its end.
+// What a finished call of a node answered.
 struct Answered {
     u64 node;
-    Call call;
-    u64 called;
-    Span brought;
     Answer answer;
     u64 number;
-    Span read;
-    u64 begun, ended;
 };
 
 // What a step came to: it is refused, the call goes on, or it is over with that reply.
@@ -161,10 +149,6 @@ struct Node {
     // where the words stand, which one is next, and how many there are
     u64 first = 0, next = 0, count = 0;
     std::vector<u64> words, message;
-    // the call, its words, how many events came before it, and the words of the last read that is over
-    Call call = Call::SendCopy;
-    u64 called = 0, begun = 0;
-    std::vector<u64> brought, last;
     // of the servers, which were seen full, and how many of those
     std::vector<bool> fulls;
     u64 seen_full = 0, deliveries = 0;
@@ -177,14 +161,8 @@ class Wire {
     Refusal receive(u64 node, u64 number);
     Refusal read(u64 node, u64 number);
     Refusal release(u64 node, u64 number);
-#ifdef HELD
-    // of a node that its caller holds
-    Progress step(Node& x);
-#else
     Progress step(u64 node);
-#endif
-    Node& node(u64 number) { return nodes_[number]; }
-    const std::vector<u64>& words_read(u64 node) const { return nodes_[node].last; }
+    const std::vector<u64>& words_read(u64 node) const { return nodes_[node].words; }
     const std::vector<Answered>& replies() const { return replies_; }
     const std::vector<Recorded>& events() const { return events_; }
     const std::vector<u64>& words() const { return words_; }
@@ -203,8 +181,6 @@ class Wire {
     u64 clients_ = 0, servers_ = 0;
     std::vector<Node> nodes_;
     std::vector<Answered> replies_;
-    // the words of all replies
-    std::vector<u64> told_;
     std::vector<Recorded> events_;
 
     WayPlace* request_way(const Port& client, const Port& server) {
@@ -232,20 +208,9 @@ class Wire {
     void tell_slot(const Node& x, EventKind kind, const Way& way, u64 slot) {
         tell(x, kind, way, ports_[way.sender].serials[slot]);
     }
-    Span tell_words(const std::vector<u64>& words) {
-        const u64 from = told_.size();
-        for (const u64 word : words) told_.push_back(word);
-        return {from, told_.size()};
-    }
     [[gnu::noinline]] Progress answer(Node& x, Answer told, u64 number = 0) {
         x.place = Place::Rest;
-        const Span brought = tell_words(x.brought);
-        Span read{brought.to, brought.to};
-        if (told == Answer::Words) {
-            read = tell_words(x.words);
-            x.last = x.words;
-        }
-        replies_.push_back({x.number, x.call, x.called, brought, told, number, read, x.begun, events_.size()});
+        replies_.push_back({x.number, told, number});
         return {Refusal::None, true, told, number};
     }
     static Progress go(Node& x, Place place) {
@@ -266,12 +231,6 @@ class Wire {
         if (Entry* e = find(x, number)) x.entries.erase(x.entries.begin() + (e - x.entries.data()));
     }
 
-    void begins(Node& x, Call call, u64 called, const u64* words = nullptr, u64 count = 0) const {
-        x.call = call;
-        x.called = called;
-        x.begun = events_.size();
-        x.brought.assign(words, words + count);
-    }
     Refusal may_begin(u64 node) const {
         if (node >= nodes_.size()) return Refusal::UnknownNode;
         if (!nodes_[node].alive) return Refusal::NodeIsDead;

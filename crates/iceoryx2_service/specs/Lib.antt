@@ -31,7 +31,6 @@ pub use Rattle.iox_configs.specs.Pools
 pub use Rattle.iox_configs.specs.Services as ServiceConfigs
 -- what is registered with a service
 pub use Rattle.iox_registry.specs.Registers
-pub use Rattle.iox_registry.specs.RegisteredPorts
 pub use Rattle.iox_registry.specs.Changes
 pub use Rattle.iox_registry.specs.DynamicConfigs
 pub use Rattle.iox_sets.specs.Refusals as RegistryRefusals

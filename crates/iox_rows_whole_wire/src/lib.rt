@@ -32,8 +32,6 @@ mod lists;
 #[cfg(test)]
 mod on;
 #[cfg(test)]
-mod plan_rows;
-#[cfg(test)]
 mod play;
 #[cfg(test)]
 mod replies;
@@ -69,8 +67,6 @@ mod two_servers;
 mod units;
 #[cfg(test)]
 mod unnamed;
-#[cfg(test)]
-mod unserved;
 #[cfg(test)]
 mod whole_calls;
 #[cfg(test)]

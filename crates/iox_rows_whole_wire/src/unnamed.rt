@@ -110,17 +110,6 @@ fn each_is_shown_by_its_name(rt: HostRuntime) -> Result<(), Fail> {
             WireNewError::UnsuitableAlignment,
             "WireNewError::UnsuitableAlignment",
         ),
-        (WireNewError::LimitOfZero, "WireNewError::LimitOfZero"),
-        (
-            WireNewError::PortsOutOfOrder,
-            "WireNewError::PortsOutOfOrder",
-        ),
-        (WireNewError::TooManyClients, "WireNewError::TooManyClients"),
-        (WireNewError::PoolTooLarge, "WireNewError::PoolTooLarge"),
-        (
-            WireNewError::UnsuitableLength,
-            "WireNewError::UnsuitableLength",
-        ),
     ];
     are_shown(&rt, ROWS)
 }

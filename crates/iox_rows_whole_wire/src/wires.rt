@@ -1,11 +1,14 @@
 //! A wire where each setting is 1, with a client on one node and a server on the other.
 use super::on::{ONES, Play, plays_all};
-use super::plan_rows::{Change, Limit, Part, PlanRows, Row, of_their_plans};
 use super::play::Act;
-use super::settings::{NO_OVERFLOW, OVERFLOW};
+use super::settings::{NO_OVERFLOW, OVERFLOW, Service, plan, terms};
 use super::told::Told;
+use crate::expected::equal;
 use iox_model::kind::Role;
-use iox_wire::{WireNewError, WireRefusal};
+use iox_types::{MessageTypeDetails, TypeDetail, TypeVariant};
+use iox_wire::{WireNewError, WirePlan, WireRefusal, have_layouts, is_plan, is_whole, new_refusal};
+use iox_wire_lenders::WireTerms;
+use std::process::Abort;
 use std::test::Fail;
 
 const WIRE_OF_ONES_HAS_165_WORDS: Play<'static> = Play {
@@ -42,6 +45,164 @@ const BEGIN_IS_REFUSED_BY_WHAT_IT_NAMES: Play<'static> = Play {
     ],
 };
 
+/// A part of a message.
+#[derive(Clone, Copy)]
+enum Part {
+    Header,
+    UserHeader,
+    Payload,
+}
+
+/// What is changed of a plan and its terms.
+#[derive(Clone, Copy)]
+enum Change {
+    /// No port has a slot.
+    Pools,
+    /// Each port has number 0.
+    Numbers,
+    /// The last port has no terms.
+    Terms,
+    /// The queues of responses get no room, and do not overflow.
+    ResponseBuffer,
+    ResponseOverflow,
+    /// So do those of requests.
+    ActiveRequests,
+    RequestOverflow,
+    /// Messages of the port of that number have so many elements at most, for which a slot has so
+    /// many words.
+    Longest(u64, usize, usize),
+    /// That part of the messages of that role has so many bytes, and is aligned so.
+    Part(Role, Part, usize, usize),
+    /// The first handles have that number.
+    FirstNumber(u64),
+}
+
+/// A change, or what holds of a plan and its terms.
+#[derive(Clone, Copy)]
+enum Row {
+    Changes(Change),
+    IsPlan(bool),
+    IsWhole(bool),
+    HaveLayouts(bool),
+    /// It is a plan, and no wire is made of it for that reason, or for none.
+    Refuses(Option<WireNewError>),
+}
+
+/// No port of that plan has a slot.
+fn clear_pools(plan: &mut WirePlan) {
+    for port in &mut plan.ports {
+        port.pool = 0;
+    }
+}
+
+/// Each port of that plan has number 0.
+fn clear_numbers(plan: &mut WirePlan) {
+    for port in &mut plan.ports {
+        port.number = 0;
+    }
+}
+
+/// Messages of the port of that number have so many elements at most, for which a slot has so many
+/// words.
+fn lengthen(plan: &mut WirePlan, number: u64, longest: usize, slot_words: usize) {
+    for port in &mut plan.ports {
+        if port.number == number {
+            port.longest = longest;
+            port.slot_words = slot_words;
+        }
+    }
+}
+
+/// That part of the messages becomes this.
+fn put(details: &mut MessageTypeDetails, part: Part, detail: TypeDetail) {
+    match part {
+        Part::Header => details.header = detail,
+        Part::UserHeader => details.user_header = detail,
+        Part::Payload => details.payload = detail,
+    }
+}
+
+/// Changes that.
+fn changes(plan: &mut WirePlan, terms: &mut WireTerms, change: Change) -> Result<(), Fail> {
+    match change {
+        Change::Pools => clear_pools(plan),
+        Change::Numbers => clear_numbers(plan),
+        Change::Terms => {
+            terms.ports.pop();
+        }
+        Change::ResponseBuffer => plan.limits.response_buffer = 0,
+        Change::ResponseOverflow => plan.limits.response_overflow = false,
+        Change::ActiveRequests => plan.limits.active_requests = 0,
+        Change::RequestOverflow => plan.limits.request_overflow = false,
+        Change::Longest(number, longest, slot_words) => {
+            lengthen(plan, number, longest, slot_words);
+        }
+        Change::Part(role, part, size, alignment) => {
+            let detail = TypeDetail::from_parts(TypeVariant::FixedSize, "P", size, alignment)?;
+            match role {
+                Role::Client => put(&mut plan.request, part, detail),
+                Role::Server => put(&mut plan.response, part, detail),
+            }
+        }
+        Change::FirstNumber(number) => terms.first_number = number,
+    }
+    Ok(())
+}
+
+/// Whether the row says what is so of them.
+fn tells(plan: &WirePlan, terms: &WireTerms, row: Row) -> bool {
+    match row {
+        Row::Changes(_) => true,
+        Row::IsPlan(wanted) => is_plan(plan) == wanted,
+        Row::IsWhole(wanted) => is_whole(plan, terms) == wanted,
+        Row::HaveLayouts(wanted) => have_layouts(plan) == wanted,
+        Row::Refuses(wanted) => is_plan(plan) && new_refusal(plan, terms, &[0, 1]) == wanted,
+    }
+}
+
+/// What is so of the plan of a service.
+struct PlanRows<'a> {
+    /// What a failed test tells.
+    name: &'a str,
+    service: Service,
+    rows: &'a [Row],
+}
+
+/// Ends the test where a row does not tell what is so.
+fn tell(
+    rt: &impl Abort,
+    plan: &mut WirePlan,
+    terms: &mut WireTerms,
+    of: &PlanRows<'_>,
+) -> Result<(), Fail> {
+    for (place, row) in of.rows.iter().enumerate() {
+        if let Row::Changes(change) = *row {
+            changes(plan, terms, change)?;
+        }
+        equal(
+            rt,
+            (of.name, place, tells(plan, terms, *row)),
+            (of.name, place, true),
+        );
+    }
+    Ok(())
+}
+
+/// The same of a new plan.
+fn of_its_plan(rt: &(impl Abort + AllocGlobal), of: &PlanRows<'_>) -> Result<(), Fail> {
+    let mut terms = terms(rt.alloc(), of.service)?;
+    let mut plan = plan(rt.alloc(), of.service)?;
+    tell(rt, &mut plan, &mut terms, of)
+}
+
+/// The same of each of these.
+fn of_their_plans(rt: &(impl Abort + AllocGlobal), list: &[PlanRows<'_>]) -> Result<(), Fail> {
+    for of in list {
+        of_its_plan(rt, of)?;
+    }
+    Ok(())
+}
+
 const PLAN_AND_TERMS_OF_ONES_ARE_WHOLE: PlanRows<'static> = PlanRows {
     name: "plan_and_terms_of_ones_are_whole",
     service: NO_OVERFLOW,
@@ -71,25 +232,20 @@ const TERMS_OF_ONE_PORT_ARE_TOO_FEW: PlanRows<'static> = PlanRows {
 };
 
 /// The queues of responses and then those of requests get no room. That is whole once they do not
-/// overflow. But no service has such a limit, so no wire is made of it.
+/// overflow.
 const QUEUES_THAT_OVERFLOW_WITHOUT_ROOM_ARE_NOT_WHOLE: PlanRows<'static> = PlanRows {
     name: "queues_that_overflow_without_room_are_not_whole",
     service: OVERFLOW,
     rows: &[
         Row::IsWhole(true),
-        Row::Refuses(None),
-        Row::Changes(Change::Limit(Limit::ResponseBuffer, 0)),
+        Row::Changes(Change::ResponseBuffer),
         Row::IsWhole(false),
         Row::Changes(Change::ResponseOverflow),
         Row::IsWhole(true),
-        Row::Refuses(LIMIT_OF_ZERO),
-        Row::Changes(Change::Limit(Limit::ResponseBuffer, 1)),
-        Row::Refuses(None),
-        Row::Changes(Change::Limit(Limit::ActiveRequests, 0)),
+        Row::Changes(Change::ActiveRequests),
         Row::IsWhole(false),
         Row::Changes(Change::RequestOverflow),
         Row::IsWhole(true),
-        Row::Refuses(LIMIT_OF_ZERO),
     ],
 };
 
@@ -107,8 +263,6 @@ const REQUEST_OF_2_TO_THE_63_BYTES_HAS_NO_LAYOUT: PlanRows<'static> = PlanRows {
         Row::HaveLayouts(false),
     ],
 };
-
-const LIMIT_OF_ZERO: Option<WireNewError> = Some(WireNewError::LimitOfZero);
 
 const WRONG_HEADER: Option<WireNewError> = Some(WireNewError::WrongHeader);
 

@@ -13,9 +13,6 @@ pub mod OwnCalls
 pub mod Roomy
 pub mod HandleRooms
 pub mod SuitLemmas
-pub mod PortOrders
-pub mod ServiceStates
-pub mod ServiceLemmas
 pub mod NewRefusals
 pub mod MayLend
 pub mod WireSteps

@@ -1,5 +1,5 @@
 -- What is known of a plan and its terms where no refusal is told: words and numbers are few, and so are the ways that a
--- call visits, nodes and ports are named well, messages suit the wire, and ports and limits fit a service.
+-- call visits, nodes and ports are named well, and messages suit the wire.
 use Rattle.std.specs.Prelude.{zero, suc, nat_le, nat_lt, not, ◌||◌, IsSomeAnd, slice_get, OnOk, Result, Ok, Err}
 use Rattle.std.specs.Option.{IsSome}
 use Rattle.std.specs.List.{All, list_any, sum_by}
@@ -30,11 +30,9 @@ use Rattle.iox_word_places.specs.PortSums.{client_words, region_words}
 use Rattle.iox_wire_weaves.proofs.Planned.{each_planned}
 use Rattle.iox_word_places.proofs.PairLemmas.{one_of}
 use Rattle.iox_word_places.proofs.PlanLemmas.{number_is, there, total_by_each}
-use Rattle.iox_wire.specs.NewRefusals.{AreNamed, FitsService, HaveLayouts, SuitsWire, has_late_port, has_lost_port, has_twice, message_refusal, naming_refusal, new_refusal, service_refusal}
+use Rattle.iox_wire.specs.NewRefusals.{AreNamed, HaveLayouts, SuitsWire, has_late_port, has_lost_port, has_twice, message_refusal, naming_refusal, new_refusal}
 use Rattle.iox_wire.specs.declared.new_error.WireNewError.{WireNewError}
 use Rattle.iox_wire.specs.declared.new_error.WireNewError.TheVariants.{DuplicateNode, NumberTaken, NumbersSpent, TooManyWords, UnknownNode}
-use Rattle.iox_wire.proofs.ServiceLemmas.{all_if, fits_if, not_false}
-use Rattle.iox_wire.proofs.ServiceStates.{neither}
 use Rattle.iox_wire.proofs.SuitLemmas.{suits_if}
 
 -- ---- no refusal
@@ -42,8 +40,7 @@ use Rattle.iox_wire.proofs.SuitLemmas.{suits_if}
 pub few_of_both : (plan : WirePlan) (terms : WireTerms) (nodes : List ℕ) → new_refusal plan terms nodes ≡ None
     → (total_words (sizes_of plan) < 2 ^ 63) × (terms.first_number < 2 ^ 63)
 few_of_both plan terms nodes =
-    by_case (total_words (sizes_of plan)) terms.first_number
-    (or_else (naming_refusal plan terms nodes) (or_else (message_refusal plan) (service_refusal plan terms)))
+    by_case (total_words (sizes_of plan)) terms.first_number (or_else (naming_refusal plan terms nodes) (message_refusal plan))
     (nat_lt (total_words (sizes_of plan)) (2 ^ 63)) (nat_lt terms.first_number (2 ^ 63)) refl refl
   where
     by_case : (words first : ℕ) (rest : Option WireNewError) (a b : Bool) → nat_lt words (2 ^ 63) ≡ a → nat_lt first (2 ^ 63) ≡ b
@@ -52,27 +49,37 @@ few_of_both plan terms nodes =
     by_case words first rest true false few high told = absurd (none-some NumbersSpent (sym told))
     by_case words first rest false b many is told = absurd (none-some TooManyWords (sym told))
 
--- and none is told of names, of messages, and of ports and limits
+-- and none is told of names and of messages
 rest_is_well : (plan : WirePlan) (terms : WireTerms) (nodes : List ℕ) → new_refusal plan terms nodes ≡ None
-    → (naming_refusal plan terms nodes ≡ None) × ((message_refusal plan ≡ None) × (service_refusal plan terms ≡ None))
-rest_is_well plan terms nodes told = (both.0, or_else-none (message_refusal plan) (service_refusal plan terms) both.1)
+    → (naming_refusal plan terms nodes ≡ None) × (message_refusal plan ≡ None)
+rest_is_well plan terms nodes told =
+    or_else-none (naming_refusal plan terms nodes) (message_refusal plan)
+    (by_case (or_else (naming_refusal plan terms nodes) (message_refusal plan)) (nat_lt (total_words (sizes_of plan)) (2 ^ 63)) (nat_lt terms.first_number (2 ^ 63)) told)
   where
     by_case : (rest : Option WireNewError) (a b : Bool) → (if a then (if b then rest else Some NumbersSpent) else Some TooManyWords) ≡ None → rest ≡ None
     by_case rest true true none = none
     by_case rest true false none = absurd (none-some NumbersSpent (sym none))
     by_case rest false b none = absurd (none-some TooManyWords (sym none))
 
-    both : (naming_refusal plan terms nodes ≡ None) × (or_else (message_refusal plan) (service_refusal plan terms) ≡ None)
-    both =
-        or_else-none (naming_refusal plan terms nodes) (or_else (message_refusal plan) (service_refusal plan terms))
-        (by_case (or_else (naming_refusal plan terms nodes) (or_else (message_refusal plan) (service_refusal plan terms)))
-        (nat_lt (total_words (sizes_of plan)) (2 ^ 63)) (nat_lt terms.first_number (2 ^ 63)) told)
-
 -- ---- nodes and ports
+
+neither : (a b : Bool) → (a || b) ≡ false → (a ≡ false) × (b ≡ false)
+neither false false is = (refl, refl)
+neither false true is = absurd (true≢false is)
+neither true b is = absurd (true≢false is)
 
 distinct_if : (ns : List ℕ) → has_twice ns ≡ false → AreDistinct ns
 distinct_if [] once = tt
 distinct_if (n ∷ ns) once = let both = neither (has_number n ns) (has_twice ns) once in (both.0, distinct_if ns both.1)
+
+all_if : {A : Type 0} (P : A → Type 0) (test : A → Bool) → ((x : A) → test x ≡ false → P x) → (xs : List A) → list_any test xs ≡ false → All P xs
+all_if P test holds [] none = All-nil P
+all_if P test holds (x ∷ xs) none =
+    let both = neither (test x) (list_any test xs) none in All-cons P x xs (holds x both.0) (all_if P test holds xs both.1)
+
+not_false : (b : Bool) → not b ≡ false → b ≡ true
+not_false true is = refl
+not_false false is = absurd (true≢false is)
 
 lower : (n m : ℕ) → nat_le n m ≡ false → m < n
 lower n m is = leb-false n m is
@@ -99,11 +106,7 @@ are_named plan terms nodes told = named_if plan terms nodes (rest_is_well plan t
 
 -- and messages suit the wire
 pub suits_wire : (plan : WirePlan) (terms : WireTerms) (nodes : List ℕ) → new_refusal plan terms nodes ≡ None → SuitsWire plan
-suits_wire plan terms nodes told = suits_if plan (rest_is_well plan terms nodes told).1.0
-
--- and ports and limits fit a service
-pub fits_service : (plan : WirePlan) (terms : WireTerms) (nodes : List ℕ) → new_refusal plan terms nodes ≡ None → FitsService plan terms
-fits_service plan terms nodes told = fits_if plan terms (rest_is_well plan terms nodes told).1.1
+suits_wire plan terms nodes told = suits_if plan (rest_is_well plan terms nodes told).1
 
 pub on_ok : {X E A B : Type 0} (result : Result X E) → (A → B) → OnOk result A → OnOk result B
 on_ok (Ok x) leads so = leads so

@@ -1,5 +1,4 @@
--- Messages suit a wire where no refusal is told of them, and where a wire may open. Then no wire is refused for them,
--- nor for ports and limits.
+-- Messages suit a wire where no refusal is told of them, and where a wire may open. Then none is told.
 use Rattle.std.specs.Prelude.{is_some, nat_le, nat_lt, not, ◌||◌}
 use Rattle.std.specs.List.{list_any}
 use Rattle.std.proofs.Common.{◌≡◌, ℕ, ◌*◌, ◌≤◌, ◌^◌, ◌==◌, Bool, true, false, if◌then◌else◌, List, Option, Some, None, refl, ap, sym, ◌∙◌, arith, true≢false, eqb-true, eq-eqb}
@@ -22,20 +21,32 @@ use Rattle.iox_wire_weaves.specs.Tables.{Setting}
 use Rattle.iox_wire_weaves.specs.WirePlan.{WirePlan}
 use Rattle.iox_wire_weaves.specs.WireTerms.{WireTerms}
 use Rattle.iox_wire_weaves.specs.Wires.{WireOpensOn}
-use Rattle.iox_wire.specs.NewRefusals.{AreAlignedToWords, SuitsWire, has_late_port, has_lost_port, has_twice, has_wrong_header, is_unsuitable, message_refusal, new_refusal, service_refusal}
+use Rattle.iox_wire.specs.NewRefusals.{AreAlignedToWords, SuitsWire, has_late_port, has_lost_port, has_twice, has_wrong_header, is_unsuitable, message_refusal, new_refusal}
 use Rattle.iox_wire.specs.declared.new_error.WireNewError.{WireNewError}
-use Rattle.iox_wire.specs.declared.new_error.WireNewError.TheVariants.{DuplicateNode, LimitOfZero, NumberTaken, NumbersSpent, PoolTooLarge, PortsOutOfOrder, TooManyClients, TooManyWords, UnknownNode, UnsuitableAlignment, UnsuitableLength, WantOfMemory, WrongHeader}
-use Rattle.iox_wire.proofs.ServiceLemmas.{both_false, none_if_fits, not_false, opened_fits}
-use Rattle.iox_wire.proofs.ServiceStates.{neither, passed}
+use Rattle.iox_wire.specs.declared.new_error.WireNewError.TheVariants.{DuplicateNode, NumberTaken, NumbersSpent, TooManyWords, UnknownNode, UnsuitableAlignment, WantOfMemory, WrongHeader}
 
 by_role : (P : Role → Type 0) → P Client → P Server → (role : Role) → P role
 by_role P client server Client = client
 by_role P client server Server = server
 
+neither : (a b : Bool) → (a || b) ≡ false → (a ≡ false) × (b ≡ false)
+neither false false is = (refl, refl)
+neither false true is = absurd (true≢false is)
+neither true b is = absurd (true≢false is)
+
+both_false : (a b : Bool) → a ≡ false → b ≡ false → (a || b) ≡ false
+both_false false false is other = refl
+both_false false true is other = absurd (true≢false other)
+both_false true b is other = absurd (true≢false is)
+
 -- ---- where no refusal is told
 
 own_header : (plan : WirePlan) (role : Role) → has_wrong_header plan role ≡ false → (details_of plan role).header.size ≡ 8 * header_length role
 own_header plan role right = eqb-true _ _ (not_false ((details_of plan role).header.size == 8 * header_length role) right)
+  where
+    not_false : (b : Bool) → not b ≡ false → b ≡ true
+    not_false true is = refl
+    not_false false is = absurd (true≢false is)
 
 aligned : (details : MessageTypeDetails) → is_unsuitable details ≡ false → AreAlignedToWords details
 aligned details is =
@@ -62,6 +73,10 @@ suits_if plan = by_case (has_wrong_header plan Client) (has_wrong_header plan Se
     by_case false false false true client server request response told = absurd (none-some UnsuitableAlignment (sym told))
 
 -- ---- where a wire may open
+
+passed : {A : Type 0} (b : Bool) (x : A) → refused_if b x ≡ None → b ≡ false
+passed false x is = refl
+passed true x is = absurd (none-some x (sym is))
 
 -- where none of five refusals applies, the fourth does not
 fourth_of : {A : Type 0} (a b c d e : Option A) → or_else a (or_else b (or_else c (or_else d e))) ≡ None → d ≡ None
@@ -111,38 +126,27 @@ nothing_told plan suits =
     ∙ ap (λ b. if b then Some UnsuitableAlignment else None)
     (both_false (is_unsuitable plan.request) (is_unsuitable plan.response) (is_suitable plan.request (suits.aligned Client)) (is_suitable plan.response (suits.aligned Server)))
 
-neither_told : (a b : Option WireNewError) → a ≡ None → b ≡ None → or_else a b ≡ None
-neither_told None b none other = other
-neither_told (Some x) b none other = none
+-- whether a refusal is one of messages
+abbrev pub is_of_messages : Option WireNewError → Bool
+is_of_messages None = false
+is_of_messages (Some DuplicateNode) = false
+is_of_messages (Some NumberTaken) = false
+is_of_messages (Some NumbersSpent) = false
+is_of_messages (Some TooManyWords) = false
+is_of_messages (Some UnknownNode) = false
+is_of_messages (Some UnsuitableAlignment) = true
+is_of_messages (Some WantOfMemory) = false
+is_of_messages (Some WrongHeader) = true
 
--- whether a refusal is told of messages, or of ports and limits
-abbrev pub is_of_plans : Option WireNewError → Bool
-is_of_plans None = false
-is_of_plans (Some DuplicateNode) = false
-is_of_plans (Some LimitOfZero) = true
-is_of_plans (Some NumberTaken) = false
-is_of_plans (Some NumbersSpent) = false
-is_of_plans (Some PoolTooLarge) = true
-is_of_plans (Some PortsOutOfOrder) = true
-is_of_plans (Some TooManyClients) = true
-is_of_plans (Some TooManyWords) = false
-is_of_plans (Some UnknownNode) = false
-is_of_plans (Some UnsuitableAlignment) = true
-is_of_plans (Some UnsuitableLength) = true
-is_of_plans (Some WantOfMemory) = false
-is_of_plans (Some WrongHeader) = true
-
--- a wire that may open is refused by no such name
+-- a wire that may open is refused by no name of messages
 pub opened_is_not_blamed : (plan : WirePlan) (terms : WireTerms) (nodes : List ℕ) (p : Setting) (s : State) → WireOpensOn plan terms nodes p s
-    → is_of_plans (new_refusal plan terms nodes) ≡ false
+    → is_of_messages (new_refusal plan terms nodes) ≡ false
 opened_is_not_blamed plan terms nodes p s opens =
     by_case (nat_lt (total_words (sizes_of plan)) (2 ^ 63)) (nat_lt terms.first_number (2 ^ 63)) (has_twice nodes) (has_lost_port plan nodes)
-    (has_late_port plan terms.first_number) (or_else (message_refusal plan) (service_refusal plan terms))
-    (neither_told (message_refusal plan) (service_refusal plan terms) (nothing_told plan (opened_suits plan terms nodes p s opens))
-    (none_if_fits plan terms (opened_fits plan terms nodes p s opens)))
+    (has_late_port plan terms.first_number) (message_refusal plan) (nothing_told plan (opened_suits plan terms nodes p s opens))
   where
     by_case : (a b c d e : Bool) (rest : Option WireNewError) → rest ≡ None
-        → is_of_plans
+        → is_of_messages
         (if a then
         (if b then or_else (if c then Some DuplicateNode else (if d then Some UnknownNode else (if e then Some NumberTaken else None))) rest else Some NumbersSpent)
         else Some TooManyWords)
@@ -152,4 +156,4 @@ opened_is_not_blamed plan terms nodes p s opens =
     by_case true true true d e rest none = refl
     by_case true true false true e rest none = refl
     by_case true true false false true rest none = refl
-    by_case true true false false false rest none = ap is_of_plans none
+    by_case true true false false false rest none = ap is_of_messages none

@@ -1,22 +1,19 @@
 -- Why no wire is made of a plan, its terms and a list of nodes, and whether messages have layouts.
-use Rattle.std.specs.Prelude.{◌≡◌, ℕ, ◌*◌, ◌<◌, ◌≤◌, ◌^◌, nat_le, nat_lt, Bool, false, true, not, ◌||◌, ◌==◌, List, [], ◌∷◌, length, take, Option, Some, None, IsSomeAnd, IsTrue, slice_get, if◌then◌else◌, codes}
+use Rattle.std.specs.Prelude.{◌≡◌, ℕ, ◌*◌, ◌<◌, ◌≤◌, ◌^◌, nat_le, nat_lt, Bool, false, true, not, ◌||◌, ◌==◌, List, [], ◌∷◌, length, Option, Some, None, IsSomeAnd, slice_get, if◌then◌else◌, codes}
 use Rattle.std.specs.List.{All, list_any}
 use Rattle.std.specs.Option.{IsSome}
-use Rattle.iox_laws.specs.ServiceLaws.Listings.{are_ascending}
-use Rattle.iox_model.specs.Maps.{AreDistinct, has_number, or_else, refused_if}
-use Rattle.iox_model.specs.Settings.{max_slots}
+use Rattle.iox_model.specs.Maps.{AreDistinct, has_number, or_else}
 use Rattle.iox_model.specs.declared.kind.Role.{Role}
 use Rattle.iox_model.specs.declared.kind.Role.TheVariants.{Client, Server}
 use Rattle.iox_word_map.specs.WordMaps.{total_words}
 use Rattle.iox_types.specs.Layouts.{message_layout}
 use Rattle.iox_types.specs.declared.message_type_details.MessageTypeDetails.{MessageTypeDetails}
-use Rattle.iox_wire_weaves.specs.Plans.{details_of, numbers_of, port_numbers, sizes_of}
+use Rattle.iox_wire_weaves.specs.Plans.{details_of, sizes_of}
 use Rattle.iox_wire_weaves.specs.Stored.{header_length}
-use Rattle.iox_wire_weaves.specs.Terms.{messages_of}
 use Rattle.iox_wire_weaves.specs.WirePlan.{WirePlan}
 use Rattle.iox_wire_weaves.specs.WireTerms.{WireTerms}
 use Rattle.iox_wire.specs.declared.new_error.WireNewError.{WireNewError}
-use Rattle.iox_wire.specs.declared.new_error.WireNewError.TheVariants.{DuplicateNode, LimitOfZero, NumberTaken, NumbersSpent, PoolTooLarge, PortsOutOfOrder, TooManyClients, TooManyWords, UnknownNode, UnsuitableAlignment, UnsuitableLength, WantOfMemory, WrongHeader}
+use Rattle.iox_wire.specs.declared.new_error.WireNewError.TheVariants.{DuplicateNode, NumberTaken, NumbersSpent, TooManyWords, UnknownNode, UnsuitableAlignment, WantOfMemory, WrongHeader}
 
 -- ---- which nodes and numbers there are
 
@@ -76,70 +73,15 @@ message_refusal plan =
     if has_wrong_header plan Client || has_wrong_header plan Server then Some WrongHeader
     else (if is_unsuitable plan.request || is_unsuitable plan.response then Some UnsuitableAlignment else None)
 
--- ---- which ports and limits a service has
-
--- the limits that the plan and the terms tell, but for those of single ports
-abbrev pub told_limits : WirePlan → WireTerms → List ℕ
-told_limits plan terms =
-    plan.limits.active_requests ∷ plan.limits.response_buffer ∷ plan.limits.borrowed_responses ∷ terms.clients
-    ∷ terms.loaned_requests ∷ []
-
--- Each limit is 1 or more, ports come in the order of their numbers, there are no more clients than there may be,
--- pools have no more messages than a pool may have, and where a message has one element no port has longer ones.
-pub record FitsService (plan : WirePlan) (terms : WireTerms) : Type 0 where
-  pub limits : All (λ n. 1 ≤ n) (told_limits plan terms)
-  pub loans : All (λ r. 1 ≤ r.loaned_responses) (take (length plan.ports.items) terms.ports.items)
-  pub order : IsTrue (are_ascending (port_numbers plan))
-  pub clients : length (numbers_of plan Client) ≤ terms.clients
-  pub pools : All (λ q. q.pool ≤ max_slots) plan.ports.items
-  pub lengths : All (λ q. (messages_of terms q.role).many ≡ false → q.longest ≡ 1) plan.ports.items
-
--- whether a port of the plan may have no response on loan
-abbrev pub lends_none : WirePlan → WireTerms → Bool
-lends_none plan terms =
-    list_any (λ r. r.loaned_responses == 0) (take (length plan.ports.items) terms.ports.items)
-
--- whether a limit is 0
-abbrev pub has_limit_of_zero : WirePlan → WireTerms → Bool
-has_limit_of_zero plan terms = has_number 0 (told_limits plan terms) || lends_none plan terms
-
--- whether a port comes behind one of its own number, or of a later one
-abbrev pub is_out_of_order : WirePlan → Bool
-is_out_of_order plan = not (are_ascending (port_numbers plan))
-
--- whether there are more clients than there may be
-abbrev pub has_too_many_clients : WirePlan → WireTerms → Bool
-has_too_many_clients plan terms = nat_lt terms.clients (length (numbers_of plan Client))
-
--- whether a pool has more messages than a pool may have
-abbrev pub has_large_pool : WirePlan → Bool
-has_large_pool plan = list_any (λ q. nat_lt max_slots q.pool) plan.ports.items
-
--- whether a port has messages of another length than 1, where a message has one element
-abbrev pub has_unsuitable_length : WirePlan → WireTerms → Bool
-has_unsuitable_length plan terms =
-    list_any (λ q. not ((messages_of terms q.role).many || (q.longest == 1))) plan.ports.items
-
--- why no service has them, the first reason that applies
-abbrev pub service_refusal : WirePlan → WireTerms → Option WireNewError
-service_refusal plan terms =
-    or_else (refused_if (has_limit_of_zero plan terms) LimitOfZero)
-    (or_else (refused_if (is_out_of_order plan) PortsOutOfOrder)
-    (or_else (refused_if (has_too_many_clients plan terms) TooManyClients)
-    (or_else (refused_if (has_large_pool plan) PoolTooLarge)
-    (refused_if (has_unsuitable_length plan terms) UnsuitableLength))))
-
 -- ---- a wire
 
 -- Whatever memory there is, no wire is made that has 2^63 words or more, none that would number its handles
--- from 2^63 on or later, none whose nodes and ports are not named so, none whose messages do not suit, and none
--- of ports and limits that no service has.
+-- from 2^63 on or later, none whose nodes and ports are not named so, and none whose messages do not suit.
 abbrev pub new_refusal : WirePlan → WireTerms → List ℕ → Option WireNewError
 new_refusal plan terms nodes =
     if nat_lt (total_words (sizes_of plan)) (2 ^ 63)
     then (if nat_lt terms.first_number (2 ^ 63)
-    then or_else (naming_refusal plan terms nodes) (or_else (message_refusal plan) (service_refusal plan terms))
-    else Some NumbersSpent)
+    then or_else (naming_refusal plan terms nodes) (message_refusal plan) else Some NumbersSpent)
     else Some TooManyWords
 
 -- ---- layouts
@@ -163,9 +105,4 @@ new_error_text UnknownNode = codes "WireNewError::UnknownNode"
 new_error_text NumberTaken = codes "WireNewError::NumberTaken"
 new_error_text WrongHeader = codes "WireNewError::WrongHeader"
 new_error_text UnsuitableAlignment = codes "WireNewError::UnsuitableAlignment"
-new_error_text LimitOfZero = codes "WireNewError::LimitOfZero"
-new_error_text PortsOutOfOrder = codes "WireNewError::PortsOutOfOrder"
-new_error_text TooManyClients = codes "WireNewError::TooManyClients"
-new_error_text PoolTooLarge = codes "WireNewError::PoolTooLarge"
-new_error_text UnsuitableLength = codes "WireNewError::UnsuitableLength"
 new_error_text WantOfMemory = codes "WireNewError::WantOfMemory"

@@ -26,7 +26,7 @@ fn product(a: usize, b: Option<usize>) -> Option<usize>
 }
 
 /// How many clients there are.
-pub(crate) fn clients(plan: &WirePlan) -> usize
+fn clients(plan: &WirePlan) -> usize
     ensures { result ≡ length (numbers_of plan.now Client) }
 {
     plan.ports.len() - plan.servers()

@@ -15,13 +15,11 @@ mod new_error;
 mod opening;
 mod reading;
 mod schedule;
-mod serving;
 mod spans;
 mod stored_call;
 mod suiting;
 mod told;
 pub mod uses;
-pub mod uses_plans;
 mod wire;
 
 pub use entry::WireEntry;

@@ -25,19 +25,6 @@ pub enum WireNewError {
     WrongHeader,
     /// A part of a message is aligned to less than a word, 8 bytes.
     UnsuitableAlignment,
-    /// A limit is 0, of the plan, of the terms, or of the terms of a port: no service has such a
-    /// limit, since it raises each to 1.
-    LimitOfZero,
-    /// A port comes behind one of its own number, or of a later one. A service lists its ports in
-    /// the order of their numbers.
-    PortsOutOfOrder,
-    /// The plan has more clients than the terms allow.
-    TooManyClients,
-    /// A port has a pool of more than 2^24 - 2 messages: no service makes such a port.
-    PoolTooLarge,
-    /// A message of a port has another length than 1, though messages of its role have one
-    /// element.
-    UnsuitableLength,
     WantOfMemory,
 }
 
@@ -55,11 +42,6 @@ impl fmt::Display for WireNewError {
             WireNewError::NumberTaken => "WireNewError::NumberTaken",
             WireNewError::WrongHeader => "WireNewError::WrongHeader",
             WireNewError::UnsuitableAlignment => "WireNewError::UnsuitableAlignment",
-            WireNewError::LimitOfZero => "WireNewError::LimitOfZero",
-            WireNewError::PortsOutOfOrder => "WireNewError::PortsOutOfOrder",
-            WireNewError::TooManyClients => "WireNewError::TooManyClients",
-            WireNewError::PoolTooLarge => "WireNewError::PoolTooLarge",
-            WireNewError::UnsuitableLength => "WireNewError::UnsuitableLength",
             WireNewError::WantOfMemory => "WireNewError::WantOfMemory",
         })
     }

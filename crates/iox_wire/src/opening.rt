@@ -17,7 +17,6 @@ use crate::handle_room::handle_room;
 use crate::member::Member;
 use crate::naming::naming_refusal;
 use crate::new_error::WireNewError;
-use crate::serving::service_refusal;
 use crate::suiting::message_refusal;
 use iox_model::kind::Role;
 use iox_wire_openings::open_node;
@@ -163,13 +162,10 @@ fn overflows_with_room(plan: &WirePlan) -> bool
 }
 
 /// Whether the terms fit the plan, each port has a slot, and each queue that overflows has room for
-/// a message. With `is_plan` that tests what `Wire::new` asks of plan and terms, but for the state
-/// of a service on which the wire may `open`. It refuses by name plans that no service has
-/// (`new_refusal`), and `have_layouts` tests that messages have layouts. No function tests the
-/// rest: that the identifiers of a port are a node's and one that is made from it, in the order in
-/// which ports are made; that what a port may need at most, and the bytes of its pool, are fewer
-/// than 2^64; and that some service came to these ports, nodes and numbers. That is for those to
-/// say who have the service.
+/// a message. With `is_plan` that is all that can be tested of what `Wire::new` asks, but that
+/// messages have layouts (`have_layouts`), and what it tests itself (`new_refusal`): that a wire of
+/// both may `open` follows from the service that they were made of, and is for those to say who
+/// have it.
 pub fn is_whole(plan: &WirePlan, terms: &WireTerms) -> bool
     ensures { IsTrue result ↔ AreWhole plan.now terms.now }
 {
@@ -205,9 +201,7 @@ pub fn have_layouts(plan: &WirePlan) -> bool
 /// Why no wire is made of the plan, the terms and these nodes, whatever memory there is. The first
 /// that applies is told: too many words, that numbers are spent, a node that is listed twice, a
 /// port of none of the nodes, a port that has the number of a handle, a header that is not the
-/// wire's own, a part of a message that is aligned to less than a word, a limit of 0, ports that
-/// are out of order, too many clients, a pool that is too large, and messages of another length
-/// than 1 where they have one element.
+/// wire's own, and a part of a message that is aligned to less than a word.
 pub fn new_refusal(plan: &WirePlan, terms: &WireTerms, nodes: &[u64]) -> Option<WireNewError>
     requires { AreDistinct (port_numbers plan.now) }
     ensures { result ≡ new_refusal plan.now terms.now nodes.now }
@@ -224,8 +218,5 @@ pub fn new_refusal(plan: &WirePlan, terms: &WireTerms, nodes: &[u64]) -> Option<
     if let Some(refusal) = naming_refusal(plan, terms, nodes) {
         return Some(refusal);
     }
-    if let Some(refusal) = message_refusal(plan) {
-        return Some(refusal);
-    }
-    service_refusal(plan, terms)
+    message_refusal(plan)
 }

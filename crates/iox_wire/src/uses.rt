@@ -7,12 +7,18 @@ ghost use Rattle.iox_wire_weaves.specs.NodeCall.TheVariants as calls;
 ghost use Rattle.iox_wire.specs.Schedules.{EntriesArePlayed, IsStepped};
 ghost use Rattle.iox_wire.specs.declared.entry.WireEntry.TheVariants.{Begin, Step};
 ghost use Rattle.std.specs.Bool.{OnTrue};
+ghost use Rattle.iox_model.specs.States.{State};
+ghost use Rattle.iox_wire_weaves.specs.Plans.{IsPlan};
+ghost use Rattle.iox_word_map.specs.WordMaps.{total_words};
+ghost use Rattle.iox_wire_weaves.specs.Plans.{sizes_of};
+ghost use Rattle.iox_wire.specs.NewRefusals.{AreNamed, SuitsWire, new_refusal};
+ghost use Rattle.iox_wire.specs.declared.new_error.WireNewError.TheVariants as new_errors;
 ghost use Rattle.iox_wire_weaves.specs.Tables.{Setting};
 ghost use Rattle.iox_wire_weaves.specs.declared.refusal.WireRefusal.TheVariants as refusals;
 ghost use Rattle.iox_wire_weaves.specs.Steps.{DeathIsWoven, MakesOneAccess, StepIsWoven};
 ghost use Rattle.iox_wire_weaves.specs.SettingsStay.{SettingStays};
 ghost use Rattle.iox_wire_weaves.specs.Steps.{KeepsRead, KeepsReads, step_refusal};
-ghost use Rattle.iox_wire_weaves.specs.Wires.{Shows, WireData};
+ghost use Rattle.iox_wire_weaves.specs.Wires.{AreWhole, WireOpensOn, Shows, ShowsOpened, WireData};
 ghost use Rattle.iox_wire_weaves.specs.Wires.{WireNode, living_refusal, node_at};
 ghost use Rattle.iox_wire_weaves.specs.Begins.{is_busy};
 ghost use Rattle.iox_wire_weaves.specs.NodeReply.{NodeReply};
@@ -28,10 +34,135 @@ ghost use Rattle.iox_wire.specs.Replies.{finished_of};
 
 use crate::entry::WireEntry;
 use crate::finished::FinishedCall;
+use crate::new_error::WireNewError;
+use crate::opening::{have_layouts, new_refusal};
 use crate::told::{ToldCall, ToldReply};
 use crate::wire::Wire;
 use iox_steps::Progress;
-use iox_wire_weaves::{HandleCall, NodeCall, NodePayload, NodeReply, WireRefusal};
+use iox_wire_weaves::{
+    HandleCall, NodeCall, NodePayload, NodeReply, WirePlan, WireRefusal, WireTerms,
+};
+use std::alloc::Global;
+
+/// A wire for these nodes that is not too large, and has numbers left, wants nothing but memory.
+pub fn wire_that_fits(
+    alloc: Global,
+    plan: WirePlan,
+    terms: WireTerms,
+    nodes: &[u64],
+) -> Result<Wire, WireNewError>
+    requires plan { IsPlan plan }
+    requires whole { AreWhole plan terms }
+    requires fits { new_refusal plan terms nodes.now ≡ None }
+    requires opens { (p : Setting) × (s : State) × WireOpensOn plan terms nodes.now p s }
+    ensures opened { (p : Setting) → (s : State) → WireOpensOn plan terms nodes.now p s
+        → IfOk result (ShowsOpened p s) }
+    ensures refused { IfErr result (λ error. error ≡ new_errors.WantOfMemory) }
+{
+    Wire::new(alloc, plan, terms, nodes)
+}
+
+/// One of 2^63 words is refused by name, whatever memory there is. No service is asked for.
+pub fn wire_of_too_many_words(
+    alloc: Global,
+    plan: WirePlan,
+    terms: WireTerms,
+    nodes: &[u64],
+) -> Result<Wire, WireNewError>
+    requires plan { IsPlan plan }
+    requires whole { AreWhole plan terms }
+    requires many { total_words (sizes_of plan) ≡ 2 ^ 63 }
+    ensures refused { IfErr result (λ error. error ≡ new_errors.TooManyWords) }
+    ensures always { OnOk result ⊥ }
+{
+    Wire::new(alloc, plan, terms, nodes)
+}
+
+/// So is one that would number its first handles 2^63.
+pub fn wire_without_numbers(
+    alloc: Global,
+    plan: WirePlan,
+    terms: WireTerms,
+    nodes: &[u64],
+) -> Result<Wire, WireNewError>
+    requires plan { IsPlan plan }
+    requires whole { AreWhole plan terms }
+    requires few { total_words (sizes_of plan) ≡ 165 }
+    requires spent { terms.first_number ≡ 2 ^ 63 }
+    ensures refused { IfErr result (λ error. error ≡ new_errors.NumbersSpent) }
+    ensures always { OnOk result ⊥ }
+{
+    Wire::new(alloc, plan, terms, nodes)
+}
+
+/// A node that is listed twice is refused by name.
+pub fn wire_of_a_node_twice(
+    alloc: Global,
+    plan: WirePlan,
+    terms: WireTerms,
+) -> Result<Wire, WireNewError>
+    requires plan { IsPlan plan }
+    requires whole { AreWhole plan terms }
+    requires few { total_words (sizes_of plan) ≡ 165 }
+    requires first { terms.first_number ≡ 2 }
+    ensures refused { IfErr result (λ error. error ≡ new_errors.DuplicateNode) }
+    ensures always { OnOk result ⊥ }
+{
+    Wire::new(alloc, plan, terms, &[0, 0])
+}
+
+/// So are, by some name, nodes and ports that are not named well. No service is asked for.
+pub fn wire_that_is_not_named(
+    alloc: Global,
+    plan: WirePlan,
+    terms: WireTerms,
+    nodes: &[u64],
+) -> Result<Wire, WireNewError>
+    requires plan { IsPlan plan }
+    requires whole { AreWhole plan terms }
+    requires unnamed { AreNamed plan terms nodes.now → ⊥ }
+    ensures always { OnOk result ⊥ }
+{
+    Wire::new(alloc, plan, terms, nodes)
+}
+
+/// So are messages that do not suit a wire.
+pub fn wire_that_messages_do_not_suit(
+    alloc: Global,
+    plan: WirePlan,
+    terms: WireTerms,
+    nodes: &[u64],
+) -> Result<Wire, WireNewError>
+    requires plan { IsPlan plan }
+    requires whole { AreWhole plan terms }
+    requires unsuited { SuitsWire plan → ⊥ }
+    ensures always { OnOk result ⊥ }
+{
+    Wire::new(alloc, plan, terms, nodes)
+}
+
+/// Where a wire may open with a plan, each message has a layout.
+pub fn messages_have_layouts(plan: &WirePlan, terms: &WireTerms, nodes: &[u64]) -> bool
+    requires plan { IsPlan plan.now }
+    requires opens { (p : Setting) × (s : State) × WireOpensOn plan.now terms.now nodes.now p s }
+    ensures { IsTrue result }
+{
+    have_layouts(plan)
+}
+
+/// And no wire is refused for its messages.
+pub fn refusal_where_a_wire_may_open(
+    plan: &WirePlan,
+    terms: &WireTerms,
+    nodes: &[u64],
+) -> Option<WireNewError>
+    requires plan { IsPlan plan.now }
+    requires opens { (p : Setting) × (s : State) × WireOpensOn plan.now terms.now nodes.now p s }
+    ensures header { result ≡ Some new_errors.WrongHeader → ⊥ }
+    ensures alignment { result ≡ Some new_errors.UnsuitableAlignment → ⊥ }
+{
+    new_refusal(plan, terms, nodes)
+}
 
 /// A living node dies: no refusal is left, and what the wire showed continues by that.
 pub fn living_node_dies(wire: &mut Wire, node: u64) -> bool

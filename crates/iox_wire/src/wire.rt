@@ -74,7 +74,7 @@ impl Wire {
     ghost use Rattle.iox_wire_weaves.specs.Steps.{IsOwnAnswer, KeepsRead, step_refusal};
     ghost use Rattle.iox_wire_weaves.specs.Wires.{AreWhole, WireOpensOn, ShowsOpened, living_refusal};
     ghost use Rattle.iox_wire.specs.Kept.{AreOpened, Loses, NodesHaveRoom};
-    ghost use Rattle.iox_wire.specs.NewRefusals.{AreNamed, FitsService, SuitsWire, new_refusal};
+    ghost use Rattle.iox_wire.specs.NewRefusals.{AreNamed, SuitsWire, new_refusal};
     ghost use Rattle.iox_wire.specs.declared.new_error.WireNewError.TheVariants as new_errors;
 
     /// A wire of that plan, with these nodes alive, on which nothing happened yet. Each node has
@@ -98,7 +98,6 @@ impl Wire {
         ensures nodes { IfOk result (λ wire. AreOpened plan nodes.now wire.nodes) }
         ensures named { OnOk result (AreNamed plan terms nodes.now) }
         ensures suited { OnOk result (SuitsWire plan) }
-        ensures served { OnOk result (FitsService plan terms) }
         ensures room { IfOk result (λ wire. NodesHaveRoom plan wire.nodes) }
         ensures allowed { OnOk result (new_refusal plan terms nodes.now ≡ None) }
         ensures refused { IfErr result

@@ -10,7 +10,7 @@ use Rattle.iox_wire.specs.Replies.{FinishedCalls}
 use Rattle.iox_wire.specs.Kept.{AreOpened, StandInOrder}
 use Rattle.iox_wire.proofs.Members.{opened_node}
 use Rattle.iox_wire.proofs.Fresh.{fresh, shown_opened, shows_opened}
-use Rattle.iox_wire.proofs.NewRefusals.{are_named, few_of_both, fits_service, has_header, suits_wire, ways_are_counted, ways_are_told}
+use Rattle.iox_wire.proofs.NewRefusals.{are_named, few_of_both, has_header, suits_wire, ways_are_counted, ways_are_told}
 use Rattle.iox_wire.proofs.Recorded.{events_by}
 use Rattle.iox_wire.proofs.Roomy.{fits_is}
 use Rattle.iox_wire.proofs.wire.Wire.new.Goals as goal
@@ -78,6 +78,3 @@ returns-clause-named c = are_named c.args.plan c.args.terms c.args.nodes.now (sy
 
 pub returns-clause-suited : goal.returns-clause-suited
 returns-clause-suited c = suits_wire c.args.plan c.args.terms c.args.nodes.now (sym c.in_default.ensures)
-
-pub returns-clause-served : goal.returns-clause-served
-returns-clause-served c = fits_service c.args.plan c.args.terms c.args.nodes.now (sym c.in_default.ensures)
