@@ -129,6 +129,7 @@ impl From<ConnectionFailure> for SendError {
 pub enum RequestSendError {
     /// As many requests of the client are awaited as may be: release a pending response first.
     ExceedsMaxActiveRequests,
+    /// No message is loaned for it, or a server that must get it has no room.
     SendError(SendError),
 }
 

@@ -4,6 +4,8 @@
 /// header.
 #[derive(Clone, Copy, Debug, PartialEq, Eq)]
 pub struct Defaults<E, H> {
+    /// What each element holds.
     pub element: E,
+    /// What the user header holds.
     pub user_header: H,
 }

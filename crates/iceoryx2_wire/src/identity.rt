@@ -5,6 +5,8 @@ use iox_names::ServiceName;
 /// and compares neither: who has the service has found it.
 #[derive(Clone, Copy, Debug, PartialEq, Eq)]
 pub struct ServiceIdentity {
+    /// The name of the service. Another service may have the same.
     pub name: ServiceName,
+    /// The number that its creator chose. Another service may have the same.
     pub number: u64,
 }

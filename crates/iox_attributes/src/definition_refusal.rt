@@ -14,7 +14,9 @@ pub enum AttributeDefinitionError {
 /// A builder that took no more, unchanged, and why.
 #[derive(Drop)]
 pub struct DefinitionRefusal<B> {
+    /// The builder as it was before.
     pub builder: B,
+    /// Why it took no more.
     pub error: AttributeDefinitionError,
 }
 

@@ -12,6 +12,7 @@ use iox_words::Words;
 /// `FollowBackpressureStrategy`, 1 for `DiscardData`, and 2 for `DiscardDataAndFail`.
 #[derive(Clone, Copy, Debug, PartialEq, Eq)]
 pub struct Always {
+    /// What it answers, whoever sends and whoever is full.
     pub action: BackpressureAction,
 }
 

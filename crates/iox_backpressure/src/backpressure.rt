@@ -8,7 +8,9 @@ use iox_words::Words;
 /// Whose send met whose full queue: the numbers of the two ports.
 #[derive(Clone, Copy, Debug, PartialEq, Eq)]
 pub struct BackpressureInfo {
+    /// The number of the port that sends.
     pub sender: u64,
+    /// The number of the port whose queue is full.
     pub receiver: u64,
 }
 

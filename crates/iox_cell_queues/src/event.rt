@@ -11,9 +11,13 @@ pub enum CellEvent<T> {
     Publish(T),
     /// the oldest value leaves
     HandOut(T),
+    /// no value waits
     SeesEmpty,
+    /// a value waits
     SeesWaiting,
+    /// as many values wait as may
     SeesFull,
+    /// one more value may wait
     SeesRoom,
     /// the write position is the last one
     SeesEnd,
@@ -22,10 +26,13 @@ pub enum CellEvent<T> {
 /// What a call on a queue answers.
 #[derive(Clone, Copy, Debug, PartialEq, Eq)]
 pub enum CellReply<T> {
-    /// was there room?
+    /// of a push: was there room?
     Pushed(bool),
+    /// of a look at fullness: was it full?
     Full(bool),
+    /// of a pop: the oldest value, if one was there
     Popped(Option<T>),
+    /// of a look at emptiness: was it empty?
     Empty(bool),
 }
 

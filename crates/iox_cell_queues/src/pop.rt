@@ -13,6 +13,7 @@ use iox_words::Words;
 /// Where a pop is of a value of `WIDTH` words.
 #[derive(Clone, Copy)]
 pub enum CellPop<const WIDTH: usize> {
+    /// it reads the read position next
     LoadsRead,
     /// the read position
     LoadsWrite(u64),

@@ -9,16 +9,22 @@ use iox_words::Words;
 /// Where the party is that pushes and looks at fullness.
 #[derive(Clone, Copy)]
 pub enum CellPushing<T> {
+    /// no call is under way
     AtRest,
+    /// inside a push
     Pushes(CellPush<T>),
+    /// inside a look at fullness
     Looks(FullLook),
 }
 
 /// Where the party is that pops values of `WIDTH` words and looks at emptiness.
 #[derive(Clone, Copy)]
 pub enum CellPopping<const WIDTH: usize> {
+    /// no call is under way
     AtRest,
+    /// inside a pop
     Pops(CellPop<WIDTH>),
+    /// inside a look at emptiness
     Looks(EmptyLook),
 }
 

@@ -3,6 +3,7 @@
 /// The words of a queue: from `base` on the write position, the read position and the cells.
 #[derive(Clone, Copy)]
 pub struct CellSite {
+    /// the place of the write position, its first word
     pub base: usize,
     /// how many values may wait, and how many cells there are
     pub capacity: usize,

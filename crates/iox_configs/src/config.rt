@@ -12,7 +12,9 @@ mod patterns;
 /// What all services share, and what each starts from.
 #[derive(Clone, Copy, Debug, PartialEq, Eq)]
 pub struct Config {
+    /// What all services share: where their files lie.
     pub global: Global,
+    /// What the settings of a service are where nobody sets others, by its messaging pattern.
     pub defaults: Defaults,
 }
 

@@ -18,7 +18,7 @@ use Rattle.iox_control.proofs.ChangeLemmas.{changes}
 use Rattle.iox_control.proofs.EntryLemmas.{entry_of, its_own}
 
 -- what is found by its number has it
-number_of : (hs : List Entry) (n : ℕ) (e : Entry) → find (has_that n) hs ≡ Some e → e.number ≡ n
+pub number_of : (hs : List Entry) (n : ℕ) (e : Entry) → find (has_that n) hs ≡ Some e → e.number ≡ n
 number_of [] n e at = absurd (none-some e at)
 number_of (h ∷ hs) n e at = step (h.number == n) refl (number_of hs n e) at
   where

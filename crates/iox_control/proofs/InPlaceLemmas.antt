@@ -1,8 +1,8 @@
 -- A step in the place of a port is the change on the way of its number.
-use Rattle.std.specs.Prelude.{◌≡◌, ℕ, zero, suc, ◌+◌, ◌<◌, Bool, true, false, if◌then◌else◌, ◌||◌, ◌==◌, List, [], ◌∷◌, ◌++◌, map, filter, length, Option, Some, None, slice_get, slice_set, refl}
+use Rattle.std.specs.Prelude.{◌≡◌, ℕ, zero, suc, ◌+◌, ◌<◌, Bool, true, false, if◌then◌else◌, ◌||◌, ◌==◌, List, [], ◌∷◌, ◌++◌, map, filter, length, IfSome, Option, Some, None, slice_get, slice_set, refl}
 use Rattle.std.specs.List.{position_from}
 use Rattle.std.specs.Option.{option_map_or}
-use Rattle.std.proofs.Common.{sym, ap, ◌∙◌, cond}
+use Rattle.std.proofs.Common.{sym, ap, subst, ◌∙◌, cond}
 use Rattle.std.proofs.lemmas.Bool.{or_parts}
 use Rattle.iox_handles.specs.Tables.{Contents}
 use Rattle.iox_model.specs.declared.kind.Role.{Role}
@@ -12,15 +12,19 @@ use Rattle.iox_model.specs.declared.way.Way.{Way}
 use Rattle.iox_model.specs.Maps.{AreDistinct, has_number}
 use Rattle.iox_model.specs.Settings.{same_role}
 use Rattle.iox_laws.proofs.WeaveLaws.MapLemmas.{eqb-refl}
-use Rattle.iox_lanes.specs.Lanes.{LaneState}
-use Rattle.iox_lanes.specs.Pipes.{on_lane}
+use Rattle.iox_lanes.specs.declared.pipe.Next.{Next}
+use Rattle.iox_lanes.specs.Lanes.{LaneState, without_returned}
+use Rattle.iox_lanes.specs.Pipes.{on_lane, with_lane}
 use Rattle.iox_lanes.specs.PipeSteps.{pushed, pushed_out}
 use Rattle.iox_hub_ports.specs.HubStates.Tables.{PoolState, PortState, numbers_of, pipe_from, pipes_of, port_in}
-use Rattle.iox_hub_ports.specs.HubStates.Ways.{lanes_from, states_from, with_lane_on, with_lanes_on, with_states_on}
+use Rattle.iox_hub_ports.specs.HubStates.Ways.{lanes_from, states_from, with_lane_on, with_lanes_on, with_pipe_of, with_states_on}
 use Rattle.iox_hub_ports.specs.HubStates.Wirings.{numbers_of_role}
 use Rattle.iox_hub_ports.specs.InPlace.{AllApart, in_place, on_pipe_from, places_from, places_of, roles_of, with_place, with_places}
-use Rattle.iox_hub_ports.specs.Ports.{PortsState, on_way, place_in, state_from, state_of_way}
+use Rattle.iox_hub_ports.specs.Ports.{PortsState, on_way, place_in, state_from, state_of_way, with_lane_at}
 use Rattle.iox_hub_ports.specs.Ports.{pushed as pushed_on_way, pushed_out as pushed_out_of_way, with_ports as ports_with}
+use Rattle.iox_hub_ports.proofs.HubStates.Keys.{lane_sender}
+use Rattle.iox_hub_ports.proofs.Apart.{apart_in_place, senders_stay}
+use Rattle.iox_hub_ports.proofs.AtPlaces.{changes_at}
 use Rattle.iox_hub_ports.proofs.Finding.{at_place, is_within, place_is_at}
 use Rattle.iox_hub_ports.proofs.Firsts.{lane_there}
 use Rattle.iox_hub_ports.proofs.Hinted.{pushed_alike, pushed_out_alike}
@@ -73,6 +77,16 @@ pub all_apart : (c : ControlState) → IsControl c → AllApart c.tables.ports
 all_apart c o i p there =
     (o.order.wired.each p.number p
     (first_at c.tables.ports i p (front_apart (numbers_of c.tables.ports) (map (λ h. h.number) c.tables.handles) o.order.numbers.apart) there)).apart
+
+-- once a message was got back from the port in a place, that is still so
+pub got_apart : (o : Option Next) (old new : PortsState) (i s : ℕ) → AreDistinct (numbers_of old.ports) → AllApart old.ports
+    → IfSome o (λ n. new ≡ ports_with old (with_lane_at without_returned old.ports i s n.lane)) → (o ≡ None → new ≡ old) → AllApart new.ports
+got_apart None old new i s numbers all got none = subst (λ (ps : PortsState). AllApart ps.ports) (sym (none refl)) all
+got_apart (Some n) old new i s numbers all got none =
+    subst (λ (ps : PortsState). AllApart ps.ports) (sym got)
+    (subst AllApart (changes_at old.ports i s n.lane numbers without_returned)
+    (apart_in_place (λ p. with_pipe_of (λ q. with_lane without_returned q n.lane) p s)
+    (senders_stay (λ q. with_lane without_returned q n.lane) (lane_sender without_returned n.lane) s) old.ports i all))
 
 -- ---- the port that stands in a place
 

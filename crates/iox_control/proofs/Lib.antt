@@ -11,9 +11,11 @@ pub mod HintKept
 pub mod ChangeLemmas
 pub mod RoomLemmas
 pub mod FittingLemmas
+pub mod KnownEntries
 pub mod RemovalLemmas
 pub mod KindLemmas
 pub mod HeldLemmas
 pub mod InPlaceLemmas
 mod Closings
+mod Writes
 pub mod Swaps

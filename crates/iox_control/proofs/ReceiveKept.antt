@@ -1,5 +1,5 @@
 -- A receive of a hub's tables, once its visits are made: what it leaves, and that it is the machine's.
-use Rattle.std.specs.Prelude.{◌≡◌, ℕ, ◌+◌, ◌^◌, ◌≤◌, ◌<◌, List, [], ◌∷◌, ◌++◌, Option, refl}
+use Rattle.std.specs.Prelude.{◌≡◌, ℕ, ◌+◌, ◌-◌, ◌^◌, ◌≤◌, ◌<◌, List, [], ◌∷◌, ◌++◌, Option, refl}
 use Rattle.std.proofs.Common.{◌⊎◌, inl, inr, sym, ap, ap₂, subst, ◌∙◌, arith}
 use Rattle.iox_lanes.specs.declared.incoming.Visits.{Visits}
 use Rattle.iox_lanes.specs.declared.incoming.Visits.TheVariants.{Got, AtLimit, Nothing}
@@ -22,7 +22,8 @@ use Rattle.iox_slots.proofs.CallerLemmas.{hold_differs_in_holders, holders_held,
 use Rattle.iox_control.proofs.RoomLemmas.{room_as, seats_of, visit_seats}
 use Rattle.iox_control.proofs.VisitCounts.{got_one}
 use Rattle.iox_control.specs.Controls.{AreCounted, ControlState, HaveBuffers, IsButHolders, IsControl, with_got, with_tables}
-use Rattle.iox_control.proofs.ReceiveLemmas.{counts_after, counts_stay, has_holders, holders_after_got, holders_after_none, not_own, room_after_got, room_after_none, room_for_one, visits_it}
+use Rattle.iox_control.specs.Receives.{with_rest}
+use Rattle.iox_control.proofs.ReceiveLemmas.{can_hold, counts_after, counts_stay, has_holders, holders_after_got, holders_after_none, not_own, room_after_got, room_after_none, room_for_one, visits_it}
 use Rattle.iox_slots.proofs.BareLemmas.{held_bare}
 
 -- ---- pools that differ in holders
@@ -218,3 +219,35 @@ module _ (c : ControlState) (node n lane : ℕ) (wanted : Wanted) (role : Role) 
   pub nothing_is_received : v ≡ Nothing → KeepsOrder → IsWhole → (new : ControlState)
       → new ≡ with_tables c (with_call (with_visited t n lane wanted)) → IsReceived c node call after (got_reply t v) new
   nothing_is_received at keeps whole new is = none_is_received Nothing at (t.calls + 1) refl refl refl (inr refl) keeps whole new is
+
+-- ---- what is left to do once the visits are made
+
+-- room for ports stays
+pub rest_port_room : (c : ControlState) (node : ℕ) (role : Role) (port : ℕ) (v : Visits) → (with_rest c node role port v).port_room ≡ c.port_room
+rest_port_room c node role port (Got sender pool k) = refl
+rest_port_room c node role port AtLimit = refl
+rest_port_room c node role port Nothing = refl
+
+-- visits change no answer
+pub visited_reply : (t : HubTables) (n lane : ℕ) (wanted : Wanted) (v : Visits) → got_reply (with_visited t n lane wanted) v ≡ got_reply t v
+visited_reply t n lane wanted (Got sender pool k) = refl
+visited_reply t n lane wanted AtLimit = refl
+visited_reply t n lane wanted Nothing = refl
+
+-- what is asked of a message that was got
+module _ (c d : ControlState) (n lane : ℕ) (wanted : Wanted) (v : Visits) (order : IsControl c) (is : v ≡ visits_at c.tables n lane wanted)
+    (left : d ≡ with_tables c (with_visited c.tables n lane wanted)) (sender pool k : ℕ) (got : v ≡ Got sender pool k) where
+  pub rest_room : 0 < d.room
+  rest_room =
+      subst (λ (e : ControlState). 0 < e.room) (sym left)
+      (room_for_one c.tables n lane wanted c.room sender pool k order.room (sym is ∙ got))
+
+  pub rest_taken : 0 < (slot_at d.tables.pools pool k).holders
+  rest_taken =
+      subst (λ (e : ControlState). 0 < (slot_at e.tables.pools pool k).holders) (sym left)
+      (has_holders c.tables n lane wanted sender pool k order.order (sym is ∙ got))
+
+  pub rest_fits : (slot_at d.tables.pools pool k).holders < 2 ^ 64 - 1
+  rest_fits =
+      subst (λ (e : ControlState). (slot_at e.tables.pools pool k).holders < 2 ^ 64 - 1) (sym left)
+      (can_hold c.tables n lane wanted c.room sender pool k order.order order.room order.holders (sym is ∙ got))

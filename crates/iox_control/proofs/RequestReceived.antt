@@ -1,19 +1,24 @@
 -- A server's receive, by what its visits came to.
 use Rattle.std.specs.Prelude.{◌≡◌, ℕ, ◌^◌, ◌<◌}
-use Rattle.std.proofs.Common.{sym, ap, ◌∙◌}
+use Rattle.std.proofs.Common.{sym, ap, subst, ◌∙◌}
 use Rattle.iox_lanes.specs.declared.incoming.Visits.{Visits}
 use Rattle.iox_lanes.specs.declared.incoming.Visits.TheVariants.{Got, AtLimit, Nothing}
 use Rattle.iox_lanes.specs.declared.wanted.Wanted.{Wanted}
+use Rattle.iox_model.specs.Commands.{Reply}
+use Rattle.iox_model.specs.WholeCalls.{IsWholeCall}
 use Rattle.iox_model.specs.declared.call.Call.TheVariants.{Receive}
 use Rattle.iox_model.specs.declared.kind.Role.TheVariants.{Server}
-use Rattle.iox_model.specs.declared.reply.Reply.TheVariants as replies
+use Rattle.iox_hub_ports.specs.HubStates.States.{state_shown}
 use Rattle.iox_hub_ports.specs.HubStates.Wirings.{IsServer}
 use Rattle.iox_hub_ports.specs.HubStates.Ends.{with_call}
 use Rattle.iox_hub_ports.specs.HubStates.Receives.{got_reply, request_reply, visits_at, wanted_by_server, with_request, with_visited}
 use Rattle.iox_hub_ports.proofs.HubBooks.Received.{requests_keep_order}
+use Rattle.iox_control.specs.declared.received.Received.{Received}
 use Rattle.iox_control.specs.Controls.{ControlState, IsControl, with_got, with_tables}
+use Rattle.iox_control.specs.Receives.{ReceivesRequest, with_rest}
+use Rattle.iox_control.specs.Replies.{reply_of_receive}
 use Rattle.iox_control.proofs.WholeLemmas.{request_received}
-use Rattle.iox_control.proofs.ReceiveKept.{IsReceived, IsWhole, KeepsOrder, got_is_received, limit_is_received, nothing_is_received}
+use Rattle.iox_control.proofs.ReceiveKept.{IsReceived, IsWhole, KeepsOrder, got_is_received, limit_is_received, nothing_is_received, rest_port_room, visited_reply}
 
 module _ (c : ControlState) (node n : ℕ) (server : IsServer c.tables node n) (order : IsControl c) (few : c.tables.calls < 2 ^ 56) where
   -- what it wants
@@ -41,13 +46,6 @@ module _ (c : ControlState) (node n : ℕ) (server : IsServer c.tables node n) (
       got_is_received c node n 0 wants Server (Receive n) order few sender pool k (visits w (Got sender pool k) is at) keeps whole new
       (got ∙ ap (λ e. with_got e node Server n pool k) (visited w d is left))
 
-  -- its reply is the new handle's number
-  pub request_got_reply : (w : Wanted) (sender pool k number : ℕ) (d : ControlState) → w ≡ wants → Got sender pool k ≡ visits_at c.tables n 0 w
-      → d ≡ with_tables c (with_visited c.tables n 0 w) → number ≡ d.tables.next_number → request_reply c.tables n ≡ replies.Handle number
-  request_got_reply w sender pool k number d is at left e =
-      ap (λ v. got_reply c.tables v) (visits w (Got sender pool k) is at)
-      ∙ ap (λ m. replies.Handle m) (sym (e ∙ ap (λ (x : ControlState). x.tables.next_number) left))
-
   pub request_other_reply : (w : Wanted) (v : Visits) → w ≡ wants → v ≡ visits_at c.tables n 0 w → request_reply c.tables n ≡ got_reply c.tables v
   request_other_reply w v is at = ap (λ u. got_reply c.tables u) (visits w v is at)
 
@@ -61,3 +59,28 @@ module _ (c : ControlState) (node n : ℕ) (server : IsServer c.tables node n) (
   request_none w d new is at left counted =
       nothing_is_received c node n 0 wants Server (Receive n) order few (visits w Nothing is at) keeps whole new
       (counted ∙ ap (λ e. with_tables e (with_call e.tables)) (visited w d is left))
+
+  -- ---- the whole call
+
+  pub request_done : (w : Wanted) (v : Visits) (d new : ControlState) → w ≡ wants → v ≡ visits_at c.tables n 0 w
+      → d ≡ with_tables c (with_visited c.tables n 0 w) → new ≡ with_rest d node Server n v → IsAnswer new
+  request_done w (Got sender pool k) d new is at left rest = request_got w sender pool k d new is at left rest
+  request_done w AtLimit d new is at left rest = request_limit w new is at (rest ∙ left)
+  request_done w Nothing d new is at left rest = request_none w d new is at left rest
+
+  pub receives_request : (w : Wanted) (v : Visits) (d new : ControlState) (r : Received) → w ≡ wants → v ≡ visits_at c.tables n 0 w
+      → d ≡ with_tables c (with_visited c.tables n 0 w) → new ≡ with_rest d node Server n v → reply_of_receive r ≡ got_reply d.tables v
+      → ReceivesRequest c node n r new
+  receives_request w v d new r is at left rest says = record {
+    reply = reply;
+    left = done.left;
+    order = done.order;
+    port_room = ap (λ (e : ControlState). e.port_room) rest ∙ rest_port_room d node Server n v ∙ ap (λ (e : ControlState). e.port_room) left;
+    whole = λ x. subst (λ (q : Reply). IsWholeCall (state_shown x c.tables) node (Receive n) q (state_shown x new.tables)) (sym reply) (done.whole x);
+  }
+    where
+      done : IsAnswer new
+      done = request_done w v d new is at left rest
+
+      reply : reply_of_receive r ≡ request_reply c.tables n
+      reply = says ∙ ap (λ (e : ControlState). got_reply e.tables v) left ∙ visited_reply c.tables n 0 w v ∙ sym (request_other_reply w v is at)

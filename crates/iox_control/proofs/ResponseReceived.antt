@@ -1,25 +1,31 @@
 -- The receive of a pending response, by what its visits came to.
 use Rattle.std.specs.Prelude.{◌≡◌, ℕ, ◌^◌, ◌<◌, Some}
-use Rattle.std.proofs.Common.{sym, ap, ◌∙◌}
+use Rattle.std.proofs.Common.{sym, ap, subst, ◌∙◌}
+use Rattle.std.proofs.lemmas.Option.{same_Some}
 use Rattle.iox_handles.specs.declared.entry.Entry.{Entry}
 use Rattle.iox_lanes.specs.declared.incoming.Visits.{Visits}
 use Rattle.iox_lanes.specs.declared.incoming.Visits.TheVariants.{Got, AtLimit, Nothing}
 use Rattle.iox_lanes.specs.declared.wanted.Label.{Label}
 use Rattle.iox_lanes.specs.declared.wanted.Wanted.{Wanted}
 use Rattle.iox_lanes.specs.declared.wanted.Wanted.TheVariants.{Of}
+use Rattle.iox_model.specs.Commands.{Reply}
+use Rattle.iox_model.specs.WholeCalls.{IsWholeCall}
 use Rattle.iox_model.specs.declared.call.Call.TheVariants.{Receive}
 use Rattle.iox_model.specs.declared.kind.Role.TheVariants.{Client}
-use Rattle.iox_model.specs.declared.reply.Reply.TheVariants as replies
-use Rattle.iox_hub_ports.specs.HubStates.Tables.{labels_of}
+use Rattle.iox_hub_ports.specs.HubStates.States.{state_shown}
+use Rattle.iox_hub_ports.specs.HubStates.Tables.{HandleState, labels_of}
 use Rattle.iox_hub_ports.specs.HubStates.Wirings.{IsPending, handle_in}
 use Rattle.iox_hub_ports.specs.HubStates.Ends.{with_call}
 use Rattle.iox_hub_ports.specs.HubStates.Receives.{got_reply, response_reply, visits_at, with_response, with_visited}
 use Rattle.iox_hub_ports.proofs.HubBooks.Received.{responses_keep_order}
-use Rattle.iox_control.specs.Controls.{ControlState, IsControl, with_got, with_tables}
+use Rattle.iox_control.specs.declared.received.Received.{Received}
+use Rattle.iox_control.specs.Controls.{ControlState, IsButHolders, IsControl, with_got, with_tables}
+use Rattle.iox_control.specs.Receives.{ReceivesResponse, with_rest}
+use Rattle.iox_control.specs.Replies.{reply_of_receive}
 use Rattle.iox_control.specs.Entries.{handle_state}
 use Rattle.iox_control.proofs.PendingLemmas.{pending_of}
 use Rattle.iox_control.proofs.WholeLemmas.{response_received}
-use Rattle.iox_control.proofs.ReceiveKept.{IsReceived, IsWhole, KeepsOrder, got_is_received, limit_is_received, nothing_is_received}
+use Rattle.iox_control.proofs.ReceiveKept.{IsReceived, IsWhole, KeepsOrder, got_is_received, limit_is_received, nothing_is_received, rest_port_room, visited_reply}
 
 module _ (c : ControlState) (node n : ℕ) (given : IsPending c.tables node n) (order : IsControl c) (few : c.tables.calls < 2 ^ 56) where
   module _ (e : Entry) (found : Some (handle_state e) ≡ handle_in c.tables.handles node n) where
@@ -66,7 +72,28 @@ module _ (c : ControlState) (node n : ℕ) (given : IsPending c.tables node n) (
     pub response_said : (l : Label) (v : Visits) → l ≡ label → v ≡ at_visits l → response_reply c.tables (handle_state e) ≡ got_reply c.tables v
     response_said l v is at = ap (λ u. got_reply c.tables u) (sym (at ∙ ap at_visits is))
 
-    pub response_got_reply : (l : Label) (sender pool k number : ℕ) (d : ControlState) → l ≡ label → Got sender pool k ≡ at_visits l
-        → d ≡ after_visits l → number ≡ d.tables.next_number → response_reply c.tables (handle_state e) ≡ replies.Handle number
-    response_got_reply l sender pool k number d is at left m =
-        response_said l (Got sender pool k) is at ∙ ap (λ j. replies.Handle j) (sym (m ∙ ap (λ (x : ControlState). x.tables.next_number) left))
+    -- ---- the whole call
+
+    pub response_done : (l : Label) (v : Visits) (d new : ControlState) → l ≡ label → v ≡ at_visits l → d ≡ after_visits l
+        → new ≡ with_rest d node Client e.port v → IsAnswer new
+    response_done l (Got sender pool k) d new is at left rest = response_got l sender pool k d new is at left rest
+    response_done l AtLimit d new is at left rest = response_limit l new is at (rest ∙ left)
+    response_done l Nothing d new is at left rest = response_none l d new is at left rest
+
+    pub receives_response : (l : Label) (v : Visits) (d new : ControlState) (r : Received) → l ≡ label → v ≡ at_visits l → d ≡ after_visits l
+        → new ≡ with_rest d node Client e.port v → reply_of_receive r ≡ got_reply d.tables v → ReceivesResponse c node n r new
+    receives_response l v d new r is at left rest says = record {
+      reply = λ h there. reply ∙ ap (response_reply c.tables) (same_Some _ h (found ∙ there));
+      left = λ h there. subst (λ (k : HandleState). IsButHolders (with_response c.tables node k) new.tables) (same_Some _ h (found ∙ there)) done.left;
+      order = done.order;
+      port_room = ap (λ (e' : ControlState). e'.port_room) rest ∙ rest_port_room d node Client e.port v ∙ ap (λ (e' : ControlState). e'.port_room) left;
+      whole = λ x. subst (λ (q : Reply). IsWholeCall (state_shown x c.tables) node (Receive n) q (state_shown x new.tables)) (sym reply) (done.whole x);
+    }
+      where
+        done : IsAnswer new
+        done = response_done l v d new is at left rest
+
+        reply : reply_of_receive r ≡ response_reply c.tables (handle_state e)
+        reply =
+            says ∙ ap (λ (e' : ControlState). got_reply e'.tables v) left ∙ visited_reply c.tables e.port l.lane (Of l.request) v
+            ∙ sym (response_said l v is at)

@@ -4,3 +4,4 @@ pub mod Controls
 pub mod Replies
 pub mod Fittings
 pub mod Removals
+pub mod Receives

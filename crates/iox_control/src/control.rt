@@ -110,6 +110,16 @@ impl Control {
         Some(entry)
     }
 
+    /// The node's handle of that number, which it has, if it is at the hint.
+    #[inline(always)]
+    pub fn near_known(&self, _node: u64, number: u64, hint: usize) -> Option<Entry>
+        requires { is_some (handle_in self.now.tables.handles _node number) ≡ true }
+        ensures { IfSome result (λ entry. Some (handle_state entry)
+            ≡ handle_in self.now.tables.handles _node number) }
+    {
+        self.handles.near_known(number, hint)
+    }
+
     /// The label of the message in that slot.
     #[inline]
     pub fn label(&self, pool: usize, slot: u64) -> Label

@@ -40,9 +40,9 @@ impl Control {
         self.ports.on_pipe_in(at, way.sender, hint, &back)
     }
 
-    /// Gives a request back that the server has, which is in that place, and says whether it had it.
-    /// Its slot stays as it is. Then closes the request of that label with the server, if it is the
-    /// open one. The pipe from the client is looked for at the hint first.
+    /// Gives a request back that the server has, which is in that place, and says whether it had
+    /// it. Its slot stays as it is. Then closes the request of that label with the server, if it
+    /// is the open one. The pipe from the client is looked for at the hint first.
     #[inline(always)]
     pub fn give_back_and_close_in(
         &mut self,
@@ -148,7 +148,7 @@ impl Control {
 
     /// No two ports have one number. It has nothing to do: it is there for its contract.
     #[inline(always)]
-    fn ports_are_apart(&self)
+    pub(crate) fn ports_are_apart(&self)
         ensures { AreDistinct (numbers_of self.now.tables.ports) }
     {
         self.ports.len();

@@ -4,8 +4,14 @@
 mod control;
 mod fitting;
 mod in_places;
+mod known;
+mod known_handles;
+mod known_sends;
 mod lanes;
+mod loans_in_places;
 mod making;
+mod near;
+mod open_steps;
 mod parts;
 mod questions;
 mod received;
@@ -14,6 +20,7 @@ mod removals;
 mod settings;
 mod slots;
 pub mod uses;
+mod usual;
 
 pub use control::Control;
 pub use received::Received;

@@ -7,11 +7,11 @@ ghost use Rattle.iox_hub_ports.specs.HubStates.Wirings.{IsPending, IsServer, han
 ghost use Rattle.iox_model.specs.WholeCalls.{IsWholeCall};
 ghost use Rattle.iox_model.specs.declared.call.Call.TheVariants.{Receive};
 ghost use Rattle.iox_control.specs.Controls.{IsButHolders, IsControl};
-ghost use Rattle.iox_control.specs.Replies.{reply_of_receive};
+ghost use Rattle.iox_control.specs.Receives.{ReceivesRequest, ReceivesResponse};
+ghost use Rattle.iox_control.specs.Replies.{received_as, reply_of_receive};
 
 use crate::control::Control;
-use crate::received::Received;
-use iox_lanes::incoming::Visits;
+use crate::received::{Came, Received};
 use iox_lanes::wanted::Wanted;
 use iox_model::kind::Role;
 
@@ -29,16 +29,11 @@ impl Control {
         ensures whole { (x : Given) → IsWholeCall (state_shown x self.old.tables) node
             (Receive server) (reply_of_receive result) (state_shown x self.new.tables) }
     {
-        let wanted = self.wanted_by_server();
-        let at = self.likely_place(server, hint);
-        match self.visit(server, at, 0, wanted) {
-            Visits::Got(_, pool, slot) => {
-                Received::Handle(self.got(node, Role::Server, server, at, pool, slot))
-            }
-            Visits::AtLimit => Received::AtLimit,
-            Visits::Nothing => {
-                self.count_call();
-                Received::Nothing
+        match self.receive_request_usual(node, server, hint) {
+            Some(received) => received,
+            None => {
+                let came = self.receive_request_far(node, server, hint);
+                self.received_as(came)
             }
         }
     }
@@ -58,18 +53,46 @@ impl Control {
         ensures whole { (x : Given) → IsWholeCall (state_shown x self.old.tables) node
             (Receive number) (reply_of_receive result) (state_shown x self.new.tables) }
     {
+        match self.receive_response_usual(node, number, hint) {
+            Some(received) => received,
+            None => {
+                let came = self.receive_response_far(node, number, hint);
+                self.received_as(came)
+            }
+        }
+    }
+
+    /// Receives a request for that server on any way. It tells no number, so that all that it tells
+    /// is in one register.
+    #[inline(never)]
+    fn receive_request_far(&mut self, node: u64, server: u64, hint: usize) -> Came
+        requires server { IsServer self.old.tables node server }
+        requires order { IsControl self.old }
+        requires calls { self.old.tables.calls < 2 ^ 56 }
+        ensures { ReceivesRequest self.old node server
+            (received_as result self.new.tables.next_number) self.new }
+    {
+        let wanted = self.wanted_by_server();
+        let at = self.likely_place(server, hint);
+        let visits = self.visit(server, at, 0, wanted);
+        self.receive_visited(node, Role::Server, server, at, visits)
+            .came()
+    }
+
+    /// Receives a response for that pending response on any way. It tells no number, either.
+    #[inline(never)]
+    fn receive_response_far(&mut self, node: u64, number: u64, hint: usize) -> Came
+        requires pending { IsPending self.old.tables node number }
+        requires order { IsControl self.old }
+        requires calls { self.old.tables.calls < 2 ^ 56 }
+        ensures { ReceivesResponse self.old node number
+            (received_as result self.new.tables.next_number) self.new }
+    {
         let entry = self.known(node, number, hint);
         let label = self.label_of(entry.pool, entry.slot);
         let at = self.likely_place(entry.port, entry.at as usize);
-        match self.visit(entry.port, at, label.lane, Wanted::Of(label.request)) {
-            Visits::Got(_, pool, slot) => {
-                Received::Handle(self.got(node, Role::Client, entry.port, at, pool, slot))
-            }
-            Visits::AtLimit => Received::AtLimit,
-            Visits::Nothing => {
-                self.count_call();
-                Received::Nothing
-            }
-        }
+        let visits = self.visit(entry.port, at, label.lane, Wanted::Of(label.request));
+        self.receive_visited(node, Role::Client, entry.port, at, visits)
+            .came()
     }
 }

@@ -1,7 +1,7 @@
 -- Handles are counted as the table keeps them.
 use Rattle.std.specs.Prelude.{◌≡◌, ℕ, ◌+◌, ◌*◌, ◌<◌, ◌≤◌, ◌-◌, ◌&&◌, ◌||◌, ◌==◌, nat_le, nat_lt, suc, Bool, true, false, if◌then◌else◌, List, [], ◌∷◌, map, filter, find, length, Option, Some, refl}
 use Rattle.std.specs.List.{list_any, range_with_len}
-use Rattle.std.proofs.Common.{ap, ◌∙◌, sym, arith, true≢false}
+use Rattle.std.proofs.Common.{ap, ap₂, subst, ◌∙◌, sym, arith, true≢false}
 use Rattle.std.proofs.Math.Nat.{le-mul_of_pos_right}
 use Rattle.std.proofs.lemmas.Bool.{lt-ltb}
 use Rattle.iox_model.specs.declared.kind.Kind.{Kind}
@@ -11,8 +11,9 @@ use Rattle.iox_model.specs.Handles.{is_request_loan, is_response_loan, same_kind
 use Rattle.iox_handles.specs.declared.entry.Entry.{Entry}
 use Rattle.iox_handles.specs.Tables.{group_of, is_like}
 use Rattle.iox_tables.specs.HubStates.Tables.{HandleState, HubTables, PoolState, labels_of}
-use Rattle.iox_tables.specs.HubLoans.Counts.{responds_to, responses_on_loan, responses_to}
+use Rattle.iox_tables.specs.HubLoans.Counts.{requests_on_loan, responds_to, responses_on_loan, responses_to}
 use Rattle.iox_control.specs.Entries.{handle_state}
+use Rattle.iox_control_lending.specs.Tests.{has_all_responses}
 
 -- as many pass as show a handle that passes
 pub counted_same : (test : HandleState → Bool) (hs : List Entry)
@@ -76,26 +77,45 @@ counted_as_response kinds.Server p e = absurd (no_pass p e)
 counted_as_response kinds.ActiveRequest p e = absurd (no_pass p e)
 counted_as_response kinds.Response p e = absurd (no_pass p e)
 
-none_of : (test : HandleState → Bool) (like : Entry → Bool) (hs : List Entry) (most : ℕ) → ((e : Entry) → test (handle_state e) ≡ true → like e ≡ true)
-    → length (filter like hs) ≤ most → most ≡ 0 → 0 ≡ length (filter test (map handle_state hs))
-none_of test like hs most all low none =
-    let fewer = fewer_pass (λ e. test (handle_state e)) like hs all in let same = counted_same test hs in omega (arith, fewer, low, none, same)
+no_more_than : (test : HandleState → Bool) (like : Entry → Bool) (hs : List Entry) (most : ℕ) → ((e : Entry) → test (handle_state e) ≡ true → like e ≡ true)
+    → length (filter like hs) ≤ most → length (filter test (map handle_state hs)) ≤ most
+no_more_than test like hs most all low =
+    let fewer = fewer_pass (λ e. test (handle_state e)) like hs all in let same = counted_same test hs in omega (arith, fewer, low, same)
+
+-- no more requests are on loan than are counted
+requests_below : (hs : List Entry) (shown : List HandleState) (port most : ℕ) → map handle_state hs ≡ shown → length (filter (is_like port RequestMut) hs) ≤ most
+    → length (filter (λ h. (h.port == port) && is_request_loan h.kind) shown) ≤ most
+requests_below hs shown port most is low =
+    subst (λ gs. length (filter (λ (h : HandleState). (h.port == port) && is_request_loan h.kind) gs) ≤ most) is
+    (no_more_than (λ (h : HandleState). (h.port == port) && is_request_loan h.kind) (is_like port RequestMut) hs most
+    (λ e. counted_as_request e.kind (e.port == port)) low)
+
+-- no more responses are on loan than are counted
+responses_below : (hs : List Entry) (shown : List HandleState) (port most : ℕ) → map handle_state hs ≡ shown → length (filter (is_like port ResponseMut) hs) ≤ most
+    → length (filter (λ h. (h.port == port) && is_response_loan h.kind) shown) ≤ most
+responses_below hs shown port most is low =
+    subst (λ gs. length (filter (λ (h : HandleState). (h.port == port) && is_response_loan h.kind) gs) ≤ most) is
+    (no_more_than (λ (h : HandleState). (h.port == port) && is_response_loan h.kind) (is_like port ResponseMut) hs most
+    (λ e. counted_as_response e.kind (e.port == port)) low)
 
 -- no request is on loan
 pub no_requests : (hs : List Entry) (shown : List HandleState) (port most : ℕ) → map handle_state hs ≡ shown → length (filter (is_like port RequestMut) hs) ≤ most
     → most ≡ 0 → 0 ≡ length (filter (λ h. (h.port == port) && is_request_loan h.kind) shown)
-no_requests hs shown port most is low none =
-    none_of (λ (h : HandleState). (h.port == port) && is_request_loan h.kind) (is_like port RequestMut) hs most
-    (λ e. counted_as_request e.kind (e.port == port)) low none
-    ∙ ap (λ gs. length (filter (λ (h : HandleState). (h.port == port) && is_request_loan h.kind) gs)) is
+no_requests hs shown port most is low none = let below = requests_below hs shown port most is low in omega (arith, below, none)
 
 -- no response is on loan
 pub no_responses : (hs : List Entry) (shown : List HandleState) (port most : ℕ) → map handle_state hs ≡ shown → length (filter (is_like port ResponseMut) hs) ≤ most
     → most ≡ 0 → 0 ≡ length (filter (λ h. (h.port == port) && is_response_loan h.kind) shown)
-no_responses hs shown port most is low none =
-    none_of (λ (h : HandleState). (h.port == port) && is_response_loan h.kind) (is_like port ResponseMut) hs most
-    (λ e. counted_as_response e.kind (e.port == port)) low none
-    ∙ ap (λ gs. length (filter (λ (h : HandleState). (h.port == port) && is_response_loan h.kind) gs)) is
+no_responses hs shown port most is low none = let below = responses_below hs shown port most is low in omega (arith, below, none)
+
+not_le : (a b : ℕ) → b < a → nat_le a b ≡ false
+not_le a b e = grind (arith, e)
+
+-- where fewer are counted than may be, fewer are on loan
+pub few_requests : (t : HubTables) (hs : List Entry) (port most l : ℕ) → map handle_state hs ≡ t.handles → length (filter (is_like port RequestMut) hs) ≤ most
+    → most < l → false ≡ nat_le l (requests_on_loan t port)
+few_requests t hs port most l is low few =
+    let below = requests_below hs t.handles port most is low in sym (not_le l (requests_on_loan t port) (omega (arith, below, few)))
 
 -- with fewer loans in all than may be to one request there are fewer to that
 pub few_to_one : (t : HubTables) (n client request l m : ℕ) → m ≡ responses_on_loan t n → m < l → false ≡ nat_le l (responses_to t n client request)
@@ -108,9 +128,6 @@ few_to_one t n client request l m is low =
     first_two true true c e = refl
     first_two true false c e = e
     first_two false b c e = e
-
-    not_le : (a b : ℕ) → b < a → nat_le a b ≡ false
-    not_le a b e = grind (arith, e)
 
 -- the handle is a response on loan to that request
 abbrev pub shows_responding : List (Option PoolState) → ℕ → ℕ → ℕ → HandleState → Bool
@@ -145,8 +162,12 @@ search_ends test n i below e =
 pub fewer_than_all : (a b c m : ℕ) → m < a → 0 < b → 0 < c → false ≡ nat_le (a * b * c) m
 fewer_than_all a b c m few some more =
     let one : a ≤ a * b = le-mul_of_pos_right a some in
-    let two : a * b ≤ a * b * c = le-mul_of_pos_right (a * b) more in
-    not_over (a * b * c) m (omega (arith, few, one, two))
-  where
-    not_over : (k n : ℕ) → n < k → false ≡ nat_le k n
-    not_over k n less = grind (arith, less)
+    let two : a * b ≤ a * b * c = le-mul_of_pos_right (a * b) more in sym (not_le (a * b * c) m (omega (arith, few, one, two)))
+
+pub few_responses : (t : HubTables) (hs : List Entry) (port most l : ℕ) → map handle_state hs ≡ t.handles → length (filter (is_like port ResponseMut) hs) ≤ most
+    → most < l → 0 < t.settings.active_requests → 0 < t.settings.clients → (client request : ℕ) → false ≡ has_all_responses t port l client request
+few_responses t hs port most l is low few some more client request =
+    let below = responses_below hs t.handles port most is low in
+    let fewer : responses_on_loan t port < l = omega (arith, below, few) in
+    ap₂ (λ (a b : Bool). a || b) (few_to_one t port client request l (responses_on_loan t port) refl fewer)
+    (fewer_than_all l t.settings.active_requests t.settings.clients (responses_on_loan t port) fewer some more)

@@ -1,10 +1,12 @@
 -- A lender, by what is known about its port.
 use Rattle.std.specs.Prelude.{◌≡◌, ℕ, ◌%◌, ◌^◌, List, None, Option, Some, refl}
 use Rattle.std.specs.Option.{option_map}
-use Rattle.std.proofs.Common.{ap, subst, sym, ◌∙◌}
+use Rattle.std.proofs.Common.{ap, subst, sym, true≢false, ◌∙◌}
 use Rattle.std.proofs.lemmas.Option.{none-some, same_Some}
 use Rattle.iox_handles.specs.declared.entry.Entry.{Entry}
 use Rattle.iox_model.specs.declared.kind.Role.{Role}
+use Rattle.iox_model.specs.declared.kind.Role.TheVariants.{Client, Server}
+use Rattle.iox_model.specs.Settings.{is_client}
 use Rattle.iox_lanes.specs.declared.wanted.Label.{Label}
 use Rattle.iox_tables.specs.HubStates.Tables.{HandleState, HubTables, PortState, labels_of, port_in}
 use Rattle.iox_tables.specs.HubStates.Wirings.{handle_in}
@@ -38,6 +40,9 @@ role_is ports n info role found of = step (port_in ports n) refl found
     step : (o : Option PortState) → port_in ports n ≡ o → Some info ≡ option_map info_of o → info.role ≡ role
     step None at said = absurd (none-some info (sym said))
     step (Some p) at said = ap (λ (i : PortInfo). i.role) (same_Some info (info_of p) said) ∙ of p at
+
+pub not_client : (r : Role) → r ≡ Server → r ≡ Client → ⊥
+not_client r server client = true≢false (sym (ap is_client client) ∙ ap is_client server)
 
 -- what a client's loan is for
 abbrev pub request_of_port : PortInfo → Lending

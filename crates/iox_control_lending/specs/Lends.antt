@@ -1,5 +1,5 @@
 -- What is asked of a loan, and what a loan leaves.
-use Rattle.std.specs.Prelude.{◌≡◌, ℕ, ◌-◌, ◌<◌, Bool, true, not, if◌then◌else◌, List, [], Option, Some, None, find}
+use Rattle.std.specs.Prelude.{◌≡◌, ℕ, ◌-◌, ◌<◌, ◌%◌, ◌^◌, Bool, true, not, if◌then◌else◌, List, [], Option, Some, None, find}
 use Rattle.std.specs.List.{list_all, range_with_len}
 use Rattle.iox_model.specs.declared.kind.Role.{Role}
 use Rattle.iox_model.specs.declared.kind.Role.TheVariants.{Client, Server}
@@ -95,6 +95,10 @@ pub record IsPortOf (t : HubTables) (l : Lending) : Type 0 where
   pub port : PortState
   pub there : port_in t.ports l.port.number ≡ Some port
   pub info : l.port ≡ info_of port
+
+-- the loan of a client is for its next request, whose id is how many loans it made, modulo 2^62
+abbrev pub HasNextId : Lending → Type 0
+HasNextId l = l.port.role ≡ Client → l.request ≡ l.port.loans % 2 ^ 62
 
 -- ---- what a loan leaves
 

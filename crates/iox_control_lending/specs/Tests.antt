@@ -1,5 +1,5 @@
 -- Which handles and slots are counted.
-use Rattle.std.specs.Prelude.{ℕ, Bool, ◌&&◌, ◌||◌, ◌==◌, List, filter, length}
+use Rattle.std.specs.Prelude.{ℕ, ◌*◌, Bool, ◌&&◌, ◌||◌, ◌==◌, nat_le, List, filter, length}
 use Rattle.std.specs.List.{list_any}
 use Rattle.iox_model.specs.declared.kind.Kind.{Kind}
 use Rattle.iox_model.specs.declared.kind.Kind.TheVariants.{PendingResponse}
@@ -7,7 +7,7 @@ use Rattle.iox_model.specs.Handles.{is_request_loan, is_response_loan, same_kind
 use Rattle.iox_handles.specs.declared.entry.Entry.{Entry}
 use Rattle.iox_lanes.specs.Searches.{LabelsByPlace}
 use Rattle.iox_tables.specs.HubStates.Tables.{HubTables, SlotState}
-use Rattle.iox_tables.specs.HubLoans.Counts.{count_in}
+use Rattle.iox_tables.specs.HubLoans.Counts.{count_in, responses_on_loan, responses_to}
 use Rattle.iox_tables.specs.HubLending.Keeping.{has_holder}
 
 -- the handle is a response that the port has on loan, to that request of that client
@@ -39,3 +39,11 @@ held_count slots = length (filter has_holder slots)
 -- somebody has a message of that lane
 abbrev pub is_lane_held : List SlotState → ℕ → Bool
 is_lane_held slots lane = list_any (λ s. has_holder s && (s.lane == lane)) slots
+
+-- the server, which may have so many loans to one request, has as many as it may: to that one, or in
+-- all
+abbrev pub has_all_responses : HubTables → ℕ → ℕ → ℕ → ℕ → Bool
+has_all_responses t server most client request =
+    nat_le most (responses_to t server client request)
+    || nat_le (most * t.settings.active_requests * t.settings.clients)
+    (responses_on_loan t server)

@@ -19,9 +19,13 @@ pub struct Asked {
 /// client takes another lane.
 #[derive(Clone, Copy)]
 pub struct Lending {
+    /// The port that lends.
     pub port: PortInfo,
+    /// The number of the client of the request: that port, or the one that asked.
     pub client: u64,
+    /// The lane of the request; 0 for the loan of a client, which takes a lane of its own.
     pub lane: u64,
+    /// The id of the request.
     pub request: u64,
 }
 
@@ -30,8 +34,9 @@ pub struct Lending {
 pub struct Loaned {
     /// The number of its handle.
     pub number: u64,
-    /// The place of the pool, and the slot there.
+    /// The place of the pool of its message among the pools.
     pub pool: usize,
+    /// The slot of the message in that pool.
     pub slot: u64,
 }
 
@@ -65,7 +70,9 @@ pub enum Lent {
 /// Where the words of a message lie: the place of a pool, and the slot there.
 #[derive(Clone, Copy, Debug, PartialEq, Eq)]
 pub struct Place {
+    /// The place of the pool among the pools.
     pub pool: usize,
+    /// The slot of the message in that pool.
     pub slot: u64,
 }
 

@@ -6,16 +6,16 @@ ghost use Rattle.iox_tables.specs.HubStates.States.{Given, state_shown};
 ghost use Rattle.iox_tables.specs.HubStates.Wirings.{handle_in};
 ghost use Rattle.iox_tables.specs.HubLoans.Lenders.{IsActive, IsClient, lender_of_request, lender_of_response};
 ghost use Rattle.iox_tables.specs.HubLoans.Loans.{loan_call};
-ghost use Rattle.iox_hub_ports.specs.Ports.{info_in};
+ghost use Rattle.iox_hub_ports.specs.Ports.{info_in, place_in};
 ghost use Rattle.iox_control.specs.Controls.{IsControl};
 ghost use Rattle.iox_control.specs.Entries.{handle_state};
-ghost use Rattle.iox_control_lending.specs.Lends.{IsAskedOf, IsPortOf, Lends, given_after, lender_of, reply_of_loan};
+ghost use Rattle.iox_control_lending.specs.Lends.{HasNextId, IsAskedOf, IsPortOf, Lends, given_after, lender_of, reply_of_loan};
 
 use crate::asked::{Asked, Lending, Lent};
 use crate::lend::lend_free;
 use crate::refusals::loan_refusal;
 use iox_control::Control;
-use iox_control_retrieving::retrieve_all_of;
+use iox_control_retrieving::retrieve_all_in;
 use iox_handles::Entry;
 use iox_hub_ports::info::PortInfo;
 use iox_model::kind::Role;
@@ -29,10 +29,38 @@ fn known_as(port: PortInfo, role: Role) -> PortInfo
     PortInfo { role, ..port }
 }
 
+/// The same lender, whose port is in that place. It is read anew, so that it need not be kept while
+/// messages are got back.
+#[inline(always)]
+fn again(control: &Control, lender: &Lending, at: usize) -> Lending
+    requires port { IsPortOf control.now.tables lender.now }
+    requires there { place_in control.now.tables.ports lender.now.port.number ≡ Some at }
+    requires request { HasNextId lender.now }
+    ensures { result ≡ lender.now }
+{
+    let read = PortInfo {
+        number: lender.port.number,
+        role: lender.port.role,
+        ..control.ports().known_at(at)
+    };
+    match lender.port.role {
+        Role::Client => Lending {
+            port: read,
+            request: read.loans % (1 << 62),
+            ..*lender
+        },
+        Role::Server => Lending {
+            port: read,
+            ..*lender
+        },
+    }
+}
+
 /// Lends for that lender, which is looked for at the hint first.
 #[inline(always)]
-fn lend(control: &mut Control, lender: &Lending, at: usize, asked: Asked) -> Lent
+fn lend(control: &mut Control, lender: &Lending, hint: usize, asked: Asked) -> Lent
     requires port { IsPortOf control.old.tables lender.now }
+    requires request { HasNextId lender.now }
     requires order { IsControl control.old }
     ensures left { (p : PortState)
         → port_in control.old.tables.ports lender.now.port.number ≡ Some p
@@ -42,8 +70,10 @@ fn lend(control: &mut Control, lender: &Lending, at: usize, asked: Asked) -> Len
     if let Some(refusal) = loan_refusal(control, *lender, asked) {
         return Lent::Refused(refusal);
     }
-    retrieve_all_of(control, &lender.port);
-    match lend_free(control, lender, at, asked) {
+    let at = control.ports().known_place(lender.port.number, hint);
+    retrieve_all_in(control, &lender.port, at);
+    let known = again(control, lender, at);
+    match lend_free(control, &known, at, asked) {
         Some(loaned) => Lent::Handle(loaned),
         None => Lent::OutOfMemory,
     }

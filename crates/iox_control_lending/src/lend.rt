@@ -4,7 +4,7 @@ ghost use Rattle.std.specs.List.{list_all};
 ghost use Rattle.std.specs.Option.{option_map_or};
 ghost use Rattle.iox_model.specs.Loans.{kind_of_loan};
 ghost use Rattle.iox_tables.specs.HubStates.Tables.{PortState, port_in, slots_of};
-ghost use Rattle.iox_hub_ports.specs.Ports.{info_of};
+ghost use Rattle.iox_hub_ports.specs.Ports.{info_of, place_in};
 ghost use Rattle.iox_tables.specs.HubLoans.Loans.{loaned_handle};
 ghost use Rattle.iox_tables.specs.HubLending.Keeping.{has_holder};
 ghost use Rattle.iox_control.specs.Controls.{IsControl};
@@ -38,7 +38,7 @@ fn loan_kind(role: Role, uninit: bool) -> Kind
     }
 }
 
-/// The handle of a loan in that slot, whose port is looked for at the hint first.
+/// The handle of a loan in that slot, whose port is likely in that place.
 #[inline(always)]
 fn loan_entry(control: &Control, lender: &Lending, at: usize, uninit: bool, slot: u64) -> Entry
     ensures number { result.number ≡ control.now.tables.next_number }
@@ -58,9 +58,11 @@ fn loan_entry(control: &Control, lender: &Lending, at: usize, uninit: bool, slot
     }
 }
 
-/// The loan in that slot is handed out; it answers the number of its handle.
+/// The loan in that slot is handed out, whose port is in that place; it answers the number of its
+/// handle.
 #[inline(always)]
 fn hand_out(control: &mut Control, lender: &Lending, at: usize, uninit: bool, slot: u64) -> u64
+    requires there { place_in control.old.tables.ports lender.now.port.number ≡ Some at }
     requires room { 0 < control.old.room }
     requires number { control.old.tables.next_number + 1 < 2 ^ 64 }
     requires calls { control.old.tables.calls + 1 < 2 ^ 64 }
@@ -71,14 +73,14 @@ fn hand_out(control: &mut Control, lender: &Lending, at: usize, uninit: bool, sl
         → control.new ≡ with_handed control.old (lender_of p lender.now) uninit slot }
 {
     let entry = loan_entry(control, lender, at, uninit, slot);
-    control.count_loan(lender.port.number, at);
+    control.count_loan_in(at, lender.port.number);
     control.add_handle(entry);
     control.count_call();
     entry.number
 }
 
-/// The loan is made in a slot that nobody has. It is `None` where there is none, and then nothing
-/// changes.
+/// The loan of a port in that place is made in a slot that nobody has. It is `None` where there is
+/// none, and then nothing changes.
 #[inline(always)]
 pub(crate) fn lend_free(
     control: &mut Control,
@@ -87,6 +89,7 @@ pub(crate) fn lend_free(
     asked: Asked,
 ) -> Option<Loaned>
     requires port { IsPortOf control.old.tables lender.now }
+    requires there { place_in control.old.tables.ports lender.now.port.number ≡ Some at }
     requires order { IsControl control.old }
     requires calls { control.old.tables.calls < 2 ^ 56 }
     ensures unchanged { result ≡ None → control.new ≡ control.old }

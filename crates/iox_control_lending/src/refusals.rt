@@ -1,5 +1,5 @@
 //! Why a loan is not made, but for the pool.
-ghost use Rattle.std.specs.Prelude.{◌≡◌, ◌*◌, ◌<◌, ◌^◌, ◌||◌, None, nat_le};
+ghost use Rattle.std.specs.Prelude.{◌≡◌, ◌*◌, ◌<◌, ◌^◌, None, nat_le};
 ghost use Rattle.std.specs.Option.{option_map};
 ghost use Rattle.iox_model.specs.declared.reply.Refusal.TheVariants.{ExceedsMaxLoans};
 ghost use Rattle.iox_model.specs.Maps.{refused_if};
@@ -9,12 +9,13 @@ ghost use Rattle.iox_hub_ports.specs.Ports.{info_of};
 ghost use Rattle.iox_tables.specs.HubLoans.Counts.{requests_on_loan, responses_on_loan, responses_to};
 ghost use Rattle.iox_tables.specs.HubLoans.Lenders.{count_refusal_by, size_refusal};
 ghost use Rattle.iox_control_lending.specs.Lends.{IsAskedOf, IsLoanRefusal, lender_of, refusal_of};
+ghost use Rattle.iox_control_lending.specs.Tests.{has_all_responses};
 
 use crate::asked::{Asked, Lending, LoanRefusal};
 use crate::counts::{requests_on_loan, responses_on_loan, responses_to};
 use iox_control::Control;
 use iox_hub_ports::info::PortInfo;
-use iox_model::kind::Role;
+use iox_model::kind::{Kind, Role};
 
 /// Whether so many are as many as the product, or more. Where they are fewer than its first factor,
 /// nothing is multiplied.
@@ -53,51 +54,84 @@ fn size_refusal(port: &PortInfo, asked: Asked) -> Option<LoanRefusal>
     Some(LoanRefusal::ExceedsMaxLoanSize)
 }
 
-/// Whether the client has as many loans as it may.
-#[inline(always)]
-fn has_all_requests(control: &Control, client: u64) -> bool
+/// Whether the client has as many loans as it may, by a count. A call of its own, so that the other
+/// is short.
+#[cold]
+#[inline(never)]
+fn counts_all_requests(control: &Control, client: u64) -> bool
     ensures { result ≡ nat_le control.now.tables.settings.loaned_requests
         (requests_on_loan control.now.tables client) }
 {
     control.settings().loaned_requests <= requests_on_loan(control, client)
 }
 
-/// Whether the server, with so many loans in all, has as many as it may to that request.
-#[tactic(auto, using(crate::proofs::CountLemmas::few_to_one))]
-fn has_all_to_one(control: &Control, lender: &Lending, in_all: u64) -> bool
-    requires { in_all ≡ responses_on_loan control.now.tables lender.now.port.number }
-    ensures { result ≡ nat_le lender.now.port.loaned_responses
-        (responses_to control.now.tables lender.now.port.number lender.now.client
-        lender.now.request) }
+/// Whether the client has as many loans as it may.
+#[inline(always)]
+fn has_all_requests(control: &Control, client: u64) -> bool
+    ensures { result ≡ nat_le control.now.tables.settings.loaned_requests
+        (requests_on_loan control.now.tables client) }
 {
-    let port = &lender.port;
-    if in_all < port.loaned_responses {
+    let most = control.settings().loaned_requests;
+    if control.handles().at_most(client, Kind::RequestMut) < most {
         return false;
     }
-    let to_one = responses_to(control, port.number, lender.client, lender.request) as u64;
-    port.loaned_responses <= to_one
+    counts_all_requests(control, client)
+}
+
+/// Whether the server, with so many loans in all, has as many as it may to that request.
+#[tactic(auto, using(crate::proofs::CountLemmas::few_to_one))]
+fn has_all_to_one(
+    control: &Control,
+    server: u64,
+    most: u64,
+    client: u64,
+    request: u64,
+    in_all: u64,
+) -> bool
+    requires { in_all ≡ responses_on_loan control.now.tables server }
+    ensures { result ≡ nat_le most (responses_to control.now.tables server client request) }
+{
+    if in_all < most {
+        return false;
+    }
+    let to_one = responses_to(control, server, client, request) as u64;
+    most <= to_one
+}
+
+/// Whether the server, which may have so many loans to one request, has as many as it may to that
+/// request or in all, by a count. A call of its own, so that the other is short.
+#[cold]
+#[inline(never)]
+fn counts_all_responses(
+    control: &Control,
+    server: u64,
+    most: u64,
+    client: u64,
+    request: u64,
+) -> bool
+    ensures { result ≡ has_all_responses control.now.tables server most client request }
+{
+    let in_all = responses_on_loan(control, server) as u64;
+    let settings = control.settings();
+    let (active, clients) = (settings.active_requests as u64, settings.clients);
+    has_all_to_one(control, server, most, client, request, in_all)
+        || reaches(in_all, most, active, clients)
 }
 
 /// Whether the server has as many loans as it may, to that request or in all.
 #[inline(always)]
 fn has_all_responses(control: &Control, lender: &Lending) -> bool
-    ensures { result ≡ (nat_le lender.now.port.loaned_responses
-        (responses_to control.now.tables lender.now.port.number lender.now.client
-        lender.now.request)
-        || nat_le (lender.now.port.loaned_responses * control.now.tables.settings.active_requests
-        * control.now.tables.settings.clients)
-        (responses_on_loan control.now.tables lender.now.port.number)) }
+    ensures { result ≡ has_all_responses control.now.tables lender.now.port.number
+        lender.now.port.loaned_responses lender.now.client lender.now.request }
 {
     let port = &lender.port;
-    let in_all = responses_on_loan(control, port.number) as u64;
+    let most = port.loaned_responses;
     let settings = control.settings();
-    has_all_to_one(control, lender, in_all)
-        || reaches(
-            in_all,
-            port.loaned_responses,
-            settings.active_requests as u64,
-            settings.clients,
-        )
+    let in_all = control.handles().at_most(port.number, Kind::ResponseMut) as u64;
+    if in_all < most && settings.active_requests > 0 && settings.clients > 0 {
+        return false;
+    }
+    counts_all_responses(control, port.number, most, lender.client, lender.request)
 }
 
 /// Whether the lender has as many loans as it may.

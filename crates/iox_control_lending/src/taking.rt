@@ -13,6 +13,7 @@ use iox_model::kind::Role;
 
 /// One has a slot of the client's pool that nobody had, with a request on the lowest lane that is
 /// free. It is `None` where somebody has each slot, and then nothing changes.
+#[cold]
 #[inline(never)]
 fn take_beside(
     control: &mut Control,
@@ -58,10 +59,8 @@ fn take_on_lowest(
     ensures full { result ≡ None → free_count control.old.tables.pools pool ≡ 0 }
     ensures unchanged { result ≡ None → control.new ≡ control.old }
 {
-    if size > 0 {
-        if let Some(slot) = control.take_first(pool, serial, 0, request, elements) {
-            return Some(slot);
-        }
+    if let Some(slot) = control.take_first(pool, serial, 0, request, elements) {
+        return Some(slot);
     }
     take_beside(control, client, pool, size, serial, request, elements)
 }

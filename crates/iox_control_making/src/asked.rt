@@ -7,11 +7,13 @@ use iox_types::backpressure::BackpressureStrategy;
 pub struct Asked {
     /// Whether it is too large; then nothing else is looked at.
     pub large: bool,
-    /// How many messages it has, and the greatest length of one.
+    /// How many messages it has.
     pub size: usize,
+    /// The greatest length of a message, in elements.
     pub longest: u64,
-    /// Whether its messages grow past that.
+    /// Whether its messages grow past that length.
     pub grows: bool,
+    /// What a send does at a full receiver, unless a handler decides.
     pub strategy: BackpressureStrategy,
     /// How many loans one request may have.
     pub loaned_responses: u64,

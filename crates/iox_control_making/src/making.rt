@@ -26,7 +26,9 @@ use std::alloc::{AllocError, Global};
 /// A new port, and the pipes from it.
 #[derive(Drop)]
 pub struct Parts {
+    /// The port, with what comes to it.
     pub port: Port,
+    /// The pipes that lead from it, one to each connected port of the other role.
     pub links: Vec<Link>,
 }
 

@@ -21,7 +21,9 @@ use std::alloc::{AllocError, Global};
 /// A pipe from a new port, and the number of the port to which it leads.
 #[derive(Drop)]
 pub struct Link {
+    /// The number of the port to which it leads.
     pub to: u64,
+    /// The pipe itself, which that port keeps.
     pub pipe: Pipe,
 }
 

@@ -11,11 +11,17 @@ use iox_model::kind::Role;
 /// the pipes have that lead to them from ports that are gone.
 #[derive(Clone, Copy)]
 pub struct Sizes {
+    /// How many clients are connected.
     pub clients: usize,
+    /// How many servers are connected.
     pub servers: usize,
+    /// How many messages the clients have together.
     pub client_messages: usize,
+    /// How many messages the servers have together.
     pub server_messages: usize,
+    /// How many lanes the pipes have together that clients keep of servers that are gone.
     pub client_kept: usize,
+    /// How many lanes the pipes have together that servers keep of clients that are gone.
     pub server_kept: usize,
 }
 

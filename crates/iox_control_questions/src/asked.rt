@@ -10,29 +10,44 @@ use iox_model::kind::{Kind, Role};
 /// What a call asks, whatever its number and its words.
 #[derive(Clone, Copy, Debug, PartialEq, Eq)]
 pub enum Asked {
+    /// To loan a message that holds the default.
     Loan,
+    /// To loan a message of which nothing is filled.
     LoanUninit,
     /// To write a payload of messages that ports of that role send.
     Write(Role),
+    /// To send a filled loan.
     Send,
     /// To loan, write and send such a payload.
     SendCopy(Role),
+    /// To receive the oldest message of a sender that has one.
     Receive,
+    /// To read what the message of a handle carries.
     Read,
+    /// To give up a port or a handle.
     Release,
+    /// Whether a request is still open.
     IsConnected,
+    /// To say that no more responses are wanted.
     SetHint,
+    /// Whether the client wants no more responses.
     HasHint,
+    /// Whether a request waits for a server.
     HasRequests,
+    /// Whether a response waits for a pending response.
     HasResponse,
 }
 
 /// Why a call is not begun. The first that applies is told.
 #[derive(Clone, Copy, Debug, PartialEq, Eq)]
 pub enum NotBegun {
+    /// No port or handle has that number, or not any more.
     UnknownNumber,
+    /// The port or handle of that number is another node's.
     ForeignNumber,
+    /// It may not be asked of such a port or handle.
     WrongKind,
+    /// It is counted, and as many calls as may be were counted.
     CallsSpent,
 }
 

@@ -16,3 +16,4 @@ pub mod Removing
 pub mod StillThere
 pub mod Upped
 pub mod HeldStays
+pub mod UsualEnds

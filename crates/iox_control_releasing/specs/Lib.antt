@@ -2,3 +2,4 @@ pub mod LettingGo
 pub mod Goings
 pub mod Named
 pub mod Endings
+pub mod Ends

@@ -2,7 +2,7 @@
 ghost use Rattle.std.specs.Prelude.{◌≡◌, ◌<◌, IfSome, None, Some, false, is_some, option_map, true};
 ghost use Rattle.std.specs.Option.{option_and_then, option_map_or};
 ghost use Rattle.iox_tables.specs.HubStates.States.{Given, state_shown};
-ghost use Rattle.iox_tables.specs.HubStates.Tables.{PortState, labels_of, owner_of, port_in, slot_at};
+ghost use Rattle.iox_tables.specs.HubStates.Tables.{PortState, port_in, slot_at};
 ghost use Rattle.iox_tables.specs.HubStates.Wirings.{handle_in};
 ghost use Rattle.iox_tables.specs.HubMaking.Disconnections.{with_released};
 ghost use Rattle.iox_model.specs.WholeCalls.{IsWholeCall};
@@ -16,30 +16,21 @@ ghost use Rattle.iox_control.specs.Controls.{IsControl, with_pools, with_tables}
 ghost use Rattle.iox_control.specs.Entries.{handle_state};
 ghost use Rattle.iox_control.specs.Removals.{if_still};
 ghost use Rattle.iox_control_releasing.specs.Endings.{given_up_as, given_up_with, with_ended};
+ghost use Rattle.iox_control_releasing.specs.Ends.{HasEnded};
 ghost use Rattle.iox_control_releasing.specs.Goings.{ArePoolsThere, KeptPools, NoLeftPool, StaysTidy};
 
-use crate::ending::Ending;
+use crate::ending::{Ended, Ending};
 use crate::leaving::leave;
 use crate::unused::may_go;
+use crate::usual::{end_usual, hint_of};
 use iox_control::Control;
 use iox_handles::Entry;
-use iox_hub_ports::ports::Ports;
 use iox_model::kind::Kind;
 use iox_model::way::Way;
 use iox_slots::Left;
 
-/// Where the pipes from the port that is likely in that place likely stand among those that lead to
-/// others.
-#[inline(always)]
-fn hint_of(ports: &Ports, place: usize) -> usize {
-    if place < ports.len() {
-        return ports.rank(place);
-    }
-    0
-}
-
-/// Gives a received message back of which this is known, and closes a request whose pending response
-/// or active request it was. The handle's port is in that place.
+/// Gives a received message back of which this is known, and closes a request whose pending
+/// response or active request it was. The handle's port is in that place.
 #[inline(always)]
 fn give_up(control: &mut Control, entry: Entry, at: usize, left: Left)
     requires there { place_in control.old.tables.ports entry.port ≡ Some at }
@@ -74,9 +65,9 @@ fn give_up(control: &mut Control, entry: Entry, at: usize, left: Left)
     }
 }
 
-/// Ends a handle that was removed: nobody has its message by it, and its port stays, which is looked
-/// for once. It says whether something may go: the port's own value is not there, or nobody has a
-/// message of the pool.
+/// Ends a handle that was removed: nobody has its message by it, and its port stays, which is
+/// looked for once. It says whether something may go: the port's own value is not there, or nobody
+/// has a message of the pool.
 #[inline(always)]
 fn end_removed(control: &mut Control, entry: Entry) -> bool
     requires taken { 0 < (slot_at control.old.tables.pools entry.pool entry.slot).holders }
@@ -95,6 +86,60 @@ fn end_removed(control: &mut Control, entry: Entry) -> bool
     let goes = may_go(ports, at, left.idle);
     give_up(control, entry, at, left);
     goes
+}
+
+/// Ends the node's handle of that number, if it is of that kind, or a loan that was filled meanwhile.
+/// It is looked for once, at the hint first. Its port stays. It is a call of its own, so that what is
+/// usual is short.
+#[inline(never)]
+fn end_far(control: &mut Control, node: u64, number: u64, kind: Kind, hint: usize) -> Option<Ended>
+    requires order { IsControl control.old }
+    ensures told { option_map (λ r. handle_state r.entry) result
+        ≡ option_and_then (if_still kind) (handle_in control.old.tables.handles node number) }
+    ensures ended { IfSome result (λ r. HasEnded control.old node number kind r.goes control.new
+        (handle_state r.entry)) }
+    ensures unchanged { result ≡ None → control.new ≡ control.old }
+{
+    let entry = control.remove_still(node, number, kind, hint)?;
+    let goes = end_removed(control, entry);
+    Some(Ended { entry, goes })
+}
+
+/// The same, where it is not known to be usual. What the call tells is put together anew, so that it
+/// stays in registers on the usual way.
+#[inline(always)]
+fn end_other(
+    control: &mut Control,
+    node: u64,
+    number: u64,
+    kind: Kind,
+    hint: usize,
+) -> Option<Ended>
+    requires order { IsControl control.old }
+    ensures told { option_map (λ r. handle_state r.entry) result
+        ≡ option_and_then (if_still kind) (handle_in control.old.tables.handles node number) }
+    ensures ended { IfSome result (λ r. HasEnded control.old node number kind r.goes control.new
+        (handle_state r.entry)) }
+    ensures unchanged { result ≡ None → control.new ≡ control.old }
+{
+    let Ended { entry, goes } = end_far(control, node, number, kind, hint)?;
+    Some(Ended { entry, goes })
+}
+
+/// The same. What is usual is tried first.
+#[inline(always)]
+fn end(control: &mut Control, node: u64, number: u64, kind: Kind, hint: usize) -> Option<Ended>
+    requires order { IsControl control.old }
+    ensures told { option_map (λ r. handle_state r.entry) result
+        ≡ option_and_then (if_still kind) (handle_in control.old.tables.handles node number) }
+    ensures ended { IfSome result (λ r. HasEnded control.old node number kind r.goes control.new
+        (handle_state r.entry)) }
+    ensures unchanged { result ≡ None → control.new ≡ control.old }
+{
+    match end_usual(control, node, number, kind, hint) {
+        Some(entry) => Some(Ended { entry, goes: false }),
+        None => end_other(control, node, number, kind, hint),
+    }
 }
 
 /// Releases the node's handle of that number, if it is of that kind, or a loan that was filled
@@ -131,8 +176,8 @@ pub fn release(
         → IsWholeCall (state_shown x control.old.tables) node (Release number) Done
         (state_shown x control.new.tables)) }
 {
-    let entry = control.remove_still(node, number, kind, hint)?;
-    let goes = end_removed(control, entry);
+    let ended = end(control, node, number, kind, hint)?;
+    let (entry, goes) = (ended.entry, ended.goes);
     let place = leave(control, entry.port, entry.pool, goes);
     Some(Ending { entry, place })
 }

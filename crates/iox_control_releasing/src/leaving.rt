@@ -4,7 +4,6 @@ ghost use Rattle.std.specs.Option.{option_map_or};
 ghost use Rattle.iox_tables.specs.HubStates.States.{Given, state_shown};
 ghost use Rattle.iox_tables.specs.HubStates.Tables.{PortState, port_in};
 ghost use Rattle.iox_tables.specs.HubMaking.Disconnections.{is_unused, with_released};
-ghost use Rattle.iox_slots.specs.Pools.{is_idle};
 ghost use Rattle.iox_control.specs.Controls.{IsControl};
 ghost use Rattle.iox_control_releasing.specs.Goings.{KeptPools, NoLeftPool, StaysTidy};
 
@@ -52,7 +51,7 @@ fn let_both_go(control: &mut Control, port: u64, place: usize) -> usize
 #[inline(always)]
 pub fn leave(control: &mut Control, port: u64, place: usize, goes: bool) -> Option<usize>
     requires order { IsControl control.old }
-    requires busy { goes ≡ false → is_idle control.old.tables.pools place ≡ false }
+    requires stays { goes ≡ false → NoLeftPool control.old.tables place }
     requires used { goes ≡ false → is_unused control.old.tables port ≡ false }
     ensures port { (p : PortState) → port_in control.old.tables.ports port ≡ Some p
         → IfSome result (λ pool. pool ≡ p.pool) }

@@ -10,6 +10,7 @@ mod letting_go;
 mod port_value;
 mod unused;
 pub mod uses;
+mod usual;
 
 pub use disconnect::{disconnect_if_unused, drop_pool};
 pub use ending::Ending;

@@ -5,11 +5,13 @@ use iox_control_copies::{LoanRefusal, Place};
 /// What the copy of a request came to.
 #[derive(Clone, Copy, Debug, PartialEq, Eq)]
 pub enum Copied {
-    /// It was delivered to so many servers, and its words belong there. The number is that of its
-    /// pending response.
+    /// It was delivered.
     To {
+        /// The number of its pending response.
         number: u64,
+        /// To how many servers it was delivered.
         servers: u64,
+        /// Where its words belong.
         place: Place,
     },
     /// No loan is made for it.

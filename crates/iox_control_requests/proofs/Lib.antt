@@ -9,7 +9,9 @@ pub mod Ready
 pub mod Opened
 pub mod Turned
 pub mod Pushing
+pub mod OneServer
 pub mod Emptied
+pub mod UsualWay
 pub mod Whole
 pub mod Offered
 pub mod Sent

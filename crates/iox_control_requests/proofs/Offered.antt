@@ -60,14 +60,14 @@ module _ (c : ControlState) (node n : ℕ) (order : IsControl c) (few : c.tables
     named : IsHandle t node n h
     named = subst (IsHandle t node n) its_handle request.named
 
-    kind : h.kind ≡ RequestMut
-    kind = ap (λ (k : HandleState). k.kind) (sym its_handle) ∙ request.kind
+    pub filled_kind : h.kind ≡ RequestMut
+    filled_kind = ap (λ (k : HandleState). k.kind) (sym its_handle) ∙ request.kind
 
     pub loan_kind : is_request_loan h.kind ≡ true
-    loan_kind = ap is_request_loan kind
+    loan_kind = ap is_request_loan filled_kind
 
     pub its_loan : IsLoan t node n
-    its_loan = record { handle = h; named = named; loan = ap is_loan kind }
+    its_loan = record { handle = h; named = named; loan = ap is_loan filled_kind }
 
     its_node : h.node ≡ node
     its_node = handle_node t.handles node n h (sym found)
@@ -124,7 +124,7 @@ module _ (c : ControlState) (node n : ℕ) (order : IsControl c) (few : c.tables
       whole = λ x failure u shown.
           subst (λ (v : m.State). IsWholeCall (state_shown x t) node (Send n) (replies.Refused refusals.ExceedsMaxActiveRequests) v)
           (shows_lost (with_dropped t node n) new.tables refl (ended_bare c new node n h ends) its x u shown)
-          (is_refused t order.order node n h named kind few x spent);
+          (is_refused t order.order node n h named filled_kind few x spent);
     }
       where
         its : new.tables ≡ record (with_dropped t node n) { pools = new.tables.pools }
@@ -147,7 +147,7 @@ module _ (c : ControlState) (node n : ℕ) (order : IsControl c) (few : c.tables
           reply = ap To counted ∙ sym (ap₂ outcome free (failing (Some count) some));
           is = its;
           whole = λ x failure u shown.
-              is_whole_sent t order.order node n h named kind few x (λ on. waits) (replies.Sent count) (state_shown x u)
+              is_whole_sent t order.order node n h named filled_kind few x (λ on. waits) (replies.Sent count) (state_shown x u)
               (model t.settings.request_overflow refl x failure
               ∙ ap (λ k. (replies.Sent k, state_shown x (with_request_sent back h t.settings.request_overflow))) (sym counted)
               ∙ ap (λ v. (replies.Sent count, v)) (shows_sent (with_request_sent back h t.settings.request_overflow) new refl same its x u shown));
@@ -161,9 +161,9 @@ module _ (c : ControlState) (node n : ℕ) (order : IsControl c) (few : c.tables
 
             model : (b : Bool) → t.settings.request_overflow ≡ b → (x : Given) → (t.settings.request_overflow ≡ false → AreFailures x t h fails)
                 → loan_sent_by (state_shown x t) node n ≡ (replies.Sent (length (ways_of back h b)), state_shown x (with_request_sent back h b))
-            model true on x failure = goes_over t order.order node n h named kind few x free on
+            model true on x failure = goes_over t order.order node n h named filled_kind few x free on
             model false on x failure =
-                goes_plain t order.order node n h named kind few x free on fails (failure on)
+                goes_plain t order.order node n h named filled_kind few x free on fails (failure on)
                 (ap (λ b. is_failing fails b back.ports h.port) (sym on) ∙ failing (Some count) some)
 
         pub is_lost_so : r ≡ None → new ≡ record (with_dropped back e.node e.number) { pools = new.pools } → IsOffered UnableToDeliver new
@@ -171,8 +171,8 @@ module _ (c : ControlState) (node n : ℕ) (order : IsControl c) (few : c.tables
           reply = sym (ap₂ outcome free (failing None none));
           is = its;
           whole = λ x failure u shown.
-              is_whole_sent t order.order node n h named kind few x (λ on. absurd (true≢false (sym on ∙ plain))) (replies.Refused refusals.UnableToDeliver) (state_shown x u)
-              (is_lost t order.order node n h named kind few x free plain fails (failure plain)
+              is_whole_sent t order.order node n h named filled_kind few x (λ on. absurd (true≢false (sym on ∙ plain))) (replies.Refused refusals.UnableToDeliver) (state_shown x u)
+              (is_lost t order.order node n h named filled_kind few x free plain fails (failure plain)
               (ap (λ b. is_failing fails b back.ports h.port) (sym plain) ∙ failing None none)
               ∙ ap (λ v. (replies.Refused refusals.UnableToDeliver, v)) (shows_lost (with_dropped back node n) new refl same its x u shown));
         }

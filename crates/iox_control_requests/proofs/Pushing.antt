@@ -1,5 +1,5 @@
 -- The walk that opens a request with each server, and delivers it there, with overflow.
-use Rattle.std.specs.Prelude.{◌≡◌, ℕ, ◌+◌, ◌-◌, ◌<◌, ◌≤◌, ◌^◌, ◌||◌, true, false, List, [], ◌∷◌, ◌++◌, length, map, take, filter, Option, Some, None, slice_get, refl}
+use Rattle.std.specs.Prelude.{◌≡◌, ℕ, ◌+◌, ◌-◌, ◌<◌, ◌≤◌, ◌^◌, true, false, List, [], ◌∷◌, ◌++◌, length, map, take, Option, Some, None, slice_get, refl}
 use Rattle.std.specs.Option.{option_map, option_map_or}
 use Rattle.std.proofs.Common.{sym, ap, subst, ◌∙◌, arith}
 use Rattle.std.proofs.lemmas.Option.{slice_get-map}
@@ -30,7 +30,7 @@ use Rattle.iox_hub_delivering.specs.Deliveries.{HasDelivered, pushed_out_by}
 use Rattle.iox_hub_delivering.specs.Steps.{EachStepDelivers, with_out}
 use Rattle.iox_hub_delivering.proofs.Before.{named_stays}
 use Rattle.iox_control.specs.Controls.{ControlState, IsControl, with_ports, with_tables}
-use Rattle.iox_control_requests.specs.Deliveries.{CanTake, with_given, with_pushed}
+use Rattle.iox_control_requests.specs.Deliveries.{CanTake, with_pushed}
 use Rattle.iox_control_requests.specs.Requests.{ways_of}
 use Rattle.iox_control_requests.specs.Servers.{request_ways, server_in}
 use Rattle.iox_control_requests.proofs.Delivering.{IsGiven, begins, can_take, gives_one, is_taken, reached, sound_next, still_fits, within}

@@ -9,7 +9,7 @@ use Rattle.iox_model.specs.declared.kind.Role.TheVariants.{Server}
 use Rattle.iox_model.specs.declared.way.Way.{Way}
 use Rattle.iox_model.specs.Messages.{request_way}
 use Rattle.iox_model.specs.Settings.{same_role}
-use Rattle.iox_lanes.specs.Lanes.{LaneState}
+use Rattle.iox_lanes.specs.Lanes.{LaneState, is_full}
 use Rattle.iox_lanes.specs.Pipes.{PipeState, with_lane}
 use Rattle.iox_tables.specs.HubStates.Steps.{full_in}
 use Rattle.iox_model.specs.Maps.{has_number}
@@ -198,6 +198,19 @@ module _ (fails : Way → Bool) where
       turned true false r = refl
       turned false true r = refl
       turned false false r = refl
+
+  -- what is asked of a full server is asked of the way to it
+  pub asks_of : (ports : List PortState) (client place n : ℕ) (info : PortInfo) (told : Bool) → server_in ports place ≡ Some n → on_way_at is_full true ports place client 0 ≡ true
+      → Some info ≡ info_at ports place → told ≡ fails (request_way client info.number) → told ≡ fails_on fails ports (request_way client n)
+  asks_of ports client place n info told e full said is =
+      is ∙ ap (λ k. fails (request_way client k)) (number_told ports place n info e said)
+      ∙ ap (λ b. b && fails (request_way client n)) (sym (sym (on_server is_full true ports place client n e) ∙ full))
+
+  -- nothing is asked of one that is not full
+  pub asks_none : (ports : List PortState) (client place n : ℕ) → server_in ports place ≡ Some n → on_way_at is_full true ports place client 0 ≡ false
+      → false ≡ fails_on fails ports (request_way client n)
+  asks_none ports client place n e free =
+      ap (λ b. b && fails (request_way client n)) (sym (sym (on_server is_full true ports place client n e) ∙ free))
 
   pub refused_is : (ports : List PortState) (ws : List Way) → list_any fails (full_in (lane_on ports) ws []) ≡ list_any (fails_on fails ports) ws
   refused_is ports ws = any_full ports ws []

@@ -10,6 +10,7 @@ use iox_types::backpressure::BackpressureStrategy;
 pub trait WhenFull {
     ghost fails: { Self → Way → Bool };
 
+    /// Whether the receiver of this way, which is full, makes the send fail.
     fn fails(&self, way: Way) -> bool
         ensures { result ≡ fails self.now way };
 }
@@ -17,6 +18,7 @@ pub trait WhenFull {
 /// No handler is set: only the strategy decides.
 #[derive(Clone, Copy, Drop)]
 pub struct ByStrategy {
+    /// What the sender does at each full receiver.
     pub strategy: BackpressureStrategy,
 }
 

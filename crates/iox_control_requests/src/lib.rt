@@ -1,6 +1,7 @@
 //! The sends of loaned requests, over the tables of a hub.
 #![tactic(auto)]
 
+mod alone;
 mod attempts;
 mod backpressure;
 mod counts;
@@ -12,6 +13,7 @@ mod sending;
 mod sends;
 mod servers;
 pub mod uses;
+mod usual;
 
 pub use attempts::attempt;
 pub use backpressure::{ByStrategy, WhenFull};

@@ -34,10 +34,10 @@ use Rattle.iox_tables.proofs.HubBooks.Targets.{each_has_its_targets}
 use Rattle.iox_tables.proofs.HubBooks.Used.{used_on_lane}
 use Rattle.iox_tables.proofs.HubKeeping.Ordered.{names_apart}
 use Rattle.iox_hub_phases.proofs.Agreeing.{way_agree}
-use Rattle.iox_hub_ports.specs.Ports.{pushed, pushed_out, with_one_out}
+use Rattle.iox_hub_ports.specs.Ports.{on_way, pushed, pushed_out, with_one_out}
 use Rattle.iox_slots.specs.Pools.{with_slot}
 use Rattle.iox_slots.specs.Slots.{let_go}
-use Rattle.iox_control.specs.Controls.{AreCounted, ControlState, IsControl}
+use Rattle.iox_control.specs.Controls.{AreCounted, ControlState, IsControl, with_handle_dropped, with_tables}
 use Rattle.iox_control.proofs.RoomLemmas.{lanes_seats, room_as}
 use Rattle.iox_control_responses.specs.Responses.{with_handed_over}
 use Rattle.iox_control_responses.proofs.Lanes.{IsReady, count_pushed, delivers_is, out_at, pushed_is}
@@ -191,3 +191,18 @@ module _ (c : ControlState) (node n : ℕ) (h : HandleState) (order : IsControl 
       room = in_room;
       holders = in_holders;
     }
+
+-- where nothing is pushed out, what code does one after another comes to that
+pub handed_alone : (c c1 c2 c3 : ControlState) (node n : ℕ) (w : Way) (pool k : ℕ) → on_way pushed_out None c.tables.ports w ≡ None
+    → c1 ≡ with_tables c (with_lanes (λ l. pushed l k) c.tables (w ∷ [])) → c2 ≡ with_handle_dropped c1 node n → c3 ≡ with_tables c2 (with_call c2.tables)
+    → c3 ≡ with_handed_over c node n w pool k
+handed_alone c c1 c2 c3 node n w pool k none pushes drops counts =
+    counts
+    ∙ ap (λ (d : ControlState). with_tables d (with_call d.tables)) drops
+    ∙ ap (λ (d : ControlState). with_tables (with_handle_dropped d node n) (with_call (with_handle_dropped d node n).tables)) pushes
+    ∙ ap (λ (o : Option ℕ). record c {
+      tables = record (with_call (with_dropped (with_lanes (λ l. pushed l k) c.tables (w ∷ [])) node n)) {
+        pools = option_map_or (with_slot let_go c.tables.pools pool) o c.tables.pools;
+      };
+      room = c.room + 1;
+    }) (sym none)

@@ -7,3 +7,4 @@ pub mod Offered
 pub mod Strategies
 pub mod Sent
 pub mod Tidy
+pub mod UsualWay

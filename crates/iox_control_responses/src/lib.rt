@@ -4,11 +4,13 @@
 mod awaited;
 mod failing;
 mod handing;
+mod near;
 mod offering;
 mod responded;
 mod sending;
 mod targets;
 pub mod uses;
+mod usual;
 
 pub use awaited::is_awaited;
 pub use failing::fails_when_full;

@@ -25,7 +25,7 @@ pub(crate) struct Target {
 
 /// Where a client likely stands: where the first of all does.
 #[inline(always)]
-fn likely_client(ports: &Ports) -> usize {
+pub(crate) fn likely_client(ports: &Ports) -> usize {
     if ports.clients_len() == 0 {
         return 0;
     }

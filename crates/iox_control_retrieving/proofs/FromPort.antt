@@ -1,38 +1,56 @@
 -- A sender gets back, from the port in a place, one message after another.
-use Rattle.std.specs.Prelude.{◌≡◌, ℕ, ◌<◌, Bool, true, false, List, Option, Some, None, is_some, not, slice_get, refl}
+use Rattle.std.specs.Prelude.{◌≡◌, ℕ, ◌<◌, Bool, true, false, List, length, Option, Some, None, is_some, not, slice_get, refl}
+use Rattle.std.specs.Option.{option_map}
 use Rattle.std.proofs.Common.{sym, ap, subst, ◌∙◌, true≢false}
+use Rattle.std.proofs.lemmas.Option.{same_Some, slice_get-map, slice_get_within}
+use Rattle.iox_model.specs.declared.kind.Role.{Role}
 use Rattle.iox_model.specs.declared.way.Way.{Way}
 use Rattle.iox_model.specs.Maps.{AreDistinctWays}
 use Rattle.iox_model.specs.Settings.{same_role}
 use Rattle.iox_lanes.specs.Lanes.{LaneState, without_returned}
-use Rattle.iox_tables.specs.HubStates.Tables.{numbers_of, slot_at}
+use Rattle.iox_tables.specs.HubStates.Tables.{PortState, numbers_of, slot_at}
 use Rattle.iox_tables.specs.HubStates.Ways.{lane_on}
 use Rattle.iox_tables.specs.HubStates.Changes.{emptied_lane}
 use Rattle.iox_hub_phases.specs.Phases.{OfEachWay}
 use Rattle.iox_hub_ports.proofs.Keeping.{lanes_keep}
 use Rattle.iox_hub_ports.specs.declared.info.PortInfo.{PortInfo}
-use Rattle.iox_hub_ports.specs.Ports.{info_in, lane_to_get_at, on_way, on_way_at, with_lane_at}
+use Rattle.iox_hub_ports.specs.Ports.{info_in, info_of, lane_to_get_at, on_way, on_way_at, with_lane_at}
+use Rattle.iox_hub_ports.proofs.Seats.{first_at}
+use Rattle.iox_tables.proofs.HubBooks.Frames.{some_map}
+use Rattle.iox_tables.proofs.HubKeeping.Ordered.{names_apart}
 use Rattle.iox_slots.specs.Pools.{with_slot}
 use Rattle.iox_slots.specs.Slots.{let_go}
 use Rattle.iox_control.specs.Controls.{ControlState, IsControl, with_pools, with_ports}
-use Rattle.iox_control_retrieving.specs.Retrieving.{GetsBack, ways_to}
+use Rattle.iox_control_retrieving.specs.Retrieving.{GetsBack, IsOther, ways_to}
 use Rattle.iox_control_retrieving.proofs.Emptied.{IsEmptied}
 use Rattle.iox_control_retrieving.proofs.AtPlaces.{IsInPlace, let_go_there, lowest_there, told_there}
 use Rattle.iox_control_retrieving.proofs.Infos.{pool_is}
-use Rattle.iox_control_retrieving.proofs.Lanes.{first_lanes, lane_way, lanes_apart, next_is, none_alike, none_left, ways_are, width, within}
+use Rattle.iox_control_retrieving.proofs.Lanes.{first_lanes, lane_way, lanes_apart, next_is, none_left, ways_are, width, within}
 use Rattle.iox_control_retrieving.proofs.OneByOne.{GoesOn, IsNext, all_returned, falls, gets_all, goes_again, got_is_held, got_some, lane_was}
-use Rattle.iox_control_retrieving.proofs.Together.{gets_nothing}
 
--- where both are of one role there is no way
-pub gets_alike : (c : ControlState) (from to : PortInfo) → IsControl c → same_role from.role to.role ≡ true → GetsBack c (ways_to from.role c.tables from.number to) c
-gets_alike c from to order alike = subst (λ ws. GetsBack c ws c) (sym (none_alike from.role c.tables from.number to alike)) (gets_nothing c order)
+-- the port in the place is of the other role
+pub differs_there : (role : Role) (ports : List PortState) (at : ℕ) → IsOther role ports at → (p : PortState) → slice_get ports at ≡ Some p → same_role role p.role ≡ false
+differs_there role ports at other p here =
+    subst (λ (q : PortState). same_role role q.role ≡ false) (same_Some other.0 p (sym other.1 ∙ here)) other.2
 
-module _ (c : ControlState) (from to : PortInfo) (at : ℕ) (order : IsControl c)
-    (sender : info_in c.tables.ports from.number ≡ Some from) (receiver : info_in c.tables.ports to.number ≡ Some to)
-    (place : IsInPlace c.tables.ports at to.number) (differ : same_role from.role to.role ≡ false) where
+module _ (c : ControlState) (from : PortInfo) (at : ℕ) (order : IsControl c) (sender : info_in c.tables.ports from.number ≡ Some from)
+    (other : IsOther from.role c.tables.ports at) (p : PortState) (stands : slice_get c.tables.ports at ≡ Some p) where
+  -- what is said of the port
+  abbrev to : PortInfo
+  to = info_of p
+
   -- the ways to the port
   abbrev ws : List Way
   ws = ways_to from.role c.tables from.number to
+
+  differ : same_role from.role p.role ≡ false
+  differ = differs_there from.role c.tables.ports at other p stands
+
+  receiver : info_in c.tables.ports p.number ≡ Some (info_of p)
+  receiver = ap (option_map info_of) (first_at c.tables.ports at p (names_apart c.tables order.order) stands)
+
+  place : IsInPlace c.tables.ports at p.number
+  place = slice_get-map (λ (q : PortState). q.number) c.tables.ports at ∙ ap (option_map (λ (q : PortState). q.number)) stands
 
   ways : ws ≡ first_lanes from.number to.number (width c.tables.ports to)
   ways = ways_are from.role c.tables from.number to differ
@@ -46,6 +64,13 @@ module _ (c : ControlState) (from to : PortInfo) (at : ℕ) (order : IsControl c
         ap (λ ns. slice_get ns at)
         (sym (lanes_keep emptied_lane now.tables.ports ws) ∙ ap numbers_of goes.ports ∙ lanes_keep emptied_lane c.tables.ports ws)
         ∙ place
+
+    -- a port is still in the place
+    pub is_within : at < length now.tables.ports
+    is_within =
+        let f = some_map (λ (q : PortState). q.number) (slice_get now.tables.ports at) p.number
+        (sym (slice_get-map (λ (q : PortState). q.number) now.tables.ports at) ∙ there) in
+        slice_get_within now.tables.ports at f.0 f.1
 
     pub done : lane_to_get_at now.tables.ports at from.number ≡ None → GetsBack c ws now
     done none =

@@ -92,6 +92,14 @@ on_both k (n ∷ ks) js has = step (n == k) has (on_both k ks js)
     step true h rest = refl
     step false h rest = rest h
 
+on_second : (k : ℕ) (ks js : List ℕ) → has_number k js ≡ true → has_number k (ks ++ js) ≡ true
+on_second k [] js has = has
+on_second k (n ∷ ks) js has = step (n == k) (on_second k ks js has)
+  where
+    step : (b : Bool) → has_number k (ks ++ js) ≡ true → (b || has_number k (ks ++ js)) ≡ true
+    step true rest = refl
+    step false rest = rest
+
 module _ (t : HubTables) (order : AreInOrder t) (pool : ℕ) (one : HasOneLoan t pool) where
   alone : (slot_at t.pools one.handle.pool one.handle.slot).holders ≡ 1
   alone = handle_is (IsAlone t) t.handles one.node one.number one.handle order.alone one.named.there one.loan
@@ -122,6 +130,16 @@ module _ (t : HubTables) (order : AreInOrder t) (pool : ℕ) (one : HasOneLoan t
       step (k ∷ ks) e =
           absurd (nothing_on w l at is k
           (on_both k l.returned (l.waiting ++ l.taken) (ap (has_number k) e ∙ ap (λ (b : Bool). b || has_number k ks) (eqb-refl k))))
+
+  pub nothing_waits : (w : Way) (l : LaneState) → lane_on t.ports w ≡ Some l → l.pool ≡ pool → l.waiting ≡ []
+  nothing_waits w l at is = step l.waiting refl
+    where
+      step : (ks : List ℕ) → l.waiting ≡ ks → l.waiting ≡ []
+      step [] e = e
+      step (k ∷ ks) e =
+          absurd (nothing_on w l at is k
+          (on_second k l.returned (l.waiting ++ l.taken)
+          (on_both k l.waiting l.taken (ap (has_number k) e ∙ ap (λ (b : Bool). b || has_number k ks) (eqb-refl k)))))
 
 -- ---- nothing is got back
 

@@ -1,12 +1,12 @@
 -- What senders get back.
-use Rattle.std.specs.Prelude.{◌≡◌, ℕ, if◌then◌else◌, List, [], ◌∷◌}
+use Rattle.std.specs.Prelude.{◌≡◌, ℕ, false, if◌then◌else◌, List, [], ◌∷◌, Some, slice_get}
 use Rattle.iox_model.specs.declared.kind.Role.{Role}
 use Rattle.iox_model.specs.declared.kind.Role.TheVariants.{Client, Server}
 use Rattle.iox_model.specs.declared.way.Way.{Way}
 use Rattle.iox_model.specs.Messages.{request_way}
-use Rattle.iox_model.specs.Settings.{is_client}
+use Rattle.iox_model.specs.Settings.{is_client, same_role}
 use Rattle.iox_hub_ports.specs.declared.info.PortInfo.{PortInfo}
-use Rattle.iox_tables.specs.HubStates.Tables.{HubTables}
+use Rattle.iox_tables.specs.HubStates.Tables.{HubTables, PortState}
 use Rattle.iox_tables.specs.HubStates.Changes.{emptied_lane, with_lanes}
 use Rattle.iox_tables.specs.HubLoans.Lenders.{ways_to_client}
 use Rattle.iox_tables.specs.HubLending.Emptying.{HasFewerHolders, returned_on}
@@ -24,3 +24,8 @@ pub record GetsBack (c : ControlState) (ws : List Way) (new : ControlState) : Ty
 abbrev pub ways_to : Role → HubTables → ℕ → PortInfo → List Way
 ways_to Client t n to = if is_client to.role then [] else request_way n to.number ∷ []
 ways_to Server t n to = if is_client to.role then ways_to_client t n to.number else []
+
+-- a port that is of the other role than that one is in the place
+abbrev pub IsOther : Role → List PortState → ℕ → Type 0
+IsOther role ports at =
+    (p : PortState) × (slice_get ports at ≡ Some p) × (same_role role p.role ≡ false)

@@ -7,4 +7,4 @@ mod port;
 
 pub use alone::{has_one_out, retrieve_all_unless, retrieve_unless};
 pub use one_way::retrieve;
-pub use port::{retrieve_all, retrieve_all_of};
+pub use port::{retrieve_all, retrieve_all_in, retrieve_all_of};

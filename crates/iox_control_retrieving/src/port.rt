@@ -1,29 +1,26 @@
 //! What was given back to one port.
-ghost use Rattle.std.specs.Prelude.{◌≡◌, Some, slice_get};
-ghost use Rattle.iox_tables.specs.HubStates.Tables.{PortState, numbers_of, port_in};
-ghost use Rattle.iox_hub_ports.specs.Ports.{info_in};
+ghost use Rattle.std.specs.Prelude.{◌≡◌, ◌<◌, Some, length, slice_get};
+ghost use Rattle.iox_tables.specs.HubStates.Tables.{PortState, port_in};
+ghost use Rattle.iox_hub_ports.specs.Ports.{info_in, info_of, place_in};
 ghost use Rattle.iox_tables.specs.HubLending.Emptying.{AreGotBack, with_back};
 ghost use Rattle.iox_control.specs.Controls.{IsControl, with_tables};
-ghost use Rattle.iox_control_retrieving.specs.Retrieving.{GetsBack, ways_to};
+ghost use Rattle.iox_control_retrieving.specs.Retrieving.{GetsBack, IsOther, ways_to};
 
 use iox_control::Control;
 use iox_hub_ports::info::PortInfo;
-use iox_hub_ports::walks::is_same_role;
 
-/// Gets back all that the one port gave back to the other, which is in that place.
+/// Gets back all that the port in that place, which is of the other role, gave back to the sender.
+/// The pipe from it is looked for at the hint first.
 #[inline(always)]
-fn retrieve_from(control: &mut Control, sender: &PortInfo, at: usize, to: &PortInfo)
+fn retrieve_from(control: &mut Control, sender: &PortInfo, at: usize, hint: usize)
     requires order { IsControl control.old }
     requires from { info_in control.old.tables.ports sender.now.number ≡ Some sender.now }
-    requires to { info_in control.old.tables.ports to.now.number ≡ Some to.now }
-    requires place { slice_get (numbers_of control.old.tables.ports) at ≡ Some to.now.number }
-    ensures { GetsBack control.old
-        (ways_to sender.now.role control.old.tables sender.now.number to.now) control.new }
+    requires to { IsOther sender.now.role control.old.tables.ports at }
+    ensures { (p : PortState) → slice_get control.old.tables.ports at ≡ Some p
+        → GetsBack control.old
+        (ways_to sender.now.role control.old.tables sender.now.number (info_of p)) control.new }
 {
-    if is_same_role(sender.role, to.role) {
-        return;
-    }
-    while let Some(next) = control.get_next_at(at, sender.number) {
+    while let Some(next) = control.get_next_in(at, sender.number, hint) {
         control.let_go_of(sender.pool, next.place);
         if !next.more {
             return;
@@ -31,9 +28,10 @@ fn retrieve_from(control: &mut Control, sender: &PortInfo, at: usize, to: &PortI
     }
 }
 
-/// Gets back all that was given back to a port of which that is said.
+/// Gets back all that was given back to a port of which that is said. The pipes from it are looked
+/// for at the hint first.
 #[inline(always)]
-pub fn retrieve_all_of(control: &mut Control, sender: &PortInfo)
+pub fn retrieve_all_of(control: &mut Control, sender: &PortInfo, hint: usize)
     requires order { IsControl control.old }
     requires said { info_in control.old.tables.ports sender.now.number ≡ Some sender.now }
     ensures left { (p : PortState)
@@ -45,12 +43,53 @@ pub fn retrieve_all_of(control: &mut Control, sender: &PortInfo)
         → AreGotBack control.old.tables p control.new.tables.pools }
     ensures order { IsControl control.new }
 {
-    for at in 0..control.ports().len() {
-        let Some(to) = control.ports().at(at) else {
-            unreachable!();
-        };
-        retrieve_from(control, sender, at, &to);
+    for rank in 0..control.ports().others_len(sender.role) {
+        let at = control.ports().other(sender.role, rank);
+        retrieve_from(control, sender, at, hint);
     }
+}
+
+/// Gets back all that was given back to a port that is in that place. A call of its own, so that
+/// others are short.
+#[inline(never)]
+fn retrieve_several(control: &mut Control, at: usize)
+    requires order { IsControl control.old }
+    requires there { at < length control.old.tables.ports }
+    ensures left { (p : PortState) → slice_get control.old.tables.ports at ≡ Some p
+        → control.new ≡ with_tables control.old
+        (with_back control.old.tables p control.new.tables.pools) }
+    ensures back { (p : PortState) → slice_get control.old.tables.ports at ≡ Some p
+        → AreGotBack control.old.tables p control.new.tables.pools }
+    ensures order { IsControl control.new }
+{
+    let sender = control.ports().known_at(at);
+    let hint = control.ports().rank(at);
+    retrieve_all_of(control, &sender, hint);
+}
+
+/// Gets back all that was given back to a port of which that is said, and which is in that place.
+/// Where there is one port of the other role, it is no call.
+#[inline(always)]
+pub fn retrieve_all_in(control: &mut Control, sender: &PortInfo, at: usize)
+    requires order { IsControl control.old }
+    requires said { info_in control.old.tables.ports sender.now.number ≡ Some sender.now }
+    requires there { place_in control.old.tables.ports sender.now.number ≡ Some at }
+    ensures left { (p : PortState)
+        → port_in control.old.tables.ports sender.now.number ≡ Some p
+        → control.new ≡ with_tables control.old
+        (with_back control.old.tables p control.new.tables.pools) }
+    ensures back { (p : PortState)
+        → port_in control.old.tables.ports sender.now.number ≡ Some p
+        → AreGotBack control.old.tables p control.new.tables.pools }
+    ensures order { IsControl control.new }
+{
+    if control.ports().others_len(sender.role) == 1 {
+        let hint = control.ports().rank(at);
+        let only = control.ports().other(sender.role, 0);
+        retrieve_from(control, sender, only, hint);
+        return;
+    }
+    retrieve_several(control, at);
 }
 
 /// Gets back all that was given back to the port.
@@ -64,8 +103,6 @@ pub fn retrieve_all(control: &mut Control, port: u64)
         → AreGotBack control.old.tables p control.new.tables.pools }
     ensures order { IsControl control.new }
 {
-    let Some(sender) = control.ports().find(port) else {
-        unreachable!();
-    };
-    retrieve_all_of(control, &sender);
+    let at = control.ports().known_place(port, 0);
+    retrieve_several(control, at);
 }

@@ -7,14 +7,17 @@ use iox_model::kind::Kind;
 pub struct Entry {
     /// The node that has the handle.
     pub node: u64,
+    /// The number of the handle.
     pub number: u64,
+    /// Which of the seven kinds of handles it is.
     pub kind: Kind,
     /// Where its port likely stands among the ports. A wrong place is only slower.
     pub at: u16,
     /// The port that it belongs to.
     pub port: u64,
-    /// The place of the pool, and the slot there.
+    /// The place of the pool of its message among the pools.
     pub pool: usize,
+    /// The slot of the message in that pool.
     pub slot: u64,
     /// The client of its request.
     pub client: u64,

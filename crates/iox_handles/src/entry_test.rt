@@ -8,6 +8,7 @@ use crate::entry::Entry;
 pub trait EntryTest {
     ghost passes: { Self → Entry → Bool };
 
+    /// Whether the handle passes.
     fn passes(&self, entry: Entry) -> bool
         ensures { result ≡ passes self.now entry };
 }

@@ -11,7 +11,9 @@ use crate::vacant::handle_in;
 /// A number, and where its handle is looked for first.
 #[derive(Clone, Copy, Debug, PartialEq, Eq)]
 pub struct Numbered {
+    /// The number of the handle.
     pub number: u64,
+    /// Where it is looked for first among the places of handles.
     pub place: usize,
 }
 

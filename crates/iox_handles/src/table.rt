@@ -5,6 +5,8 @@ ghost use Rattle.iox_handles.specs.Least.{least};
 ghost use Rattle.iox_handles.specs.Tallies.{is_counted_at, tally_place};
 ghost use Rattle.iox_handles.specs.Tables.{IsSound, added, changed, count_like, count_of, handle_at, handle_of, handles_of, has_any, new_contents, removed, turned};
 
+mod known;
+mod near;
 mod removing;
 
 use crate::entry::Entry;

@@ -15,6 +15,8 @@ const PLACES: usize = 3 * REMAINDERS;
 /// How many handles there are, by groups of kinds and by remainders of ports' numbers.
 #[derive(Drop)]
 pub struct Tally {
+    /// Loaned requests, loaned responses and pending responses: 64 counts each, by the remainder
+    /// of the port's number.
     pub counts: [usize; PLACES],
 }
 

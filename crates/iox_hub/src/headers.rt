@@ -17,12 +17,15 @@ use iox_words::Words;
 /// many elements it has.
 #[derive(Clone, Copy, Debug, PartialEq, Eq)]
 pub struct MessageHeader {
-    /// The node of the port that sent it, and that port.
+    /// The id of the node whose port sent it.
     pub node_id: UniqueSystemId,
+    /// The id of the port that sent it.
     pub port_id: UniqueSystemId,
-    /// The lane and the id of the request.
+    /// The lane of the request that it is, or answers.
     pub lane: u64,
+    /// The id of that request, below 2^62.
     pub request: u64,
+    /// How many elements its payload has.
     pub elements: u64,
 }
 

@@ -10,7 +10,9 @@ use iox_words::{Words, ZeroCopySend};
 /// A part of a message in memory: its bytes, and what its place is a multiple of.
 #[derive(Clone, Copy, Debug, PartialEq, Eq)]
 pub struct Part {
+    /// How many bytes it has.
     pub size: usize,
+    /// What its place is a multiple of, in bytes; a power of two, where a shape was checked.
     pub alignment: usize,
 }
 
@@ -34,9 +36,11 @@ pub struct MessageShape<E: Copy, H: Copy> {
     pub default: Option<E>,
     /// The default of the user header.
     pub user_header: H,
-    /// Header, user header and element in memory.
+    /// The header in memory.
     pub header_part: Part,
+    /// The user header in memory.
     pub user_part: Part,
+    /// One element in memory.
     pub element_part: Part,
 }
 

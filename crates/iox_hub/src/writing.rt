@@ -90,8 +90,8 @@ impl<Q: Payload, QH: Words, P: Payload, PH: Words, H: Backpressure> Hub<Q, QH, P
         written
     }
 
-    /// Fills a loaned request of one element with that element, whatever was filled, and tells where
-    /// its message lies. Its handle is looked for at the hint first.
+    /// Fills a loaned request of one element with that element, whatever was filled, and tells
+    /// where its message lies. Its handle is looked for at the hint first.
     #[inline(always)]
     pub fn write_one_request(
         &mut self,
@@ -118,8 +118,8 @@ impl<Q: Payload, QH: Words, P: Payload, PH: Words, H: Backpressure> Hub<Q, QH, P
         place
     }
 
-    /// Fills a loaned response of one element with that element, whatever was filled, and tells where
-    /// its message lies. Its handle is looked for at the hint first.
+    /// Fills a loaned response of one element with that element, whatever was filled, and tells
+    /// where its message lies. Its handle is looked for at the hint first.
     #[inline(always)]
     pub fn write_one_response(
         &mut self,

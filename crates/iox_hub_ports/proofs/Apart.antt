@@ -1,8 +1,8 @@
 -- Each pipe of a port is the first from its sender, where no sender comes twice; and this stays so through a walk.
-use Rattle.std.specs.Prelude.{◌≡◌, ℕ, zero, suc, Bool, true, false, if◌then◌else◌, List, [], ◌∷◌, ◌++◌, map, slice_get, slice_set, Option, Some, None, refl}
+use Rattle.std.specs.Prelude.{◌≡◌, ℕ, zero, suc, Bool, true, false, if◌then◌else◌, List, [], ◌∷◌, ◌++◌, slice_get, slice_set, Option, Some, None, refl}
 use Rattle.std.specs.Option.{option_map_or}
 use Rattle.std.proofs.Common.{sym, ap, subst, ◌∙◌}
-use Rattle.std.proofs.lemmas.Option.{none-some, same_Some}
+use Rattle.std.proofs.lemmas.Option.{same_Some}
 use Rattle.iox_model.specs.Maps.{AreDistinct, has_number}
 use Rattle.iox_tables.specs.Pipes.{PipeState}
 use Rattle.iox_tables.specs.HubStates.Tables.{PortState, pipes_of, senders_of}

@@ -1,5 +1,5 @@
 -- What the steps at hints ask for, and what pushes are.
-use Rattle.std.specs.Prelude.{◌≡◌, ℕ, List, [], ◌∷◌, ◌++◌, Option, refl}
+use Rattle.std.specs.Prelude.{◌≡◌, ℕ, List, [], ◌∷◌, ◌++◌, refl}
 use Rattle.iox_model.specs.Maps.{AreDistinct}
 use Rattle.iox_tables.proofs.CallerLemmas.{first_where_apart}
 use Rattle.iox_tables.specs.Incomings.{IsFirstAt}

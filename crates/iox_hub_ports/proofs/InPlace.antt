@@ -1,5 +1,5 @@
 -- What is done to the port in a place.
-use Rattle.std.specs.Prelude.{◌≡◌, ℕ, zero, suc, ◌<◌, Bool, true, false, if◌then◌else◌, ◌==◌, List, [], ◌∷◌, ◌++◌, length, Option, Some, None, slice_get, slice_set, refl}
+use Rattle.std.specs.Prelude.{◌≡◌, ℕ, zero, suc, ◌<◌, Bool, true, false, if◌then◌else◌, ◌==◌, List, [], ◌∷◌, length, Option, Some, None, slice_get, slice_set, refl}
 use Rattle.std.specs.Option.{option_map_or}
 use Rattle.std.proofs.Common.{sym, ap, ◌∙◌, arith, eqb-true, get_or}
 use Rattle.iox_model.specs.declared.way.RequestState.TheVariants.{Closed}
@@ -77,6 +77,19 @@ set_same f same (x ∷ xs) (suc i) = later (slice_get xs i) ∙ ap (λ ys. x ∷
         → option_map_or (λ p. slice_set (x ∷ xs) (suc i) (f p)) o (x ∷ xs) ≡ x ∷ option_map_or (λ p. slice_set xs i (f p)) o xs
     later (Some p) = refl
     later None = refl
+
+-- the port in a place stays as it is
+pub with_same : (f : PortState → PortState) (xs : List PortState) (i : ℕ) → ((p : PortState) → slice_get xs i ≡ Some p → f p ≡ p) → with_place f xs i ≡ xs
+with_same f xs i same = over (slice_get xs i) refl
+  where
+    set_there : (ys : List PortState) (j : ℕ) (p : PortState) → slice_get ys j ≡ Some p → slice_set ys j p ≡ ys
+    set_there [] j p e = refl
+    set_there (y ∷ ys) zero p e = ap (λ o. option_map_or (λ q. q ∷ ys) o ys) (sym e)
+    set_there (y ∷ ys) (suc j) p e = ap (λ qs. y ∷ qs) (set_there ys j p e)
+
+    over : (o : Option PortState) → slice_get xs i ≡ o → option_map_or (λ p. slice_set xs i (f p)) o xs ≡ xs
+    over None e = refl
+    over (Some p) e = ap (λ q. slice_set xs i q) (same p e) ∙ set_there xs i p e
 
 -- a step that changes nothing
 pub place_same : (ports : List PortState) (i s : ℕ) → with_place (λ p. with_pipe_of (λ q. q) p s) ports i ≡ ports

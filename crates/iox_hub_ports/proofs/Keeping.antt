@@ -14,7 +14,7 @@ use Rattle.iox_tables.specs.HubStates.Tables.{PortState, numbers_of, port_in, se
 use Rattle.iox_tables.specs.HubStates.Ways.{with_lane_on, with_lanes_on, with_pipe_from, with_pipe_of, with_pipes, with_state_on, with_states_on}
 use Rattle.iox_tables.proofs.HubStates.Keys.{flip, lane_sender, same_mapped, same_number, state_sender}
 use Rattle.iox_hub_ports.proofs.Firsts.{first_gone, some_first}
-use Rattle.iox_hub_ports.specs.InPlace.{RolePlacesState, places_from, places_of, roles_of, listed}
+use Rattle.iox_hub_ports.specs.InPlace.{RolePlacesState, places_from, roles_of, listed}
 use Rattle.iox_hub_ports.specs.Ports.{IsPorts, way_from, with_lane_at, place_in, without_port, with_lane_from, with_state_from}
 
 -- ---- changes of ways keep all numbers

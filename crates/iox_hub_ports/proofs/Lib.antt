@@ -13,6 +13,10 @@ pub mod Rounds
 pub mod Apart
 pub mod AtPlaces
 pub mod Hinted
+pub mod Looks
+pub mod Only
+pub mod Known
+pub mod Usual
 -- what the crates above cite of those below
 pub use Rattle.iox_tables.proofs.HubStates
 pub use Rattle.iox_tables.proofs.HubBooks

@@ -21,6 +21,12 @@ get_is [] i x h e = absurd (false≢true h)
 get_is (y ∷ ys) zero x h e = ap (λ z. Some z) (sym e)
 get_is (y ∷ ys) (suc i) x h e = get_is ys i x h e
 
+-- nothing changes as what stands there is put back
+pub kept_there : {A : Type 0} (xs : List A) (i : ℕ) (x y : A) → x ≡ get_or xs i x → y ≡ x → slice_set xs i y ≡ xs
+kept_there [] i x y e same = refl
+kept_there (z ∷ zs) zero x y e same = ap (λ w. w ∷ zs) (same ∙ e)
+kept_there (z ∷ zs) (suc i) x y e same = ap (λ ws. z ∷ ws) (kept_there zs i x y e same)
+
 -- that room, and these ports
 abbrev pub with_those : ℕ → List PortState → PortsState
 with_those room ports = record { room = room; ports = ports }

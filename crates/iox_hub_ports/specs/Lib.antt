@@ -1,4 +1,5 @@
 pub mod InPlace
+pub mod Known
 pub mod Ports
 -- what the crates above cite of those below
 pub use Rattle.iox_tables.specs.HubStates

@@ -13,7 +13,9 @@ use iox_tables::steps::PipeStep;
 /// The receiver gives the message in this place of a lane back, if it has it.
 #[derive(Clone, Copy, Drop)]
 pub struct GiveBack {
+    /// The place of the message in its sender's pool.
     pub place: u64,
+    /// The lane on which it came.
     pub lane: usize,
 }
 
@@ -41,7 +43,9 @@ impl PipeStep for GiveBack {
 /// is pushed out first.
 #[derive(Clone, Copy, Drop)]
 pub struct PushOn {
+    /// The place of the message in its sender's pool.
     pub place: u64,
+    /// The lane on which it goes.
     pub lane: usize,
 }
 
@@ -69,7 +73,9 @@ impl PipeStep for PushOn {
 /// tells which state it had.
 #[derive(Clone, Copy, Drop)]
 pub struct CloseOn {
+    /// The lane of the request's responses.
     pub lane: u64,
+    /// The number of the request.
     pub id: u64,
 }
 
@@ -98,6 +104,7 @@ impl PipeStep for CloseOn {
 /// Which state the request has whose responses go on that lane.
 #[derive(Clone, Copy, Drop)]
 pub struct AskState {
+    /// The lane of the request's responses.
     pub lane: u64,
 }
 

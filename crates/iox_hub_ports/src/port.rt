@@ -14,7 +14,9 @@ ghost use Rattle.iox_tables.specs.HubMaking.OneByOne.{without_first_pipe};
 ghost use Rattle.iox_hub_ports.specs.Ports.{gone_from, info_of, lane_to_get_on, on_lane_from, port_of, state_from, with_connected};
 ghost use Rattle.iox_hub_ports.specs.Ports.{with_lane_from, with_loan_counted, with_state_from, without_pipe_from, without_value};
 
+mod known;
 mod near;
+mod usual;
 
 use crate::info::PortInfo;
 use iox_model::kind::Role;

@@ -11,6 +11,7 @@ use iox_tables::steps::{LaneStep, StateStep};
 /// The message in this place is put last in line, where there is room.
 #[derive(Clone, Copy, Drop)]
 pub struct Deliver {
+    /// The place of the message in its sender's pool.
     pub place: u64,
 }
 
@@ -37,6 +38,7 @@ impl LaneStep for Deliver {
 /// The receiver gives the message in this place back, if it has it.
 #[derive(Clone, Copy, Drop)]
 pub struct Release {
+    /// The place of the message in its sender's pool.
     pub place: u64,
 }
 
@@ -88,6 +90,7 @@ impl LaneStep for Evict {
 /// out first.
 #[derive(Clone, Copy, Drop)]
 pub struct Push {
+    /// The place of the message in its sender's pool.
     pub place: u64,
 }
 
@@ -145,6 +148,7 @@ impl LaneStep for GetBack {
 /// The request is open.
 #[derive(Clone, Copy, Drop)]
 pub struct Open {
+    /// The number of the request.
     pub id: u64,
 }
 
@@ -160,6 +164,7 @@ impl StateStep for Open {
 /// The request is closed, if it is the open one.
 #[derive(Clone, Copy, Drop)]
 pub struct Close {
+    /// The number of the request.
     pub id: u64,
 }
 
@@ -175,6 +180,7 @@ impl StateStep for Close {
 /// Its client lost interest in the request, if it is the open one.
 #[derive(Clone, Copy, Drop)]
 pub struct Hint {
+    /// The number of the request.
     pub id: u64,
 }
 

@@ -6,3 +6,4 @@ pub mod Pipes
 pub mod PipeSteps
 pub mod Visited
 pub mod Incomings
+pub mod Oldest

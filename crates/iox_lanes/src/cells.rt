@@ -2,6 +2,9 @@
 ghost use Rattle.std.specs.Prelude.{◌≡◌, ◌+◌, ◌%◌, ◌<◌, ◌≤◌, ◌==◌, IfOk, Some, length, slice_get};
 ghost use Rattle.iox_lanes.specs.Cells.{no_places, with_last, without_front};
 
+mod first;
+
+use crate::cells::first::after;
 use std::alloc::{AllocError, Global};
 use std::marker::Model;
 
@@ -89,6 +92,18 @@ impl Cells {
         Some(self.cells[around(self.first + rank, self.cells.len())])
     }
 
+    /// The oldest place, if one lies there.
+    #[inline(always)]
+    #[tactic(auto, using(crate::proofs::InCells::in_cells))]
+    pub(crate) fn oldest(&self) -> Option<u64>
+        ensures { result ≡ slice_get self.now.places 0 }
+    {
+        if self.count == 0 {
+            return None;
+        }
+        Some(self.cells[self.first])
+    }
+
     /// Puts a place behind the others. There is room for it.
     #[inline]
     #[tactic(auto, using(crate::proofs::InCells::in_cells))]
@@ -110,7 +125,7 @@ impl Cells {
         ensures left { self.new ≡ without_front self.old }
     {
         let oldest = self.cells[self.first];
-        self.first = around(self.first + 1, self.cells.len());
+        self.first = after(self.first, self.cells.len());
         self.count -= 1;
         oldest
     }

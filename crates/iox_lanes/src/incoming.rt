@@ -7,6 +7,10 @@ ghost use Rattle.iox_lanes.specs.Pipes.{lane_to_get, on_lane, with_lane, with_st
 ghost use Rattle.iox_lanes.specs.Visited.{all_visited, all_visits};
 ghost use Rattle.iox_lanes.specs.Incomings.{IncomingState, IsFirstAt, all_visited_of, connected, disconnected, has_room_for, has_waiting_from_any, no_pipes, on_pipe_by, rank_from, with_pipe_by};
 
+mod known;
+mod near;
+mod usual;
+
 use crate::pipe::{Next, Pipe};
 use crate::search::LaneVisit;
 use crate::steps::{LaneStep, PipeStep, StateStep};

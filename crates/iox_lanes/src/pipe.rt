@@ -8,6 +8,9 @@ ghost use Rattle.iox_lanes.specs.PipeSteps.{pushed, pushed_out};
 ghost use Rattle.iox_lanes.specs.Searches.{state_on};
 ghost use Rattle.iox_lanes.specs.Visited.{pipe_visit, pipe_visited, pool_on};
 
+mod near;
+mod usual;
+
 use crate::lane::Lane;
 use crate::marks::{MOST, next_to_get, with_mark, without_mark};
 use crate::search::{LaneVisit, visit_lane};
@@ -22,9 +25,20 @@ use std::marker::Model;
 pub struct Next {
     /// The lane on which it was given back.
     pub lane: usize,
+    /// The place of the message in its sender's pool.
     pub place: u64,
     /// Whether something is left to get back.
     pub more: bool,
+}
+
+/// The oldest message that waits for a receiver on a lane.
+#[derive(Clone, Copy, Debug, PartialEq, Eq, Drop)]
+pub struct Oldest {
+    /// From which port it comes, and the rank of its pipe.
+    pub sender: u64,
+    pub rank: usize,
+    pub pool: usize,
+    pub place: u64,
 }
 
 /// All lanes from one port to its receiver. Beside the lane of requests from a client stand the

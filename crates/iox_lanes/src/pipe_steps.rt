@@ -9,8 +9,11 @@ use crate::steps::PipeStep;
 /// of that number is closed whose responses go on that lane, if it is the open one.
 #[derive(Clone, Copy, Drop)]
 pub struct GiveBackAndClose {
+    /// The place of the message in its sender's pool.
     pub place: u64,
+    /// The lane of the request's responses.
     pub lane: usize,
+    /// The number of the request.
     pub id: u64,
 }
 
@@ -40,8 +43,11 @@ impl PipeStep for GiveBackAndClose {
 /// in line on the first lane. Where as many wait there as may, the oldest is pushed out first.
 #[derive(Clone, Copy, Drop)]
 pub struct OpenAndPush {
+    /// The place of the message in its sender's pool.
     pub place: u64,
+    /// The lane of the request's responses.
     pub lane: usize,
+    /// The number of the request.
     pub id: u64,
 }
 

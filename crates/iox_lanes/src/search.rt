@@ -19,7 +19,8 @@ pub enum LaneVisit {
     Nothing,
 }
 
-fn wants<L: Labels>(
+/// Whether the receiver wants the message in that place of the pool.
+pub(crate) fn wants<L: Labels>(
     wanted: Wanted,
     states: &[RequestState],
     labels: &L,

@@ -1,5 +1,5 @@
 //! What is done to a pipe, to one of its lanes, or to one of its request states.
-ghost use Rattle.std.specs.Prelude.{◌≡◌};
+ghost use Rattle.std.specs.Prelude.{◌≡◌, IfSome, IsSome, None};
 ghost use Rattle.iox_model.specs.declared.way.RequestState.{RequestState};
 ghost use Rattle.iox_lanes.specs.Lanes.{LaneState};
 ghost use Rattle.iox_lanes.specs.Pipes.{PipeState, on_lane, with_lane, with_state};
@@ -8,6 +8,7 @@ use crate::pipe::Pipe;
 
 /// A step of a sender or a receiver on one lane, and what it is told.
 pub trait LaneStep {
+    /// What it is told.
     type Answer: Drop;
 
     ghost changed: { Self → LaneState → LaneState };
@@ -16,9 +17,11 @@ pub trait LaneStep {
     // what is told where there is no such lane
     ghost none: { Self → Self.Answer };
 
+    /// What is told where there is no such lane.
     fn nothing(&self) -> Self::Answer
         ensures { result ≡ none self.now };
 
+    /// Takes the step on that lane of the pipe.
     fn step(&self, pipe: &mut Pipe, lane: usize) -> Self::Answer
         ensures told { result ≡ on_lane (told self.now) (none self.now) pipe.old lane }
         ensures changed { pipe.new ≡ with_lane (changed self.now) pipe.old lane };
@@ -28,12 +31,14 @@ pub trait LaneStep {
 pub trait StateStep {
     ghost changed: { Self → RequestState → RequestState };
 
+    /// Takes the step on the request state of that lane.
     fn step(&self, pipe: &mut Pipe, lane: usize)
         ensures { pipe.new ≡ with_state (changed self.now) pipe.old lane };
 }
 
 /// A step of a sender or a receiver on one pipe, and what it is told.
 pub trait PipeStep {
+    /// What it is told.
     type Answer: Drop;
 
     ghost changed: { Self → PipeState → PipeState };
@@ -42,10 +47,21 @@ pub trait PipeStep {
     // what is told where there is no such pipe
     ghost none: { Self → Self.Answer };
 
+    /// What is told where there is no such pipe.
     fn nothing(&self) -> Self::Answer
         ensures { result ≡ none self.now };
 
+    /// Takes the step on the pipe.
     fn step(&self, pipe: &mut Pipe) -> Self::Answer
         ensures told { result ≡ told self.now pipe.old }
         ensures changed { pipe.new ≡ changed self.now pipe.old };
+}
+
+/// A step on one pipe that may also be taken only where that is short. Then it is the same step, or
+/// nothing changes.
+pub trait NearStep: PipeStep {
+    fn step_near(&self, pipe: &mut Pipe) -> Option<Self::Answer>
+        ensures told { IfSome result (λ answer. answer ≡ Self.told self.now pipe.old) }
+        ensures changed { IsSome result → pipe.new ≡ Self.changed self.now pipe.old }
+        ensures unchanged { result ≡ None → pipe.new ≡ pipe.old };
 }

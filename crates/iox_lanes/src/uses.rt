@@ -15,6 +15,7 @@ use std::alloc::{AllocError, Global};
 /// Every message has the same label.
 #[derive(Drop)]
 pub struct OneLabel {
+    /// The label of every message.
     pub label: Label,
 }
 

@@ -16,7 +16,9 @@ pub enum Wanted {
 /// Which request a message is or answers, and the lane of its responses.
 #[derive(Clone, Copy, Debug, PartialEq, Eq, Drop)]
 pub struct Label {
+    /// The lane of its responses.
     pub lane: u64,
+    /// The number of the request.
     pub request: u64,
 }
 

@@ -12,7 +12,9 @@ pub enum Role {
 /// What a value of a port or of a handle is.
 #[derive(Clone, Copy, Debug, PartialEq, Eq)]
 pub enum Kind {
+    /// The value of a client itself.
     Client,
+    /// The value of a server itself.
     Server,
     /// A loaned request that is not filled yet.
     RequestMutUninit,

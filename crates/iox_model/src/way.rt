@@ -3,8 +3,12 @@
 /// From one port to another, on one lane.
 #[derive(Clone, Copy, Debug, PartialEq, Eq)]
 pub struct Way {
+    /// The number of the port that sends.
     pub sender: u64,
+    /// The number of the port that receives.
     pub receiver: u64,
+    /// The lane: 0 for requests, and for responses that of their request, which is below the
+    /// client's pool.
     pub lane: u64,
 }
 

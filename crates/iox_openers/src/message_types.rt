@@ -6,7 +6,9 @@ use iox_types::MessageTypeDetails;
 /// The description of the messages of a service: of its requests and of its responses.
 #[derive(Clone, Copy, Debug, PartialEq, Eq)]
 pub struct MessageTypes {
+    /// Header, user header and payload of a request.
     pub request: MessageTypeDetails,
+    /// Header, user header and payload of a response.
     pub response: MessageTypeDetails,
 }
 

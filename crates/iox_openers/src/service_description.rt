@@ -7,7 +7,10 @@ use iox_model::reply::Refusal;
 /// its attributes.
 #[derive(Debug, Drop)]
 pub struct ServiceDescription {
+    /// The types as the messages are laid out: those of the creator and of each opener must fit
+    /// them.
     pub types: MessageTypes,
+    /// The pairs of keys and values of which an opener may require some.
     pub attributes: AttributeSpecifier,
 }
 

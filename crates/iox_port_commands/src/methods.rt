@@ -20,9 +20,10 @@ use std::alloc::{AllocError, Global};
 
 /// To what commands can be applied: each method is the function of its name.
 pub trait ApplyCommand {
-    /// An element of a request, and one of a response.
+    /// An element of a request.
     type Request: Words;
 
+    /// An element of a response.
     type Response: Words;
 
     /// A handler of a port.

@@ -8,16 +8,22 @@ use iox_steps::{Access, Popping, Progress, Pushing, QueueReply, Site};
 /// One of the two parties of a queue, and where it is.
 #[derive(Clone, Copy)]
 pub enum Side {
+    /// the party that pushes and looks at fullness
     Pusher(Pushing),
+    /// the party that pops and looks at emptiness
     Popper(Popping),
 }
 
 /// What a party of a queue can be asked to do.
 #[derive(Clone, Copy)]
 pub enum Call {
+    /// of the pusher: pushes the value
     Push(u64),
+    /// of the pusher: is the queue full?
     IsFull,
+    /// of the popper: takes the oldest value, if one is there
     Pop,
+    /// of the popper: is the queue empty?
     IsEmpty,
 }
 

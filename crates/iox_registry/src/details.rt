@@ -17,6 +17,7 @@ pub enum DataSegmentType {
 /// What is known about a client.
 #[derive(Clone, Copy, Debug, PartialEq, Eq)]
 pub struct ClientDetails {
+    /// The id of the client.
     pub client_id: UniqueClientId,
     /// The node that it belongs to.
     pub node_id: UniqueNodeId,
@@ -35,6 +36,7 @@ pub struct ClientDetails {
 /// What is known about a server.
 #[derive(Clone, Copy, Debug, PartialEq, Eq)]
 pub struct ServerDetails {
+    /// The id of the server.
     pub server_id: UniqueServerId,
     /// The node that it belongs to.
     pub node_id: UniqueNodeId,
@@ -53,6 +55,7 @@ pub struct ServerDetails {
 /// What is known about a publisher.
 #[derive(Clone, Copy, Debug, PartialEq, Eq)]
 pub struct PublisherDetails {
+    /// The id of the publisher.
     pub publisher_id: UniquePublisherId,
     /// The node that it belongs to.
     pub node_id: UniqueNodeId,
@@ -69,6 +72,7 @@ pub struct PublisherDetails {
 /// What is known about a subscriber.
 #[derive(Clone, Copy, Debug, PartialEq, Eq)]
 pub struct SubscriberDetails {
+    /// The id of the subscriber.
     pub subscriber_id: UniqueSubscriberId,
     /// The node that it belongs to.
     pub node_id: UniqueNodeId,
@@ -79,6 +83,7 @@ pub struct SubscriberDetails {
 /// What is known about a notifier.
 #[derive(Clone, Copy, Debug, PartialEq, Eq)]
 pub struct NotifierDetails {
+    /// The id of the notifier.
     pub notifier_id: UniqueNotifierId,
     /// The node that it belongs to.
     pub node_id: UniqueNodeId,
@@ -87,6 +92,7 @@ pub struct NotifierDetails {
 /// What is known about a listener.
 #[derive(Clone, Copy, Debug, PartialEq, Eq)]
 pub struct ListenerDetails {
+    /// The id of the listener.
     pub listener_id: UniqueListenerId,
     /// The node that it belongs to.
     pub node_id: UniqueNodeId,
@@ -95,6 +101,7 @@ pub struct ListenerDetails {
 /// What is known about a reader.
 #[derive(Clone, Copy, Debug, PartialEq, Eq)]
 pub struct ReaderDetails {
+    /// The id of the reader.
     pub reader_id: UniqueReaderId,
     /// The node that it belongs to.
     pub node_id: UniqueNodeId,
@@ -103,6 +110,7 @@ pub struct ReaderDetails {
 /// What is known about a writer.
 #[derive(Clone, Copy, Debug, PartialEq, Eq)]
 pub struct WriterDetails {
+    /// The id of the writer.
     pub writer_id: UniqueWriterId,
     /// The node that it belongs to.
     pub node_id: UniqueNodeId,

@@ -55,6 +55,7 @@ pub enum RegistryNewError {
     /// A register has room for at most 2^24 - 2.
     #[error("RegistryNewError::LimitTooLarge")]
     LimitTooLarge,
+    /// There is no memory for a register.
     #[error("RegistryNewError::WantOfMemory")]
     WantOfMemory,
 }

@@ -7,14 +7,23 @@ use iox_sets::mpmc::unique_index_set_enums::ReleaseMode;
 /// A node, or a port of one of the kinds.
 #[derive(Clone, Copy, Debug, PartialEq, Eq)]
 pub enum Role {
+    /// A node that opened the service.
     Node,
+    /// A port that sends requests.
     Client,
+    /// A port that answers requests.
     Server,
+    /// A port that sends samples.
     Publisher,
+    /// A port that receives samples.
     Subscriber,
+    /// A port that notifies listeners.
     Notifier,
+    /// A port that waits for events.
     Listener,
+    /// A port that reads a blackboard.
     Reader,
+    /// A port that writes a blackboard.
     Writer,
 }
 

@@ -24,10 +24,12 @@ mod growing;
 mod handlers;
 mod handlers_by_receiver;
 mod limits;
+mod loans;
 mod names;
 mod numbers;
 mod pools;
 mod runs;
+mod usual;
 
 use crate::expected::is_wanted;
 use answering::AnswersAt;

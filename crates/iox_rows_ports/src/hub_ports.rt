@@ -65,6 +65,8 @@ enum Deed {
     HasWaiting(u64, u64, bool),
     /// The port visits that lane.
     Visits(u64, u64, Visits),
+    /// The port is looked for at that place alone, and visits that lane on the usual way.
+    VisitsUsually(u64, usize, u64, Option<Visits>),
     /// The lane on which something is left to get back, from that sender to that receiver.
     LaneToGet(u64, u64, Option<usize>),
     /// On lane 0 from client 1 to the port of that place.
@@ -201,6 +203,13 @@ fn sends(rt: &impl Abort, ports: &mut Ports, deed: &Deed) {
             equal(
                 rt,
                 ports.visit(*number, *lane, Wanted::Any, &NoLabel),
+                *wanted,
+            );
+        }
+        Deed::VisitsUsually(number, hint, lane, wanted) => {
+            equal(
+                rt,
+                ports.visit_usual(*number, *hint, *lane, Wanted::Any, &NoLabel),
                 *wanted,
             );
         }

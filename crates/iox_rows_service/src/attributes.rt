@@ -13,10 +13,12 @@ pub type Pair<'a> = (&'a str, &'a str);
 
 const FULL: AttributeDefinitionError = AttributeDefinitionError::ExceedsMaxSupportedAttributes;
 
+/// The key of this text, which has to be one.
 pub fn key(rt: &impl Abort, text: &str) -> AttributeKey {
     AttributeKey::new(text).expect(rt, "a key")
 }
 
+/// The value of this text, which has to be one.
 pub fn value(rt: &impl Abort, text: &str) -> AttributeValue {
     AttributeValue::new(text).expect(rt, "a value")
 }

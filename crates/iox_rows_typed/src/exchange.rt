@@ -28,14 +28,16 @@ pub type Pending = PendingResponse<One<u64>, (), Many<u8>, u32>;
 /// A request that a server received.
 pub type Active = ActiveRequest<One<u64>, (), Many<u8>, u32>;
 
-/// A loaned request that is not filled yet, and one that is.
+/// A loaned request that is not filled yet.
 pub type Unasked = RequestMutUninit<One<u64>, (), Many<u8>, u32>;
 
+/// A loaned request that is filled.
 pub type Asking = RequestMut<One<u64>, (), Many<u8>, u32>;
 
-/// A loaned response that is not filled yet, and one that is.
+/// A loaned response that is not filled yet.
 pub type Unanswered = ResponseMutUninit<One<u64>, (), Many<u8>, u32>;
 
+/// A loaned response that is filled.
 pub type Answering = ResponseMut<One<u64>, (), Many<u8>, u32>;
 
 /// A response that a client received.

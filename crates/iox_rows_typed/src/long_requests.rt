@@ -8,8 +8,10 @@ use iceoryx2_ports::{
 };
 use std::alloc::{AllocError, Global};
 
+/// Requests of any number of numbers, responses of one.
 pub type Lists = Hub<Many<u64>, (), One<u64>, ()>;
 
+/// A client that sends such requests.
 pub type Lister = Client<Many<u64>, (), One<u64>, ()>;
 
 type Unasked = RequestMutUninit<Many<u64>, (), One<u64>, ()>;

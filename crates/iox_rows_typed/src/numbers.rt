@@ -8,14 +8,19 @@ use iceoryx2_ports::{
 };
 use std::alloc::{AllocError, Global};
 
+/// Requests and responses of one number, and ports with handlers `H`.
 pub type Numbers<H = ()> = Hub<One<u64>, (), One<u64>, (), H>;
 
+/// A client of such a hub.
 pub type Asker = Client<One<u64>, (), One<u64>, ()>;
 
+/// A server of such a hub.
 pub type Answerer = Server<One<u64>, (), One<u64>, ()>;
 
+/// What a client has of a request until it is over.
 pub type Pending = PendingResponse<One<u64>, (), One<u64>, ()>;
 
+/// A request that a server received.
 pub type Active = ActiveRequest<One<u64>, (), One<u64>, ()>;
 
 /// To how many servers a request went, or why it did not.

@@ -23,13 +23,21 @@ pub enum LineCause {
 /// The first word of a command.
 #[derive(Clone, Copy, Debug, PartialEq, Eq)]
 pub enum Keyword {
+    /// Changes a setting, before the service is created.
     Set,
+    /// Creates the service, with its first node.
     Create,
+    /// A node opens the service.
     Open,
+    /// A node makes a client.
     Client,
+    /// A node makes a server.
     Server,
+    /// A client or an active request loans, writes and sends in one.
     SendCopy,
+    /// A server or a pending response receives.
     Receive,
+    /// The words of a handle's message.
     Read,
 }
 

@@ -12,6 +12,7 @@ const WORD_BITS: usize = 64;
 /// The bits that stand in words from `base` on.
 #[derive(Clone, Copy)]
 pub struct BitSite {
+    /// the place of the first word of bits
     pub base: usize,
     /// how many bits there are
     pub capacity: usize,
@@ -35,6 +36,7 @@ pub enum BitReply {
     Set(bool),
     /// the bit that was cleared, if one was seen
     ResetNext(Option<usize>),
+    /// all bits were cleared, one word after another
     ResetAll,
 }
 
@@ -53,6 +55,7 @@ pub enum BitEvent {
 /// Where a party is in its call.
 #[derive(Clone, Copy)]
 pub enum BitProgram {
+    /// no call is under way
     AtRest,
     /// it needs no word to reply
     Replies(BitReply),

@@ -8,6 +8,7 @@ mod party;
 /// The counts that stand in words from `base` on, one a bit.
 #[derive(Clone, Copy)]
 pub struct CountSite {
+    /// the place of the first count
     pub base: usize,
     /// how many bits there are
     pub capacity: usize,
@@ -27,6 +28,7 @@ pub enum CountCall {
 pub enum CountReply {
     /// was one added?
     Set(bool),
+    /// all counts were taken out, one after another
     ResetAll,
 }
 
@@ -42,6 +44,7 @@ pub enum CountEvent {
 /// Where a party is in its call.
 #[derive(Clone, Copy)]
 pub enum CountProgram {
+    /// no call is under way
     AtRest,
     /// it needs no word to reply
     Replies(CountReply),

@@ -15,6 +15,7 @@ mod value_machine;
 pub enum AtomicCall<const N: usize> {
     /// stores the words of a value; only party 0 does
     Store([u64; N]),
+    /// loads the value that is current
     Load,
 }
 
@@ -40,6 +41,7 @@ pub enum AtomicEvent<const N: usize> {
 /// at the version that stands, and then that version is raised.
 #[derive(Clone, Copy)]
 pub enum AtomicProgram<const N: usize> {
+    /// no call is under way
     AtRest,
     /// it loads the version, to store the value
     LoadsToStore([u64; N]),

@@ -5,6 +5,7 @@ use iox_tables::wanted::Label;
 /// What is known of a message that one less has.
 #[derive(Clone, Copy, Debug, PartialEq, Eq, Drop)]
 pub struct Left {
+    /// Which request it is or answers.
     pub label: Label,
     /// The port whose pool it is in.
     pub owner: u64,

@@ -9,6 +9,8 @@ ghost use Rattle.iox_slots.specs.Slots.{held, is_taken, let_go, new_pool, slot_i
 ghost use Rattle.iox_tables.specs.HubLoans.Slots.{put_slot_of};
 ghost use Rattle.iox_tables.specs.HubStates.Tables.{is_free};
 
+mod shared;
+
 use crate::slot::Slot;
 use iox_tables::wanted::Label;
 use iox_types::identifiers::UniqueSystemId;

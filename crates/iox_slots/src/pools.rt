@@ -13,6 +13,7 @@ ghost use Rattle.iox_slots.specs.Pools.{is_taken_at, place_for_one, with_one_mor
 ghost use Rattle.iox_slots.specs.Slots.{held, is_taken, let_go, new_pool, slot_in, taken, with_slot_of, written};
 
 mod leaving;
+mod shared;
 
 use crate::place::Place;
 use crate::pool::Pool;

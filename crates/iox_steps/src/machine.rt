@@ -13,7 +13,9 @@ use std::marker::Model;
 /// An entry of a schedule: a party begins a call, or makes one access.
 #[derive(Clone, Copy)]
 pub enum Entry<C> {
+    /// the party of this number begins the call, with no access
     Begin(usize, C),
+    /// the party of this number makes one access
     Step(usize),
 }
 

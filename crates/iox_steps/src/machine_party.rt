@@ -14,8 +14,10 @@ use crate::machine::{perform, tell};
 
 /// Parties that share words, by an invariant that holds wherever each party is in its call.
 pub trait MachineParty: Party + Drop {
+    /// what it can be asked to do
     type Call: Copy;
 
+    /// what one of its accesses does or sees
     type Event: Copy;
 
     /// the invariant: what holds of words, parties and events, wherever the parties are in their

@@ -9,6 +9,7 @@ use crate::site::{QueueKind, Site};
 /// Where a pop is.
 #[derive(Clone, Copy)]
 pub enum Pop {
+    /// it reads the read position next
     LoadsRead,
     /// the read position
     LoadsWrite(u64),
@@ -21,6 +22,7 @@ pub enum Pop {
 /// Where a look at emptiness is.
 #[derive(Clone, Copy)]
 pub enum EmptyLook {
+    /// it reads the read position next
     LoadsRead,
     /// the read position
     LoadsWrite(u64),

@@ -28,6 +28,7 @@ pub enum Push {
 /// How a push ended.
 #[derive(Clone, Copy)]
 pub enum PushReply {
+    /// pushed, and no value was pushed out for it
     Pushed,
     /// pushed, and this value was pushed out for it
     PushedOut(u64),
@@ -38,6 +39,7 @@ pub enum PushReply {
 /// Where a look at fullness is.
 #[derive(Clone, Copy)]
 pub enum FullLook {
+    /// it reads the write position next
     LoadsWrite,
     /// the write position
     LoadsRead(u64),

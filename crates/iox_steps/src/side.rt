@@ -14,16 +14,22 @@ use crate::site::{QueueKind, Site};
 /// Where the party is that pushes and looks at fullness.
 #[derive(Clone, Copy)]
 pub enum Pushing {
+    /// no call is under way
     AtRest,
+    /// inside a push
     Pushes(Push),
+    /// inside a look at fullness
     Looks(FullLook),
 }
 
 /// Where the party is that pops and looks at emptiness.
 #[derive(Clone, Copy)]
 pub enum Popping {
+    /// no call is under way
     AtRest,
+    /// inside a pop
     Pops(Pop),
+    /// inside a look at emptiness
     Looks(EmptyLook),
 }
 
@@ -40,9 +46,13 @@ pub enum QueueEvent {
     Evict,
     /// the party that pushed a value out learns it
     Learn(u64),
+    /// no value waits
     SeesEmpty,
+    /// a value waits
     SeesWaiting,
+    /// as many values wait as may
     SeesFull,
+    /// one more value may wait
     SeesRoom,
     /// the write position is the last one
     SeesEnd,
@@ -55,8 +65,11 @@ pub enum QueueReply {
     Pushed(bool),
     /// of a push that may overflow: the value pushed out, or its own at the last position
     HandedBack(Option<u64>),
+    /// of a look at fullness: was it full?
     Full(bool),
+    /// of a pop: the oldest value, if one was there
     Popped(Option<u64>),
+    /// of a look at emptiness: was it empty?
     Empty(bool),
 }
 

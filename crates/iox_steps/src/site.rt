@@ -12,7 +12,9 @@ pub enum QueueKind {
 /// The words of a queue: from `base` on the write position, the read position and the cells.
 #[derive(Clone, Copy)]
 pub struct Site {
+    /// what a push does where it is full
     pub kind: QueueKind,
+    /// the place of the write position, its first word
     pub base: usize,
     /// how many values may wait; an overflowing queue has one cell more
     pub capacity: usize,

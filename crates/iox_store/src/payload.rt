@@ -12,6 +12,7 @@ pub trait Payload {
     /// Whether it has as many elements as are asked for; else it has one.
     const MANY: bool;
 
+    /// The type of one element.
     type Element: Words;
 }
 

@@ -12,7 +12,10 @@ pub enum BackpressureStrategy {
 /// Whether a port's messages may grow past its greatest length.
 #[derive(Clone, Copy, Debug, PartialEq, Eq)]
 pub enum AllocationStrategy {
+    /// None grows: a loan past the greatest length is refused.
     Static,
+    /// They grow, if there is memory. How far is not visible, so it acts as `PowerOfTwo` does.
     BestFit,
+    /// They grow, if there is memory. How far is not visible, so it acts as `BestFit` does.
     PowerOfTwo,
 }

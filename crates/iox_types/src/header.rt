@@ -8,11 +8,15 @@ use iox_names::{Words, ZeroCopySend};
 /// The header of a request.
 #[derive(Clone, Copy, Debug, PartialEq, Eq)]
 pub struct RequestHeader {
+    /// The node of the client that sent the request.
     pub node_id: UniqueNodeId,
+    /// The client that sent the request.
     pub client_id: UniqueClientId,
-    /// Where the client waits for the responses.
+    /// The lane on which the client waits for the responses.
     pub channel_id: u64,
+    /// The number of the request, below 2^62, as its client counts.
     pub request_id: RequestId,
+    /// How many elements the payload has.
     pub number_of_elements: u64,
 }
 
@@ -119,10 +123,13 @@ impl ZeroCopySend for RequestHeader {
 /// The header of a response.
 #[derive(Clone, Copy, Debug, PartialEq, Eq)]
 pub struct ResponseHeader {
+    /// The node of the server that sent the response.
     pub node_id: UniqueNodeId,
+    /// The server that sent the response.
     pub server_id: UniqueServerId,
     /// The request that it answers.
     pub request_id: RequestId,
+    /// How many elements the payload has.
     pub number_of_elements: u64,
 }
 

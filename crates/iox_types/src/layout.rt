@@ -5,7 +5,9 @@ ghost use Rattle.iox_types.specs.Places.{aligned_place};
 /// How many bytes a message takes, and what its place is a multiple of.
 #[derive(Clone, Copy, Debug, PartialEq, Eq)]
 pub struct SampleLayout {
+    /// How many bytes it takes, at most `isize::MAX`.
     pub size: usize,
+    /// What its place is a multiple of, in bytes: a power of two.
     pub alignment: usize,
 }
 

@@ -10,8 +10,11 @@ use iox_names::ZeroCopySend;
 /// The description of a message: of its header, its user header and its payload.
 #[derive(Clone, Copy, Debug, PartialEq, Eq)]
 pub struct MessageTypeDetails {
+    /// The header, one value.
     pub header: TypeDetail,
+    /// The user header, one value.
     pub user_header: TypeDetail,
+    /// An element of the payload, and whether there is one of them or several.
     pub payload: TypeDetail,
 }
 

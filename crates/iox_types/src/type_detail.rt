@@ -21,8 +21,10 @@ pub enum TypeVariant {
 /// Why a type cannot be described.
 #[derive(Clone, Copy, Debug, Error, PartialEq, Eq)]
 pub enum TypeDetailError {
+    /// The name of the type has more than 256 bytes.
     #[error("TypeDetailError::NameTooLong")]
     NameTooLong,
+    /// The alignment is no power of two.
     #[error("TypeDetailError::AlignmentNotPowerOfTwo")]
     AlignmentNotPowerOfTwo,
 }

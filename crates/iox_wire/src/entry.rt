@@ -8,5 +8,6 @@ pub enum WireEntry<'a> {
     Begin(u64, NodeCall<'a>),
     /// It makes one access of its call.
     Step(u64),
+    /// It dies: it does nothing from now on.
     Die(u64),
 }

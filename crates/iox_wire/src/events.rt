@@ -13,7 +13,9 @@ use iox_wire_weaves::WordMap;
 /// A moment that a node made. Messages are named by their serials.
 #[derive(Clone, Copy, Debug, PartialEq, Eq)]
 pub struct WireEvent {
+    /// The number of the node.
     pub node: u64,
+    /// What it changed or saw.
     pub event: Event,
 }
 

@@ -9,9 +9,11 @@ use std::marker::Model;
 /// A finished call of a node.
 #[derive(Clone, Copy)]
 pub struct FinishedCall<'a> {
+    /// The number of the node.
     pub node: u64,
     /// With the first of its words, if they are more than the longest message of the wire has.
     pub call: ToldCall<'a>,
+    /// What it was answered.
     pub reply: ToldReply<'a>,
     /// How many events came before its begin.
     pub begun: usize,
@@ -22,11 +24,17 @@ pub struct FinishedCall<'a> {
 /// A call of a node as it ends, with what its node answers, and the words that a read loaded.
 #[derive(Clone, Copy)]
 pub(crate) struct EndedCall<'a> {
+    /// The number of the node.
     pub node: u64,
+    /// What it was asked.
     pub call: ToldCall<'a>,
+    /// What it answers.
     pub reply: NodeReply,
+    /// The words that a read loaded.
     pub words: &'a [u64],
+    /// How many events came before its begin.
     pub begun: usize,
+    /// How many events came before its end.
     pub ended: usize,
 }
 

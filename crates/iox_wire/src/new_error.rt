@@ -38,6 +38,7 @@ pub enum WireNewError {
     /// A message of a port has another length than 1, though messages of its role have one
     /// element.
     UnsuitableLength,
+    /// There is no memory for the wire.
     WantOfMemory,
 }
 

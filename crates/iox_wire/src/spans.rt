@@ -5,7 +5,9 @@ ghost use Rattle.iox_wire.specs.Replies.{IsSpan, words_at};
 /// From where to where words stand in a list.
 #[derive(Clone, Copy, Debug)]
 pub(crate) struct Span {
+    /// The index of the first word.
     pub start: usize,
+    /// The index behind the last word.
     pub end: usize,
 }
 

@@ -19,12 +19,20 @@ use iox_wire_weaves::{
 /// A call of the port or the handle of that number. Whose payload its words are the number tells.
 #[derive(Clone, Copy, Debug)]
 pub enum ToldCall<'a> {
+    /// Of a client or an active request: a message of so many elements. Its payload may be any
+    /// words.
     Loan { number: u64, elements: u64 },
+    /// Of a loan: these words are its payload now.
     Write { number: u64, words: &'a [u64] },
+    /// Of a loan: a request goes to the servers, a response to the client that asked.
     Send { number: u64 },
+    /// Loan, write and send in one.
     SendCopy { number: u64, words: &'a [u64] },
+    /// Of a server or a pending response.
     Receive { number: u64 },
+    /// Of a server: whether a request waits, also one that a receive would skip.
     HasRequests { number: u64 },
+    /// Of a handle: what brings no payload.
     Handle { number: u64, call: HandleCall },
 }
 
@@ -35,12 +43,15 @@ pub enum ToldReply<'a> {
     Handle(u64),
     /// A loaned request was sent to so many servers.
     Sent(u64),
+    /// It was done.
     Done,
     /// Nothing was there to receive.
     Nothing,
+    /// The answer to a question.
     Answer(bool),
     /// What a read loaded.
     Words(&'a [u64]),
+    /// It was refused, for this cause.
     Refused(CallRefusal),
 }
 

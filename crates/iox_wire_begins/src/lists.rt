@@ -8,8 +8,11 @@ use std::alloc::{AllocError, Global};
 /// memory.
 #[derive(Drop)]
 pub struct Lists {
+    /// The ways that a receive is to visit.
     pub sources: Vec<Source>,
+    /// The ways that a loan, a release, a question or a hint is to visit.
     pub stops: Vec<Stop>,
+    /// The servers to which a request is to go.
     pub targets: Vec<Target>,
 }
 

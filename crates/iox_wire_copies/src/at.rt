@@ -4,6 +4,7 @@ use iox_wire_locals::CallRefusal;
 /// Where the loan of a copy is, without what belongs to it.
 #[derive(Clone, Copy)]
 pub enum CopyAt {
+    /// No loan is under way.
     Rest,
     /// It gets back what was returned, takes a slot, and stores the words in front of the payload.
     Lends,
@@ -23,10 +24,13 @@ pub enum CopyLent {
 /// Where a client or a server is that copies a message, without what belongs to it.
 #[derive(Clone, Copy)]
 pub enum CopierAt {
+    /// No copy is under way.
     Rest,
     /// The payload is not of whole elements: it is refused, and has no access left.
     Refuses,
+    /// It makes the loan, and stores its payload.
     Lends,
+    /// It sends the loan.
     Sends,
 }
 
@@ -35,6 +39,7 @@ pub enum CopierAt {
 pub enum CopyReply {
     /// The request is sent: its pending response has that number.
     Handle(u64),
+    /// Its loan or its send is refused, for this cause.
     Refused(CallRefusal),
 }
 
@@ -43,5 +48,6 @@ pub enum CopyReply {
 pub enum ResponseCopyReply {
     /// It is sent, or nobody waits for it.
     Done,
+    /// Its loan or its send is refused, for this cause.
     Refused(CallRefusal),
 }

@@ -10,18 +10,31 @@ use iox_model::kind::{Kind, Role};
 /// of a request or of a response, as its role tells.
 #[derive(Clone, Copy, Debug, PartialEq, Eq)]
 pub enum Asked {
+    /// To loan a message of so many elements.
     Loan(u64),
+    /// To loan such a message of which nothing is filled. Nothing on a wire has this call.
     LoanUninit(u64),
+    /// To write the payload of a loan.
     Write(Role),
+    /// To send a loan.
     Send,
+    /// To loan, write and send in one.
     SendCopy(Role),
+    /// To receive the oldest message of a sender that has one.
     Receive,
+    /// To read what the message of a handle carries.
     Read,
+    /// To give up a handle. No port is released while a wire is open.
     Release,
+    /// Whether a request is still open.
     IsConnected,
+    /// To say that no more responses are wanted.
     SetHint,
+    /// Whether the client wants no more responses.
     HasHint,
+    /// Whether a request waits for a server.
     HasRequests,
+    /// Whether a response waits for a pending response.
     HasResponse,
 }
 

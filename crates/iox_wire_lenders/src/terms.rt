@@ -29,7 +29,9 @@ pub struct MessageTerms {
 pub struct WireTerms {
     /// One for each port, in the order of the plan.
     pub ports: Vec<PortTerms>,
+    /// What is told of requests.
     pub request: MessageTerms,
+    /// What is told of responses.
     pub response: MessageTerms,
     /// How many clients there may be.
     pub clients: u64,

@@ -4,6 +4,7 @@ use iox_wire_locals::CallRefusal;
 /// Where a loan is, without what belongs to it.
 #[derive(Clone, Copy)]
 pub enum LendAt {
+    /// No loan is under way.
     Rest,
     /// It is refused, and has no access left.
     Refuses,
@@ -18,5 +19,6 @@ pub enum LendAt {
 pub enum LendReply {
     /// The handle of that number.
     Handle(u64),
+    /// It is refused, for this cause.
     Refused(CallRefusal),
 }

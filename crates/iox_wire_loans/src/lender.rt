@@ -10,21 +10,27 @@ use iox_wire_seats::StoredSeat;
 /// What the wire tells of a port that lends. It borrows the words of its headers.
 #[derive(Clone, Copy)]
 pub struct Lender<'a> {
+    /// The number of the port.
     pub port: u64,
+    /// Whether it is a client or a server.
     pub role: Role,
-    /// Whether its messages may have any number of elements, and how many they may have at most.
+    /// Whether its messages may have any number of elements; else they have one.
     pub many: bool,
+    /// How many elements its messages may have at most.
     pub longest: u64,
-    /// How many loans it may have; and of a server, how many for one request.
+    /// How many loans it may have.
     pub limit: u64,
+    /// Of a server: how many loans it may have for one request.
     pub each: u64,
     /// Of a client: how many lanes it has.
     pub pool: u64,
     /// How many messages may return on each way.
     pub room: usize,
-    /// The words of its node's identifier and of its own, and those of its user header.
+    /// The words of its node's identifier, and behind them those of its own.
     pub ids: &'a [u64],
+    /// The words of the user header of its messages.
     pub user: &'a [u64],
+    /// Where its messages stand.
     pub places: SlotPlaces,
 }
 

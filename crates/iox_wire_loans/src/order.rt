@@ -7,13 +7,21 @@ use iox_wire_locals::Entry;
 /// What the handle and the message of a loan will say. Its payload is written later.
 #[derive(Clone, Copy)]
 pub struct Order {
+    /// The number that the handle gets.
     pub number: u64,
+    /// The kind of the handle.
     pub kind: Kind,
+    /// The number of the port that lends.
     pub port: u64,
+    /// The number of the client of its request.
     pub client: u64,
+    /// The lane of its request.
     pub lane: u64,
+    /// The id of its request.
     pub request: u64,
+    /// How many loans of the port succeeded before it.
     pub serial: u64,
+    /// How many elements the message has.
     pub elements: u64,
 }
 

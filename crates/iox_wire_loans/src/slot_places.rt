@@ -4,11 +4,15 @@ ghost use Rattle.std.specs.Prelude.{◌≡◌, ◌+◌, ◌*◌, ◌<◌, ◌≤
 /// Where the messages of a port stand: so many slots of so many words each.
 #[derive(Clone, Copy, Debug)]
 pub struct SlotPlaces {
+    /// The place of the first slot.
     pub region: usize,
+    /// How many slots there are.
     pub slots: u64,
+    /// How many words each slot has.
     pub slot_words: usize,
-    /// How many words a header has, and a user header.
+    /// How many words a header has.
     pub header: usize,
+    /// How many words a user header has.
     pub user: usize,
     /// The user header begins at a multiple of so many words.
     pub step: usize,

@@ -5,9 +5,11 @@ use std::collections::LinkedList;
 
 /// What a node of a wire keeps for itself, and where it is in its call.
 pub struct Seat {
+    /// The number of the node.
     pub node: u64,
-    /// How many accesses it made, and how many handles.
+    /// How many accesses it made.
     pub accesses: u64,
+    /// How many handles it made. The next one's number follows from this.
     pub handles_made: u64,
     /// Its handles, oldest first.
     pub table: LinkedList<Entry>,
@@ -17,5 +19,6 @@ pub struct Seat {
     pub borrowed: LinkedList<Borrowed>,
     /// The dead nodes that it forgot.
     pub forgot: LinkedList<u64>,
+    /// Where it is in its call.
     pub local: Local,
 }

@@ -10,37 +10,47 @@ use iox_wire_begins::Asked;
 /// the messages of the role.
 #[derive(Clone, Copy, Debug)]
 pub struct NodePayload<'a> {
+    /// The role of the port that sends it: a client's for a request.
     pub role: Role,
+    /// The words of all elements, one element after another.
     pub words: &'a [u64],
 }
 
 /// A call of the port or the handle of that number.
 #[derive(Clone, Copy, Debug)]
 pub enum NodeCall<'a> {
-    /// Of a client or an active request: a message that holds the default.
+    /// Of a client or an active request: a message of so many elements. Its payload may be any
+    /// words.
     Loan {
         number: u64,
+        /// How many elements the message has; 1, where messages have one.
         elements: u64,
     },
+    /// Of a loan: these words are its payload now.
     Write {
         number: u64,
+        /// All elements, as many as the loan has.
         payload: NodePayload<'a>,
     },
+    /// Of a loan: a request goes to the servers, a response to the client that asked.
     Send {
         number: u64,
     },
     /// Loan, write and send in one.
     SendCopy {
         number: u64,
+        /// All elements; the loan has as many.
         payload: NodePayload<'a>,
     },
     /// Of a server or a pending response.
     Receive {
         number: u64,
     },
+    /// Of a server: whether a request waits, also one that a receive would skip.
     HasRequests {
         number: u64,
     },
+    /// Of a handle: what brings no payload.
     Handle {
         number: u64,
         call: HandleCall,

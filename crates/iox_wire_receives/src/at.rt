@@ -3,14 +3,17 @@
 /// Where a receive is, without what belongs to it.
 #[derive(Clone, Copy)]
 pub enum ReceiveAt {
+    /// No receive is under way.
     Rest,
     /// There was no way to visit.
     TellsNothing,
-    /// At the borrow limit it looks, else it pops.
+    /// At the borrow limit of a way it looks whether something waits there.
     Looks,
+    /// Below that limit it pops the oldest message of the way.
     Pops,
-    /// It loads the header of what it took, and asks whether that request is still named.
+    /// It loads the header of what it took.
     Loads,
+    /// It asks whether the request that it took is still named.
     Asks,
     /// It gives back what does not fit.
     Returns,

@@ -7,15 +7,17 @@ use iox_steps::{QueueKind, Site};
 /// What is the same on all ways that a receive visits.
 #[derive(Clone, Copy)]
 pub struct ReceiveTerms {
-    /// The queues in which messages wait.
+    /// The kind of the queues in which messages wait.
     pub kind: QueueKind,
+    /// How many messages may wait in each of them.
     pub capacity: usize,
-    /// How far behind that queue the one begins in which messages return, and its capacity.
+    /// How many words behind such a queue the one begins in which messages return.
     pub back: usize,
+    /// How many messages may return on each way.
     pub room: usize,
-    /// How far behind it the request state of a client's first lane stands, and how far each lane
-    /// from the next.
+    /// How many words behind such a queue the request state of a client's first lane stands.
     pub state: usize,
+    /// How many words lie from the request state of one lane to that of the next.
     pub lane_words: usize,
     /// How many messages of a way may be handles.
     pub limit: u64,
@@ -28,14 +30,17 @@ pub struct ReceiveTerms {
 /// A way that a receive visits, and what stands there.
 #[derive(Clone, Copy)]
 pub struct Source {
+    /// The way itself.
     pub way: Way,
     /// The node of its sender.
     pub node: u64,
-    /// Where its messages wait.
+    /// The place of the queue in which its messages wait.
     pub place: usize,
-    /// Where the messages of its sender stand: so many slots of so many words each.
+    /// The place of the first slot of its sender.
     pub region: usize,
+    /// How many slots its sender has.
     pub slots: u64,
+    /// How many words each slot has.
     pub slot_words: usize,
     /// How many lanes its sender has, if that is a client.
     pub lanes: u64,

@@ -3,6 +3,7 @@
 /// Where the send of a request is, without what belongs to it.
 #[derive(Clone, Copy)]
 pub enum RequestAt {
+    /// No send is under way.
     Rest,
     /// The client has as many pending responses as it may: the send is refused.
     Refuses,
@@ -14,9 +15,11 @@ pub enum RequestAt {
     Looks,
     /// It opens a request state.
     Opens,
-    /// It delivers, pushes the oldest out, and gets that back.
+    /// It delivers the request.
     Pushes,
+    /// It pushes the oldest request out.
     Evicts,
+    /// It gets back what it pushed out.
     GetsBack,
 }
 

@@ -6,13 +6,15 @@ use iox_steps::{QueueKind, Site};
 /// What is the same of all servers to which a request goes.
 #[derive(Clone, Copy)]
 pub struct RequestTerms {
-    /// The queues in which requests wait.
+    /// The kind of the queues in which requests wait.
     pub kind: QueueKind,
+    /// How many requests may wait in each of them.
     pub capacity: usize,
-    /// How far behind that queue the one begins in which requests return, and its capacity.
+    /// How many words behind such a queue the one begins in which requests return.
     pub back: usize,
+    /// How many requests may return from each server.
     pub room: usize,
-    /// How far behind it the request state stands on the lane of the loan.
+    /// How many words behind such a queue the request state stands on the lane of the loan.
     pub state: usize,
     /// Whether a full queue gives up its oldest message.
     pub overflow: bool,
@@ -25,7 +27,9 @@ pub struct RequestTerms {
 /// A server to which a request goes, and where requests wait there.
 #[derive(Clone, Copy)]
 pub struct Target {
+    /// The number of the server.
     pub server: u64,
+    /// The place of the queue in which requests wait for it.
     pub place: usize,
 }
 

@@ -6,8 +6,11 @@ ghost use Rattle.iox_wire_seats.specs.Aims.{AreInMemory, word_at};
 /// of its payload.
 #[derive(Clone, Copy, Debug)]
 pub struct MessagePlaces {
+    /// The place of the first word of the user header.
     pub user: usize,
+    /// How many words the user header has.
     pub user_count: usize,
+    /// The place of the first word of the payload.
     pub payload: usize,
 }
 

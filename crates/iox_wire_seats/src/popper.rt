@@ -10,12 +10,19 @@ use std::marker::Model;
 /// Where a pop or a look at emptiness is, without its numbers.
 #[derive(Clone, Copy)]
 pub enum PopAt {
+    /// no call is under way
     Rest,
+    /// a pop that reads the read position next
     LoadsRead,
+    /// a pop that reads the write position next
     LoadsWrite,
+    /// a pop that reads the cell of its position next
     LoadsCell,
+    /// a pop that raises the read position next
     Takes,
+    /// a look at emptiness that reads the read position next
     LookLoadsRead,
+    /// a look at emptiness that reads the write position next
     LookLoadsWrite,
 }
 

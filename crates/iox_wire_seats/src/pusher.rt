@@ -11,14 +11,23 @@ use std::marker::Model;
 /// Where a push or a look at fullness is, without its numbers.
 #[derive(Clone, Copy)]
 pub enum PushAt {
+    /// no call is under way
     Rest,
+    /// a push that reads the write position next
     LoadsWrite,
+    /// a push that reads the read position next
     LoadsRead,
+    /// a push that puts its value in the cell next
     StoresCell,
+    /// a push that raises the write position next
     StoresWrite,
+    /// a push that raises the read position next, to push out the oldest value
     Evicts,
+    /// a push that reads the value that it pushed out next
     TakesOld,
+    /// a look at fullness that reads the write position next
     LookLoadsWrite,
+    /// a look at fullness that reads the read position next
     LookLoadsRead,
 }
 

@@ -8,7 +8,9 @@ use std::marker::Model;
 /// A way that a call visits, and the first of the words there that it accesses.
 #[derive(Clone, Copy, Debug)]
 pub struct Stop {
+    /// The way that is visited.
     pub way: Way,
+    /// The place of the first of its words.
     pub place: usize,
 }
 

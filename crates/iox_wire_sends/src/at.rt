@@ -3,6 +3,7 @@
 /// Where the send of a response is, without what belongs to it.
 #[derive(Clone, Copy)]
 pub enum RespondAt {
+    /// No send is under way.
     Rest,
     /// The client is gone: nothing is sent.
     Tells,
@@ -12,9 +13,11 @@ pub enum RespondAt {
     Empties,
     /// It looks whether the client is full.
     Looks,
-    /// It delivers, pushes the oldest out, and gets that back.
+    /// It delivers the response.
     Pushes,
+    /// It pushes the oldest response out.
     Evicts,
+    /// It gets back what it pushed out.
     GetsBack,
 }
 

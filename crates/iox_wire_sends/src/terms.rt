@@ -4,8 +4,9 @@ use iox_steps::Site;
 /// What the send of a response is told about its way, and of its client.
 #[derive(Clone, Copy)]
 pub struct ResponseTerms {
-    /// The queues in which messages wait for the client, and in which they return.
+    /// The queue in which responses wait for the client.
     pub messages: Site,
+    /// The queue in which the client gives them back.
     pub returning: Site,
     /// Where the request state stands.
     pub state: usize,

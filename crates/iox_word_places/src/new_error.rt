@@ -11,6 +11,7 @@ use std::fmt;
 pub enum WordMapNewError {
     /// The wire has more words than a `usize` can count: lower its limits, or have fewer ports.
     TooManyWords,
+    /// There is no memory for the places.
     WantOfMemory,
 }
 

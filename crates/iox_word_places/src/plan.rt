@@ -19,18 +19,24 @@ use iox_types::MessageTypeDetails;
 /// what its requests and its responses are made of.
 #[derive(Debug, Drop)]
 pub struct WirePlan {
+    /// The ports, in ascending order of their numbers.
     pub ports: Vec<PlanPort>,
+    /// The limits of the service, as far as queues need them.
     pub limits: PlanLimits,
+    /// What requests are made of.
     pub request: MessageTypeDetails,
+    /// What responses are made of.
     pub response: MessageTypeDetails,
 }
 
 /// A port of a wire.
 #[derive(Clone, Copy, Debug, PartialEq, Eq)]
 pub struct PlanPort {
+    /// Its number, by which calls name it.
     pub number: u64,
     /// The node that it belongs to.
     pub node: u64,
+    /// Whether it is a client or a server.
     pub role: Role,
     /// How many messages its pool has. A client has as many lanes.
     pub pool: usize,
@@ -43,10 +49,15 @@ pub struct PlanPort {
 /// How many messages may wait, how many a receiver may have, and which queues overflow.
 #[derive(Clone, Copy, Debug, PartialEq, Eq)]
 pub struct PlanLimits {
+    /// How many requests of a client may wait at a server, and how many may be held there.
     pub active_requests: usize,
+    /// How many responses of a server may wait on a lane of a client.
     pub response_buffer: usize,
+    /// How many responses of a server to one request a client may have.
     pub borrowed_responses: usize,
+    /// Whether a request for a full server pushes out the oldest.
     pub request_overflow: bool,
+    /// Whether a response for a full client pushes out the oldest.
     pub response_overflow: bool,
 }
 

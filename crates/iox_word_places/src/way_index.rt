@@ -9,13 +9,18 @@ use iox_model::kind::Role;
 pub enum WayIndex {
     /// From a client to a server.
     Requests {
+        /// The index of the client that sends.
         client: usize,
+        /// The index of the server that receives.
         server: usize,
     },
     /// From a server to a client, on one of the client's lanes.
     Responses {
+        /// The index of the client that receives.
         client: usize,
+        /// The index of the server that sends.
         server: usize,
+        /// The client's lane, below its pool.
         lane: usize,
     },
 }

@@ -7,9 +7,13 @@ use iox_names::MessagingPattern as Kind;
 /// How a service exchanges messages, and what it was made with.
 #[derive(Clone, Copy, Debug, PartialEq, Eq)]
 pub enum MessagingPattern {
+    /// Clients send requests, and servers answer them.
     RequestResponse(request_response::StaticConfig),
+    /// Publishers send samples to all subscribers.
     PublishSubscribe(publish_subscribe::StaticConfig),
+    /// Notifiers wake listeners by the number of an event.
     Event(event::StaticConfig),
+    /// One writer changes values, and readers look them up by their keys.
     Blackboard(blackboard::StaticConfig),
 }
 

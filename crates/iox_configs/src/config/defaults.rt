@@ -6,9 +6,13 @@ use crate::config::patterns::{Blackboard, Event, PublishSubscribe, RequestResons
 /// The settings of each messaging pattern.
 #[derive(Clone, Copy, Debug, PartialEq, Eq)]
 pub struct Defaults {
+    /// Of a service with clients and servers.
     pub request_response: RequestResonse,
+    /// Of a service with publishers and subscribers.
     pub publish_subscribe: PublishSubscribe,
+    /// Of a service with notifiers and listeners.
     pub event: Event,
+    /// Of a service with a writer and readers.
     pub blackboard: Blackboard,
 }
 

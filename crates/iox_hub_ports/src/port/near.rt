@@ -1,11 +1,20 @@
 //! The pipe from a sender, which is looked for at a hint first: a wrong hint is only slower.
-ghost use Rattle.std.specs.Prelude.{◌≡◌, ◌==◌, length};
+ghost use Rattle.std.specs.Option.{option_map};
+ghost use Rattle.std.specs.Prelude.{◌≡◌, ◌==◌, [], IfSome, IsSome, None, Some, is_some, length, slice_get, true};
 ghost use Rattle.iox_tables.specs.Incomings.{IsFirstAt};
+ghost use Rattle.iox_tables.specs.Lanes.{without_returned};
+ghost use Rattle.iox_tables.specs.Searches.{LabelsByPlace, is_wanted};
+ghost use Rattle.iox_tables.specs.Wanted.{Wanted};
+ghost use Rattle.iox_tables.specs.HubStates.Receives.{visited_port};
+ghost use Rattle.iox_tables.specs.HubStates.Tables.{pipes_of};
 ghost use Rattle.iox_tables.specs.HubStates.Ways.{with_pipe_of};
-ghost use Rattle.iox_hub_ports.specs.InPlace.{on_pipe_from, usual_of};
+ghost use Rattle.iox_hub_ports.specs.InPlace.{oldest_of, on_pipe_from, usual_of};
+ghost use Rattle.iox_hub_ports.specs.Ports.{lane_to_get_on, on_lane_from, state_from, with_lane_from};
 
 use crate::port::Port;
-use iox_tables::steps::PipeStep;
+use iox_model::way::RequestState;
+use iox_tables::pipe::{Next, Oldest};
+use iox_tables::steps::{NearStep, PipeStep};
 
 impl Port {
     /// Where the pipes from it likely stand among those that lead to others.
@@ -65,5 +74,133 @@ impl Port {
             Some(rank) => self.expired.on_pipe(rank, step),
             None => self.incoming.on_pipe(sender, step),
         }
+    }
+
+    /// The request state of that lane, beside the pipe from this sender, which is looked for at the
+    /// hint first; closed where there is none.
+    #[inline(always)]
+    pub fn state_at(&self, sender: u64, hint: usize, lane: u64) -> RequestState
+        requires { IsFirstAt self.now.incoming.pipes hint }
+        ensures { result ≡ state_from self.now sender lane }
+    {
+        if self.keeps_none() {
+            return self.incoming.state_at(sender, hint, lane);
+        }
+        self.state_far(sender, lane)
+    }
+
+    /// The same, where there may be senders that are gone. A call of its own, so that the other is
+    /// short.
+    #[inline(never)]
+    fn state_far(&self, sender: u64, lane: u64) -> RequestState
+        ensures { result ≡ state_from self.now sender lane }
+    {
+        self.state(sender, lane)
+    }
+
+    /// Gets back the oldest message of those that were given back on the lowest lane from this
+    /// sender on which something is left to get back, if there is one. The pipe is looked for at
+    /// the hint first.
+    #[inline(always)]
+    pub fn get_next_at(&mut self, sender: u64, hint: usize) -> Option<Next>
+        requires { IsFirstAt self.old.incoming.pipes hint }
+        ensures lowest { option_map (λ n. n.lane) result
+            ≡ lane_to_get_on (pipes_of self.old) sender }
+        ensures oldest { IfSome result (λ n.
+            on_lane_from (λ l. slice_get l.returned 0) None self.old sender n.lane
+            ≡ Some n.place) }
+        ensures got_back { IfSome result (λ n.
+            self.new ≡ with_lane_from without_returned self.old sender n.lane) }
+        ensures more { IfSome result (λ n.
+            n.more ≡ is_some (lane_to_get_on (pipes_of self.new) sender)) }
+        ensures number { self.new.number ≡ self.old.number }
+        ensures role { self.new.role ≡ self.old.role }
+        ensures unchanged { result ≡ None → self.new ≡ self.old }
+    {
+        if self.keeps_none() {
+            return self.incoming.get_next_at(sender, hint);
+        }
+        self.get_next_far(sender)
+    }
+
+    /// The same, where there may be senders that are gone.
+    #[inline(never)]
+    fn get_next_far(&mut self, sender: u64) -> Option<Next>
+        ensures lowest { option_map (λ n. n.lane) result
+            ≡ lane_to_get_on (pipes_of self.old) sender }
+        ensures oldest { IfSome result (λ n.
+            on_lane_from (λ l. slice_get l.returned 0) None self.old sender n.lane
+            ≡ Some n.place) }
+        ensures got_back { IfSome result (λ n.
+            self.new ≡ with_lane_from without_returned self.old sender n.lane) }
+        ensures more { IfSome result (λ n.
+            n.more ≡ is_some (lane_to_get_on (pipes_of self.new) sender)) }
+        ensures number { self.new.number ≡ self.old.number }
+        ensures role { self.new.role ≡ self.old.role }
+        ensures unchanged { result ≡ None → self.new ≡ self.old }
+    {
+        self.get_next(sender)
+    }
+
+    // ---- where the pipe is at the hint, or nothing is done
+
+    /// Takes a step on the pipe from this sender, if that is of the rank, no pipe is kept of a
+    /// sender that is gone, and the step is short.
+    #[inline(always)]
+    pub fn on_pipe_near<S: NearStep>(
+        &mut self,
+        sender: u64,
+        rank: usize,
+        step: &S,
+    ) -> Option<S::Answer>
+        requires { IsFirstAt self.old.incoming.pipes rank }
+        ensures told { IfSome result (λ answer.
+            answer ≡ on_pipe_from (S.told step.now) (S.none step.now) self.old sender) }
+        ensures changed { IsSome result
+            → self.new ≡ with_pipe_of (S.changed step.now) self.old sender }
+        ensures unchanged { result ≡ None → self.new ≡ self.old }
+    {
+        if self.usual() <= rank {
+            return None;
+        }
+        self.incoming.on_pipe_near(sender, rank, step)
+    }
+
+    /// The request state of that lane, beside the pipe from this sender, if that is of the rank, and
+    /// no pipe is kept of a sender that is gone.
+    #[inline(always)]
+    pub fn state_near(&self, sender: u64, rank: usize, lane: u64) -> Option<RequestState>
+        requires { IsFirstAt self.now.incoming.pipes rank }
+        ensures { IfSome result (λ state. state ≡ state_from self.now sender lane) }
+    {
+        if self.usual() <= rank {
+            return None;
+        }
+        self.incoming.state_near(sender, rank, lane)
+    }
+
+    // ---- what a receiver takes
+
+    /// The oldest message of the first connected sender from which one waits on that lane, if it may
+    /// have one more of it, and keeps no pipe of a sender that is gone.
+    #[inline(always)]
+    pub fn oldest(&self, lane: usize) -> Option<Oldest>
+        ensures { result ≡ oldest_of self.now lane }
+    {
+        if self.keeps_none() {
+            return self.incoming.oldest(lane);
+        }
+        None
+    }
+
+    /// Takes that message. So does each visit by which it is wanted.
+    #[inline(always)]
+    pub fn take_oldest(&mut self, lane: usize, oldest: Oldest)
+        requires { oldest_of self.old lane ≡ Some oldest }
+        ensures { (wanted : Wanted) (labels : LabelsByPlace)
+            → is_wanted wanted [] (labels oldest.pool) oldest.place ≡ true
+            → self.new ≡ visited_port wanted labels lane self.old }
+    {
+        self.incoming.take_oldest(lane, oldest);
     }
 }

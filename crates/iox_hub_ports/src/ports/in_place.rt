@@ -12,7 +12,6 @@ ghost use Rattle.iox_tables.specs.HubStates.Ways.{with_pipe_of};
 ghost use Rattle.iox_hub_ports.specs.InPlace.{IsFirstIn, in_place, on_pipe_from, only_of, places_of, usual_of, with_place};
 ghost use Rattle.iox_hub_ports.specs.Ports.{state_from, with_loan_counted, with_ports};
 
-use crate::pipe_steps::AskState;
 use crate::ports::Ports;
 use iox_model::kind::Role;
 use iox_model::way::RequestState;
@@ -41,8 +40,8 @@ impl Ports {
         self.ports[place].usual()
     }
 
-    /// Takes a step on the pipe from the sender to the port in that place. The pipe is looked for at
-    /// the hint first.
+    /// Takes a step on the pipe from the sender to the port in that place. The pipe is looked for
+    /// at the hint first.
     #[inline(always)]
     pub fn on_pipe_in<S: PipeStep>(
         &mut self,
@@ -65,14 +64,13 @@ impl Ports {
     /// The request state of that lane, from the port in that place to the receiver. The pipe is
     /// looked for at the hint first.
     #[inline(always)]
-    pub fn state_in(&mut self, place: usize, receiver: u64, hint: usize, lane: u64) -> RequestState
-        requires there { place < length self.old.ports }
-        requires once { IsFirstIn self.old.ports place hint }
+    pub fn state_in(&self, place: usize, receiver: u64, hint: usize, lane: u64) -> RequestState
+        requires there { place < length self.now.ports }
+        requires once { IsFirstIn self.now.ports place hint }
         ensures state { result
-            ≡ in_place (λ p. state_from p receiver lane) Closed self.old.ports place }
-        ensures unchanged { self.new ≡ self.old }
+            ≡ in_place (λ p. state_from p receiver lane) Closed self.now.ports place }
     {
-        self.on_pipe_in(place, receiver, hint, &AskState { lane })
+        self.ports[place].state_at(receiver, hint, lane)
     }
 
     /// Counts one loan more of the port in that place.

@@ -2,10 +2,11 @@
 #![tactic(auto, using(crate::proofs::Keeping::kept))]
 
 ghost use Rattle.std.specs.Option.{option_map};
-ghost use Rattle.std.specs.Prelude.{◌≡◌, IfSome, None, Some, false, is_some, slice_get, true};
+ghost use Rattle.std.specs.Prelude.{◌≡◌, ◌<◌, IfSome, None, Some, false, is_some, length, slice_get, true};
 ghost use Rattle.iox_tables.specs.Lanes.{IsSound, LaneState, has_room, is_full, offered, oldest, returned_times, without_oldest, without_returned};
 ghost use Rattle.iox_tables.specs.HubStates.Tables.{PortState, pipes_to};
 ghost use Rattle.iox_tables.specs.HubStates.Ways.{lane_on, with_lane_on};
+ghost use Rattle.iox_hub_ports.specs.InPlace.{IsFirstIn};
 ghost use Rattle.iox_hub_ports.specs.Ports.{lane_to_get_at, lane_to_get_on, on_way, on_way_at, pushed, pushed_out, way_from, with_lane_at, with_ports};
 
 use crate::ports::Ports;
@@ -109,6 +110,25 @@ impl Ports {
             return self.ports[at].get_next(sender);
         }
         None
+    }
+
+    /// The same, where a port is in that place. The pipe is looked for at the hint first.
+    #[inline(always)]
+    pub fn get_next_in(&mut self, at: usize, sender: u64, hint: usize) -> Option<Next>
+        requires there { at < length self.old.ports }
+        requires once { IsFirstIn self.old.ports at hint }
+        ensures lowest { option_map (λ n. n.lane) result
+            ≡ lane_to_get_at self.old.ports at sender }
+        ensures oldest { IfSome result (λ n.
+            on_way_at (λ l. slice_get l.returned 0) None self.old.ports at sender n.lane
+            ≡ Some n.place) }
+        ensures got_back { IfSome result (λ n. self.new ≡ with_ports self.old
+            (with_lane_at without_returned self.old.ports at sender n.lane)) }
+        ensures more { IfSome result (λ n.
+            n.more ≡ is_some (lane_to_get_at self.new.ports at sender)) }
+        ensures unchanged { result ≡ None → self.new ≡ self.old }
+    {
+        self.ports[at].get_next_at(sender, hint)
     }
 
     /// Gets back the oldest message of those that the port in that place gave back on the lane from

@@ -8,8 +8,11 @@ use iox_steps::Site;
 /// The position that is expected next, its cell, and the last cell.
 #[derive(Clone, Copy)]
 pub struct Cursor {
+    /// the position that is expected
     pub next: u64,
+    /// the place of that position's cell
     pub cell: usize,
+    /// the place of the last cell of the queue
     pub last: usize,
 }
 

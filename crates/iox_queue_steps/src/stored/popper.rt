@@ -13,12 +13,19 @@ use std::marker::Model;
 /// Where a pop or a look at emptiness is, as a bare name without its numbers.
 #[derive(Clone, Copy)]
 pub enum PopAt {
+    /// a pop that reads the read position next
     LoadsRead,
+    /// a pop that reads the write position next
     LoadsWrite,
+    /// a pop that reads the cell of its position next
     LoadsCell,
+    /// a pop that raises the read position next
     Takes,
+    /// a look at emptiness that reads the read position next
     LookLoadsRead,
+    /// a look at emptiness that reads the write position next
     LookLoadsWrite,
+    /// no call is under way
     Rest,
 }
 

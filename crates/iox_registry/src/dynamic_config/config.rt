@@ -17,7 +17,9 @@ use std::alloc::Global;
 /// never again.
 #[derive(Debug, Drop)]
 pub struct DynamicConfig {
+    /// The nodes that opened the service. They are locked once the last of them goes.
     pub nodes: Nodes,
+    /// The ports of the service, of the two kinds that its messaging pattern has.
     pub messaging_pattern: MessagingPattern,
 }
 

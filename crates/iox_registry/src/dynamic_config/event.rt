@@ -1,4 +1,4 @@
-//! What is registered with a event service beside its nodes.
+//! What is registered with an event service beside its nodes.
 ghost use Rattle.std.specs.Prelude.{◌≡◌, ◌↔◌, IfErr, IfNone, IfOk, IfSome, IsSome, None, OnErr, OnOk, Some, length};
 ghost use Rattle.std.specs.Fn.{CalledAt};
 ghost use Rattle.iox_sets.specs.Refusals.{IsRefusal};

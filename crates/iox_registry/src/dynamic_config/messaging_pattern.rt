@@ -7,9 +7,13 @@ use iox_types::identifiers::UniqueNodeId;
 /// The ports of a service.
 #[derive(Debug, Drop)]
 pub enum MessagingPattern {
+    /// The clients and servers that are registered.
     RequestResponse(request_response::DynamicConfig),
+    /// The publishers and subscribers that are registered.
     PublishSubscribe(publish_subscribe::DynamicConfig),
+    /// The notifiers and listeners that are registered.
     Event(event::DynamicConfig),
+    /// The readers that are registered, and the writer.
     Blackboard(blackboard::DynamicConfig),
 }
 

@@ -207,3 +207,20 @@ fn what_is_empty_is_not_kept(rt: HostRuntime) {
         ],
     );
 }
+
+#[test]
+fn a_usual_visit_needs_the_right_place_and_that_none_is_kept(rt: HostRuntime) {
+    plays(
+        &rt,
+        rt.alloc(),
+        two_answered!(1),
+        &[
+            Deed::VisitsUsually(1, 1, 1, None),
+            Deed::VisitsUsually(1, 0, 0, Some(Visits::Nothing)),
+            Deed::VisitsUsually(1, 0, 1, Some(Visits::Got(2, 5, 10))),
+            Deed::Expires(1, 3, None),
+            Deed::VisitsUsually(1, 0, 1, None),
+            Deed::Visits(1, 1, Visits::Got(3, 6, 20)),
+        ],
+    );
+}

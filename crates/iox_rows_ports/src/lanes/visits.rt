@@ -34,6 +34,8 @@ enum Deed {
     IsFull(u64, Option<bool>),
     /// A visit of all senders ends so.
     Visits(Visits),
+    /// A visit on the usual way ends so, if it is made.
+    VisitsUsually(Wanted, Option<Visits>),
     Releases(u64, u64, bool),
     GetsBack(u64, Option<u64>),
     /// The lane on which something is left to get back.
@@ -82,6 +84,9 @@ fn does(rt: &impl Abort, alloc: Global, incoming: &mut Incoming, deed: &Deed) {
         Deed::IsFull(sender, wanted) => equal(rt, is_full(incoming, *sender), *wanted),
         Deed::Visits(wanted) => {
             equal(rt, incoming.visit_all(0, Wanted::Any, &ByPlace), *wanted);
+        }
+        Deed::VisitsUsually(what, wanted) => {
+            equal(rt, incoming.visit_usual(0, *what, &ByPlace), *wanted);
         }
         Deed::Releases(sender, place, wanted) => {
             equal(
@@ -148,6 +153,31 @@ fn all_senders_are_visited_in_their_order(rt: HostRuntime) {
             Deed::LaneToGet(11, None),
             Deed::HasWaiting(false),
             Deed::Visits(Visits::Nothing),
+        ],
+    );
+}
+
+#[test]
+fn a_usual_visit_takes_the_oldest_or_changes_nothing(rt: HostRuntime) {
+    plays(
+        &rt,
+        rt.alloc(),
+        &[
+            Deed::VisitsUsually(Wanted::Any, Some(Visits::Nothing)),
+            Deed::Delivers(12, 5, true),
+            Deed::Delivers(12, 6, true),
+            // What is not wanted stays.
+            Deed::VisitsUsually(Wanted::Of(6), None),
+            Deed::VisitsUsually(Wanted::Of(5), Some(Visits::Got(12, 1, 5))),
+            // At its limit it takes none.
+            Deed::VisitsUsually(Wanted::Any, None),
+            Deed::Visits(Visits::AtLimit),
+            Deed::Releases(12, 5, true),
+            Deed::VisitsUsually(Wanted::Named, None),
+            Deed::Opens(12, 6),
+            Deed::VisitsUsually(Wanted::Named, Some(Visits::Got(12, 1, 6))),
+            Deed::VisitsUsually(Wanted::Any, Some(Visits::Nothing)),
+            Deed::GetsBack(12, Some(5)),
         ],
     );
 }

@@ -10,7 +10,9 @@ use iox_steps::{Access, MachineError, MachineParty, Next, Party, Progress};
 /// A party at the bits of a site.
 #[derive(Clone, Copy)]
 pub struct BitParty {
+    /// where the bits stand
     pub site: BitSite,
+    /// where it is in its call
     pub program: BitProgram,
 }
 

@@ -8,7 +8,9 @@ use iox_steps::{Access, MachineError, MachineParty, Next, Party, Progress};
 /// A party at the counts of a site.
 #[derive(Clone, Copy)]
 pub struct CountParty {
+    /// where the counts stand
     pub site: CountSite,
+    /// where it is in its call
     pub program: CountProgram,
 }
 

@@ -13,9 +13,11 @@ use std::alloc::{AllocError, Global};
 /// A party at the value whose version stands at `base`, and behind it the two cells of its words.
 #[derive(Clone, Copy)]
 pub struct AtomicParty<const N: usize> {
+    /// the place of the version, with the two cells behind it
     pub base: usize,
     /// may it store?
     pub stores: bool,
+    /// where it is in its call
     pub program: AtomicProgram<N>,
 }
 

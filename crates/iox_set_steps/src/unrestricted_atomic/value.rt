@@ -5,6 +5,7 @@
 pub enum ValueCall<T> {
     /// stores a value; only party 0 does
     Store(T),
+    /// loads the value that is current
     Load,
 }
 

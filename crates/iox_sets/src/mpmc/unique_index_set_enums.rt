@@ -33,7 +33,9 @@ impl ReleaseMode {
 /// Whether the set is locked after an index was given back.
 #[derive(Clone, Copy, Debug, PartialEq, Eq)]
 pub enum ReleaseState {
+    /// It is locked for good: no index is taken any more.
     Locked,
+    /// It is open.
     Unlocked,
 }
 
@@ -83,6 +85,7 @@ pub enum UniqueIndexSetNewError {
     CapacityTooLarge,
     /// A reduced capacity is at most that of the set's type.
     ExceedsCapacity,
+    /// There is no memory for its indices.
     WantOfMemory,
 }
 

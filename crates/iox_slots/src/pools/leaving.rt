@@ -1,5 +1,5 @@
-//! Slots of which the caller knows that they are there, or that somebody has them, and pools that are
-//! there: nothing is tested.
+//! Slots of which the caller knows that they are there, or that somebody has them, and pools that
+//! are there: nothing is tested.
 ghost use Rattle.std.specs.Prelude.{◌≡◌, ◌<◌, ◌+◌, ◌-◌, ◌==◌, ◌↔◌, IfSome, IsSome, None, is_some, length, true};
 ghost use Rattle.iox_tables.specs.HubStates.Tables.{labels_of, owner_of, pool_at, slot_at, slots_of};
 ghost use Rattle.iox_slots.specs.Pools.{Takes, free_count, freed_by_one, has_slot, is_idle, with_slot};

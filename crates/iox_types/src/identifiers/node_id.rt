@@ -10,6 +10,7 @@ use thiserror::Error;
 /// Why there is no such identifier of a node.
 #[derive(Clone, Copy, Debug, Error, PartialEq, Eq)]
 pub enum UniqueNodeIdError {
+    /// Its process number and its counter are both 0.
     #[error("UniqueNodeIdError::InvalidNodeId")]
     InvalidNodeId,
 }

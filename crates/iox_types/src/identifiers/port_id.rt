@@ -138,13 +138,21 @@ impl<Kind> Words for UniqueId<Kind> {
 /// The identifier of a port of any kind.
 #[derive(Clone, Copy, Debug, PartialEq, Eq, PartialOrd, Ord, Hash)]
 pub enum UniquePortId {
+    /// Of a port that sends samples.
     Publisher(UniquePublisherId),
+    /// Of a port that receives samples.
     Subscriber(UniqueSubscriberId),
+    /// Of a port that notifies listeners.
     Notifier(UniqueNotifierId),
+    /// Of a port that waits for events.
     Listener(UniqueListenerId),
+    /// Of a port that sends requests.
     Client(UniqueClientId),
+    /// Of a port that answers requests.
     Server(UniqueServerId),
+    /// Of a port that reads a blackboard.
     Reader(UniqueReaderId),
+    /// Of a port that writes a blackboard.
     Writer(UniqueWriterId),
 }
 

@@ -7,7 +7,9 @@ use std::{fmt, str};
 /// The time at which an item was made.
 #[derive(Clone, Copy, Debug, PartialEq, Eq, PartialOrd, Ord, Hash)]
 pub struct Time {
+    /// Whole seconds, any number of 32 bits.
     pub seconds: u32,
+    /// The nanoseconds past them; nothing keeps them below a second.
     pub nanoseconds: u32,
 }
 
@@ -16,9 +18,13 @@ pub struct Time {
 /// Identifiers are ordered by these four numbers, the process number first.
 #[derive(Clone, Copy, Debug, PartialEq, Eq, PartialOrd, Ord, Hash)]
 pub struct UniqueSystemId {
+    /// The number of the process that made it.
     pub process: u32,
+    /// The time at which it was made, in whole seconds.
     pub seconds: u32,
+    /// The nanoseconds past them; nothing keeps them below a second.
     pub nanoseconds: u32,
+    /// How many items the process made before it.
     pub counter: u32,
 }
 

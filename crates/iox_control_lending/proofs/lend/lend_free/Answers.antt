@@ -1,6 +1,7 @@
-use Rattle.std.proofs.Common.{◌<◌, ◌-◌, ◌^◌, sym, subst}
+use Rattle.std.proofs.Common.{◌≡◌, ◌<◌, ◌-◌, ◌^◌, Some, sym, subst}
 use Rattle.std.specs.Option.{option_map_or}
 use Rattle.iox_tables.specs.HubStates.Tables.{PortState, port_in}
+use Rattle.iox_hub_ports.specs.Ports.{place_in}
 use Rattle.iox_control.specs.Controls.{ControlState}
 use Rattle.iox_control_lending.proofs.FreeLemmas.{is_free_slot, is_made}
 use Rattle.iox_control_lending.proofs.MadeLemmas.{loans_below, some_room}
@@ -10,6 +11,10 @@ use Rattle.iox_control_lending.proofs.lend.lend_free.Goals as goal
 pub returns-in_default-clause-full : goal.returns-in_default-clause-full
 returns-in_default-clause-full c =
     λ _. all_have_holders c.args.control.now.tables.pools c.args.lender.now.port.pool (c.take.ensures.full c.in_default.is)
+
+pub hand_out-number-requires-clause-there : goal.hand_out-number-requires-clause-there
+hand_out-number-requires-clause-there c =
+    subst (λ (d : ControlState). place_in d.tables.ports c.args.lender.now.port.number ≡ Some c.args.at) (sym c.take.ensures.left) c.requires.there
 
 pub hand_out-number-requires-clause-room : goal.hand_out-number-requires-clause-room
 hand_out-number-requires-clause-room c =

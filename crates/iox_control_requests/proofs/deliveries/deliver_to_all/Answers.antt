@@ -1,9 +1,9 @@
-use Rattle.std.proofs.Common.{◌∙◌, ◌≡◌, Some, ap, arith, refl, slice_get, sym}
+use Rattle.std.proofs.Common.{◌∙◌, ap, arith, refl, slice_get, sym}
 use Rattle.iox_model.specs.declared.kind.Role.TheVariants.{Server}
 use Rattle.iox_hub_ports.specs.InPlace.{places_of}
 use Rattle.iox_control.specs.Entries.{handle_state}
 use Rattle.iox_hub_delivering.proofs.Walked.{each_step_delivers}
-use Rattle.iox_control_requests.proofs.Delivering.{all_sound, as_is, can_take, counts_all, gives_nothing, gives_one, hands_all, is_taken, leaves_all, same_places, sound_next, still_fits, when_false, when_true, within}
+use Rattle.iox_control_requests.proofs.Delivering.{all_sound, as_is, can_take, counts_all, gives_nothing, gives_one, hands_all, is_taken, leaves_all, sound_next, still_fits, when_false, when_true, within}
 use Rattle.iox_control_requests.proofs.deliveries.deliver_to_all.Goals as goal
 use Rattle.iox_control_requests.proofs.deliveries.deliver_to_all.Goals.{else-give, then-give}
 

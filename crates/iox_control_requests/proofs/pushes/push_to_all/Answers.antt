@@ -1,6 +1,6 @@
-use Rattle.std.proofs.Common.{◌∙◌, ◌≡◌, Some, ap, arith, is_some, length, slice_get, subst, sym}
+use Rattle.std.proofs.Common.{◌∙◌, ap, arith, is_some, length, slice_get, sym}
 use Rattle.iox_model.specs.declared.kind.Role.TheVariants.{Server}
-use Rattle.iox_hub_ports.specs.InPlace.{AllApart, places_of}
+use Rattle.iox_hub_ports.specs.InPlace.{places_of}
 use Rattle.iox_control.specs.Entries.{handle_state}
 use Rattle.iox_control.proofs.InPlaceLemmas.{all_apart}
 use Rattle.iox_hub_delivering.proofs.Walked.{each_step_delivers}

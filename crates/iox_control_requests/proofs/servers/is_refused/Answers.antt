@@ -1,4 +1,4 @@
-use Rattle.std.proofs.Common.{◌∙◌, ◌≡◌, Some, ap, arith, slice_get, sym}
+use Rattle.std.proofs.Common.{◌∙◌, ap, arith, slice_get, sym}
 use Rattle.iox_model.specs.declared.kind.Role.TheVariants.{Server}
 use Rattle.iox_hub_ports.specs.InPlace.{places_of}
 use Rattle.iox_control_requests.proofs.Walks.{none_refused, one_refused, passes_one}

@@ -11,6 +11,7 @@ use std::fmt;
 pub enum SafelyOverflowingIndexQueueNewError {
     /// A queue that overflows has room for one number at least.
     CapacityIsZero,
+    /// There is no memory for its numbers.
     WantOfMemory,
 }
 

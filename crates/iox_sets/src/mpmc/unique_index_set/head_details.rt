@@ -5,8 +5,11 @@ ghost use Rattle.iox_sets.specs.Heads.{details_of, word_of};
 /// The first free index, how often it changed, and how many indices are held.
 #[derive(Clone, Copy, Debug, PartialEq, Eq)]
 pub struct HeadDetails {
+    /// The first free index, below 2^24.
     pub head: u32,
+    /// How often the head changed, modulo 2^16.
     pub aba: u16,
+    /// How many indices are held, below 2^24.
     pub borrowed_indices: u32,
 }
 

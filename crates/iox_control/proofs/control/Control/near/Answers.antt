@@ -1,4 +1,3 @@
-use Rattle.std.proofs.Common.{sym, ap, ◌∙◌}
 use Rattle.iox_control.proofs.EntryLemmas.{entry_some}
 use Rattle.iox_control.proofs.control.Control.near.Goals as goal
 

@@ -1,0 +1,22 @@
+use Rattle.std.proofs.Common.{length, subst, sym, ◌<◌, ◌∙◌}
+use Rattle.std.proofs.lemmas.Option.{IfSome_then}
+use Rattle.iox_model.specs.declared.way.RequestState.TheVariants.{Closed}
+use Rattle.iox_hub_ports.specs.InPlace.{IsFirstIn}
+use Rattle.iox_hub_ports.specs.Ports.{PortsState, state_from}
+use Rattle.iox_hub_ports.proofs.InPlace.{said_in}
+use Rattle.iox_hub_ports.proofs.Seats.{get_in}
+use Rattle.iox_hub_ports.proofs.ports.Ports.state_near.Goals as goal
+
+pub state_near-requires : goal.state_near-requires
+state_near-requires c =
+    (subst (λ (s : PortsState). IsFirstIn s.ports c.args.place c.args.rank) (sym c.self.view_is) c.requires.once) c.index.result.now
+    (get_in c.self.inside.ports.items c.args.place c.index.result.now
+    (subst (λ (s : PortsState). c.args.place < length s.ports) (sym c.self.view_is) c.requires.there) c.index.ensures)
+
+pub returns : goal.returns
+returns c =
+    rw (← c.self.view_is)
+    (IfSome_then c.state_near.result c.state_near.ensures
+    (λ state is. is
+    ∙ said_in c.self.inside.ports.items c.args.place c.index.result.now (λ p. state_from p c.args.receiver c.args.lane) Closed
+    (subst (λ (s : PortsState). c.args.place < length s.ports) (sym c.self.view_is) c.requires.there) c.index.ensures))
