@@ -10,7 +10,6 @@ mod known_sends;
 mod lanes;
 mod loans_in_places;
 mod making;
-mod near;
 mod open_steps;
 mod parts;
 mod questions;

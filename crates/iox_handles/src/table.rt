@@ -105,15 +105,6 @@ impl Table {
         self.next
     }
 
-    /// No handle is to have that number.
-    #[inline]
-    pub fn skip_number(&mut self)
-        requires { self.old.next + 1 < 2 ^ 64 }
-        ensures { self.new ≡ record (self.old) { next = self.old.next + 1 } }
-    {
-        self.next += 1;
-    }
-
     /// Makes room for so many handles more.
     pub fn reserve(&mut self, more: usize) -> Result<(), AllocError>
         ensures reserved { OnOk result (self.new

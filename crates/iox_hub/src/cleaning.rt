@@ -81,25 +81,6 @@ impl<Q: Payload, QH: Words, P: Payload, PH: Words, H: Backpressure> Hub<Q, QH, P
         Some(value.number)
     }
 
-    /// Releases the node's value of the least number, and tells that number; nothing is changed if
-    /// the node has none. It takes no memory.
-    pub fn release_first(&mut self, node: u64) -> Option<u64>
-        ensures first { (x : Given)
-            → result ≡ first_of (numbers_of_node (state_of_hub x self.old).fixed node) }
-        ensures whole { IfSome result (λ n. (x : Given) → IsWholeCall (state_of_hub x self.old)
-            node (Release n) Done (state_of_hub x self.new)) }
-        ensures rest { (x : Given) → numbers_of_node (state_of_hub x self.new).fixed node
-            ≡ rest_of (numbers_of_node (state_of_hub x self.old).fixed node) }
-        ensures unchanged { result ≡ None → self.new ≡ self.old }
-        ensures keeps { IfSome result (λ n. KeepsOthers self.old node n self.new) }
-        ensures request { self.new.request ≡ self.old.request }
-        ensures response { self.new.response ≡ self.old.response }
-        ensures tidy { StaysTidy self.old.control.tables self.new.control.tables }
-    {
-        let mut ahead = START;
-        self.release_next(node, &mut ahead)
-    }
-
     /// Releases all that the node has, in the order of the numbers. It takes no memory, so it never
     /// fails; beside what the releases do, it looks at all handles and at all ports a few times in
     /// all.

@@ -13,8 +13,6 @@ pub mod Rounds
 pub mod Apart
 pub mod AtPlaces
 pub mod Hinted
-pub mod Looks
-pub mod Only
 pub mod Known
 pub mod Usual
 -- what the crates above cite of those below

@@ -5,8 +5,6 @@ use Rattle.iox_model.specs.declared.kind.Role.{Role}
 use Rattle.iox_model.specs.declared.kind.Role.TheVariants.{Client, Server}
 use Rattle.iox_model.specs.Maps.{AreDistinct}
 use Rattle.iox_model.specs.Settings.{same_role}
-use Rattle.iox_lanes.specs.declared.pipe.Oldest.{Oldest}
-use Rattle.iox_lanes.specs.Oldest.{oldest_from}
 use Rattle.iox_tables.specs.Incomings.{IsFirstAt}
 use Rattle.iox_tables.specs.Pipes.{PipeState}
 use Rattle.iox_tables.specs.HubStates.Tables.{PortState, pipe_from, pipes_of, senders_of}
@@ -16,16 +14,6 @@ use Rattle.iox_tables.specs.HubStates.Tables.{PortState, pipe_from, pipes_of, se
 -- what the pipe from this sender says; `none` where there is no such pipe
 abbrev pub on_pipe_from : {A : Type 0} → (PipeState → A) → A → PortState → ℕ → A
 on_pipe_from f none p sender = option_map_or f (pipe_from (pipes_of p) sender) none
-
--- how many senders are connected, where no pipe is kept of one that is gone; else 0
-abbrev pub usual_of : PortState → ℕ
-usual_of p = if length p.expired.pipes == 0 then length p.incoming.pipes else 0
-
--- the oldest message of the first connected sender from which one waits on that lane, if the port may
--- have one more of it, and no pipe is kept of a sender that is gone
-abbrev pub oldest_of : PortState → ℕ → Option Oldest
-oldest_of p lane =
-    if length p.expired.pipes == 0 then oldest_from p.incoming.pipes lane else None
 
 -- ---- the port in a place
 

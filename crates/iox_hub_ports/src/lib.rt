@@ -3,7 +3,6 @@
 #![tactic(auto)]
 
 pub mod info;
-mod near_steps;
 pub mod pipe_steps;
 pub mod port;
 pub mod ports;

@@ -15,7 +15,6 @@ ghost use Rattle.iox_tables.specs.HubStates.Ways.{with_lane_on, with_port, with_
 ghost use Rattle.iox_hub_ports.specs.Ports.{gone_from, info_at, info_in, kept_at, no_ports, on_way, place_in, with_connected, with_loan_counted};
 ghost use Rattle.iox_hub_ports.specs.Ports.{with_port_added, with_port_removed, with_ports, without_value};
 
-mod hinted;
 mod in_place;
 mod known;
 mod near;

@@ -96,27 +96,6 @@ fn on_state_if<S: StateStep>(port: &mut Port, role: Role, sender: u64, lane: usi
     }
 }
 
-/// Takes a step on the lane of that number, from this sender to each port of the role.
-pub fn on_each_lane<S: LaneStep>(
-    ports: &mut Vec<Port>,
-    role: Role,
-    sender: u64,
-    lane: usize,
-    step: &S,
-)
-    requires apart { AreDistinct (numbers_of ports.old.items) }
-    ensures changed { ports.new.items
-        ≡ with_lanes_on (S.changed step.now) ports.old.items
-        (ways_from sender lane role ports.old.items) }
-    ensures numbers { numbers_of ports.new.items ≡ numbers_of ports.old.items }
-    ensures roles { roles_of ports.new.items ≡ roles_of ports.old.items }
-    ensures capacity { vec_capacity ports.new ≡ vec_capacity ports.old }
-{
-    for i in 0..ports.len() {
-        on_lane_if(&mut ports[i], role, sender, lane, step);
-    }
-}
-
 /// Takes a step on the request state of that lane, from each port of the role to this receiver.
 #[inline(always)]
 pub fn on_each_state<S: StateStep>(

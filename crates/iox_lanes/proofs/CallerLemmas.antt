@@ -30,13 +30,13 @@ room_where_emptied l s none room counts =
 -- ---- what its receiver has
 
 -- a place that is found stands at its rank
-pub record Ranked (k n i : ℕ) (ks : List ℕ) : Type 0 where
-  pub at : ℕ
-  pub is : i ≡ at + n
-  pub within : at < length ks
-  pub holds : k ≡ get_or ks at k
+record Ranked (k n i : ℕ) (ks : List ℕ) : Type 0 where
+  at : ℕ
+  is : i ≡ at + n
+  within : at < length ks
+  holds : k ≡ get_or ks at k
 
-pub ranked : (k n i : ℕ) (ks : List ℕ) → position_from (λ m. m == k) n ks ≡ Some i → Ranked k n i ks
+ranked : (k n i : ℕ) (ks : List ℕ) → position_from (λ m. m == k) n ks ≡ Some i → Ranked k n i ks
 ranked k n i [] h = absurd (false≢true (ap (λ (o : Option ℕ). is_some o) h))
 ranked k n i (x ∷ ks) h =
     elim (x == k) as (λ b. (x == k) ≡ b → cond b (Some n) (position_from (λ m. m == k) (n + 1) ks) ≡ Some i → Ranked k n i (x ∷ ks)) [

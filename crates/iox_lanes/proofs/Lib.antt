@@ -9,7 +9,4 @@ pub mod Sound
 pub mod Counting
 pub mod Kept
 pub mod Senders
-pub mod Last
-pub mod Near
-pub mod Oldest
 pub mod Usual

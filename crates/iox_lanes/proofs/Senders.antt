@@ -5,7 +5,7 @@ use Rattle.std.proofs.lemmas.Option.{slice_get_read, slice_get_within}
 use Rattle.std.specs.List.{position_from}
 use Rattle.std.specs.Option.{option_map_or}
 use Rattle.std.specs.Prelude.{IfSome, slice_get}
-use Rattle.iox_lanes.specs.Incomings.{IncomingState, IsFirstAt, on_pipe_by, rank_from, with_pipe, with_pipe_by}
+use Rattle.iox_lanes.specs.Incomings.{IncomingState, IsFirstAt, on_pipe_by, rank_from}
 use Rattle.iox_lanes.specs.Lanes.{LaneState}
 use Rattle.iox_lanes.specs.Pipes.{PipeState, with_lane}
 use Rattle.iox_lanes.proofs.Kept.{there}
@@ -77,27 +77,3 @@ lane_sender g p lane = step (slice_get p.lanes lane)
 pub both_of : {X : Type 0} (o : Option X) {P Q R : X → Type 0} → IfSome o P → IfSome o Q → ((x : X) → P x → Q x → R x) → IfSome o R
 both_of None p q f = tt
 both_of (Some x) p q f = f x p q
-
--- ---- the pipe of a rank is that from the sender
-
-module _ (c : IncomingState) (rank sender : ℕ) (p : PipeState) (is : Some rank ≡ rank_from c.pipes sender) (h : rank < length c.pipes)
-    (e : p ≡ get_or c.pipes rank p) where
-  stands : slice_get c.pipes rank ≡ Some p
-  stands = slice_get_read c.pipes (length c.pipes) rank p refl h e
-
-  pub asked_at : {A : Type 0} (f : PipeState → A) (none : A) → f p ≡ on_pipe_by f none c sender
-  asked_at f none =
-      sym (ap (λ (o : Option PipeState). option_map_or f o none) stands)
-      ∙ ap (λ (o : Option ℕ). option_map_or (λ r. option_map_or f (slice_get c.pipes r) none) o none) is
-
-  pub changed_at : (f : PipeState → PipeState) → record c { pipes = slice_set c.pipes rank (f p) } ≡ with_pipe_by f c sender
-  changed_at f =
-      sym (ap (λ (o : Option PipeState). option_map_or (λ q. record c { pipes = slice_set c.pipes rank (f q) }) o c) stands)
-      ∙ ap (λ (o : Option ℕ). option_map_or (λ r. with_pipe f c r) o c) is
-
--- a change of the pipe of a rank
-pub changed_of_rank : (f : PipeState → PipeState) (c : IncomingState) (rank : ℕ) (p : PipeState) → rank < length c.pipes → p ≡ get_or c.pipes rank p
-    → record c { pipes = slice_set c.pipes rank (f p) } ≡ with_pipe f c rank
-changed_of_rank f c rank p h e =
-    sym (ap (λ (o : Option PipeState). option_map_or (λ q. record c { pipes = slice_set c.pipes rank (f q) }) o c)
-    (slice_get_read c.pipes (length c.pipes) rank p refl h e))

@@ -23,6 +23,10 @@ no_pipes most = record { most = most; pipes = [] }
 abbrev pub rank_from : List PipeState → ℕ → Option ℕ
 rank_from ps sender = position_from (λ p. p.sender == sender) 0 ps
 
+-- the rank of the first pipe on which something waits on that lane
+abbrev pub first_waiting : List PipeState → ℕ → Option ℕ
+first_waiting ps lane = position_from (λ p. on_lane has_waiting false p lane) 0 ps
+
 -- the pipe of that rank, if there is one, is the first from its sender
 abbrev pub IsFirstAt : List PipeState → ℕ → Type 0
 IsFirstAt ps rank = (p : PipeState) → slice_get ps rank ≡ Some p → rank_from ps p.sender ≡ Some rank

@@ -1,5 +1,5 @@
 -- A lane, as its callers see it: lists of places in its sender's pool.
-use Rattle.std.specs.Prelude.{ℕ, ◌+◌, ◌-◌, ◌<◌, ◌≤◌, ◌^◌, Bool, ◌&&◌, if◌then◌else◌, ◌==◌, List, [], ◌∷◌, ◌++◌, length, drop, filter, false, Option, None, slice_get, is_some, nat_le, nat_lt, not}
+use Rattle.std.specs.Prelude.{ℕ, ◌+◌, ◌-◌, ◌<◌, ◌≤◌, ◌^◌, Bool, ◌&&◌, if◌then◌else◌, ◌==◌, List, [], ◌∷◌, ◌++◌, length, drop, filter, Option, slice_get, is_some, nat_le, nat_lt, not}
 use Rattle.std.specs.List.{position_from, swap_remove}
 use Rattle.std.specs.Option.{option_map_or}
 use Rattle.iox_model.specs.Maps.{is_empty}
@@ -77,18 +77,6 @@ rank_in places k = position_from (λ n. n == k) 0 places
 abbrev pub is_taken : LaneState → ℕ → Bool
 is_taken l k = is_some (rank_in l.taken k)
 
--- the last of these places is that one
-abbrev pub ends_with : List ℕ → ℕ → Bool
-ends_with places k = option_map_or (λ n. n == k) (slice_get places (length places - 1)) false
-
--- the message in this place is the one that the receiver took last
-abbrev pub is_last_taken : LaneState → ℕ → Bool
-is_last_taken l k = ends_with l.taken k
-
--- the oldest message, if its receiver may have one more
-abbrev pub next_to_take : LaneState → Option ℕ
-next_to_take l = if is_at_limit l then None else oldest l
-
 -- ---- how a lane changes
 
 -- nothing was ever delivered
@@ -140,10 +128,6 @@ without_taken l k =
 -- the receiver has the message no more, and gave it back
 abbrev pub released : LaneState → ℕ → LaneState
 released l k = if is_taken l k then with_returned (without_taken l k) k else l
-
--- the same, if it is the one that the receiver took last
-abbrev pub last_released : LaneState → ℕ → LaneState
-last_released l k = if is_last_taken l k then released l k else l
 
 -- its sender has the oldest of those given back again
 abbrev pub without_returned : LaneState → LaneState

@@ -6,4 +6,3 @@ pub mod Pipes
 pub mod PipeSteps
 pub mod Visited
 pub mod Incomings
-pub mod Oldest

@@ -92,18 +92,6 @@ impl Cells {
         Some(self.cells[around(self.first + rank, self.cells.len())])
     }
 
-    /// The oldest place, if one lies there.
-    #[inline(always)]
-    #[tactic(auto, using(crate::proofs::InCells::in_cells))]
-    pub(crate) fn oldest(&self) -> Option<u64>
-        ensures { result ≡ slice_get self.now.places 0 }
-    {
-        if self.count == 0 {
-            return None;
-        }
-        Some(self.cells[self.first])
-    }
-
     /// Puts a place behind the others. There is room for it.
     #[inline]
     #[tactic(auto, using(crate::proofs::InCells::in_cells))]

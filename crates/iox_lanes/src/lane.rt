@@ -5,7 +5,6 @@ ghost use Rattle.iox_model.specs.Maps.{is_empty};
 ghost use Rattle.iox_lanes.specs.Lanes.{HasOneInHand, IsSound, offered, empty_lane, has_returned, has_room, is_at_limit, is_full, is_taken, oldest, oldest_returned, oldest_taken, outstanding, places, rank_in, released, returned_times, with_returned, with_taken, without_first, without_oldest, without_returned, without_taken};
 ghost use Rattle.iox_lanes.specs.PipeSteps.{pushed, pushed_out};
 
-mod near;
 mod usual;
 
 use crate::cells::Cells;

@@ -7,7 +7,6 @@ pub mod expired;
 pub mod incoming;
 pub mod lane;
 mod marks;
-mod near_steps;
 pub mod pipe;
 pub mod pipe_steps;
 pub mod search;

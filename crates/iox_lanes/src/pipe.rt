@@ -8,7 +8,6 @@ ghost use Rattle.iox_lanes.specs.PipeSteps.{pushed, pushed_out};
 ghost use Rattle.iox_lanes.specs.Searches.{state_on};
 ghost use Rattle.iox_lanes.specs.Visited.{pipe_visit, pipe_visited, pool_on};
 
-mod near;
 mod usual;
 
 use crate::lane::Lane;
@@ -29,16 +28,6 @@ pub struct Next {
     pub place: u64,
     /// Whether something is left to get back.
     pub more: bool,
-}
-
-/// The oldest message that waits for a receiver on a lane.
-#[derive(Clone, Copy, Debug, PartialEq, Eq, Drop)]
-pub struct Oldest {
-    /// From which port it comes, and the rank of its pipe.
-    pub sender: u64,
-    pub rank: usize,
-    pub pool: usize,
-    pub place: u64,
 }
 
 /// All lanes from one port to its receiver. Beside the lane of requests from a client stand the
@@ -124,14 +113,6 @@ impl Pipe {
         ensures { result ≡ self.now.sender }
     {
         self.sender
-    }
-
-    /// How many lanes there are.
-    #[inline]
-    pub fn lanes_len(&self) -> usize
-        ensures { result ≡ length self.now.lanes }
-    {
-        self.lanes.len()
     }
 
     /// The pool of that lane's places.

@@ -1,5 +1,5 @@
 //! What is done to a pipe, to one of its lanes, or to one of its request states.
-ghost use Rattle.std.specs.Prelude.{◌≡◌, IfSome, IsSome, None};
+ghost use Rattle.std.specs.Prelude.{◌≡◌};
 ghost use Rattle.iox_model.specs.declared.way.RequestState.{RequestState};
 ghost use Rattle.iox_lanes.specs.Lanes.{LaneState};
 ghost use Rattle.iox_lanes.specs.Pipes.{PipeState, on_lane, with_lane, with_state};
@@ -55,13 +55,4 @@ pub trait PipeStep {
     fn step(&self, pipe: &mut Pipe) -> Self::Answer
         ensures told { result ≡ told self.now pipe.old }
         ensures changed { pipe.new ≡ changed self.now pipe.old };
-}
-
-/// A step on one pipe that may also be taken only where that is short. Then it is the same step, or
-/// nothing changes.
-pub trait NearStep: PipeStep {
-    fn step_near(&self, pipe: &mut Pipe) -> Option<Self::Answer>
-        ensures told { IfSome result (λ answer. answer ≡ Self.told self.now pipe.old) }
-        ensures changed { IsSome result → pipe.new ≡ Self.changed self.now pipe.old }
-        ensures unchanged { result ≡ None → pipe.new ≡ pipe.old };
 }

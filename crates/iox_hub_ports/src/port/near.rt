@@ -8,13 +8,13 @@ ghost use Rattle.iox_tables.specs.Wanted.{Wanted};
 ghost use Rattle.iox_tables.specs.HubStates.Receives.{visited_port};
 ghost use Rattle.iox_tables.specs.HubStates.Tables.{pipes_of};
 ghost use Rattle.iox_tables.specs.HubStates.Ways.{with_pipe_of};
-ghost use Rattle.iox_hub_ports.specs.InPlace.{oldest_of, on_pipe_from, usual_of};
+ghost use Rattle.iox_hub_ports.specs.InPlace.{on_pipe_from};
 ghost use Rattle.iox_hub_ports.specs.Ports.{lane_to_get_on, on_lane_from, state_from, with_lane_from};
 
 use crate::port::Port;
 use iox_model::way::RequestState;
-use iox_tables::pipe::{Next, Oldest};
-use iox_tables::steps::{NearStep, PipeStep};
+use iox_tables::pipe::Next;
+use iox_tables::steps::PipeStep;
 
 impl Port {
     /// Where the pipes from it likely stand among those that lead to others.
@@ -37,17 +37,6 @@ impl Port {
         ensures { result ≡ (length self.now.expired.pipes == 0) }
     {
         self.expired.len() == 0
-    }
-
-    /// How many senders are connected, where no pipe is kept of one that is gone; else 0.
-    #[inline(always)]
-    pub fn usual(&self) -> usize
-        ensures { result ≡ usual_of self.now }
-    {
-        if self.keeps_none() {
-            return self.incoming.len();
-        }
-        0
     }
 
     /// Takes a step on the pipe from this sender, which is looked for at the hint first.
@@ -140,67 +129,5 @@ impl Port {
         ensures unchanged { result ≡ None → self.new ≡ self.old }
     {
         self.get_next(sender)
-    }
-
-    // ---- where the pipe is at the hint, or nothing is done
-
-    /// Takes a step on the pipe from this sender, if that is of the rank, no pipe is kept of a
-    /// sender that is gone, and the step is short.
-    #[inline(always)]
-    pub fn on_pipe_near<S: NearStep>(
-        &mut self,
-        sender: u64,
-        rank: usize,
-        step: &S,
-    ) -> Option<S::Answer>
-        requires { IsFirstAt self.old.incoming.pipes rank }
-        ensures told { IfSome result (λ answer.
-            answer ≡ on_pipe_from (S.told step.now) (S.none step.now) self.old sender) }
-        ensures changed { IsSome result
-            → self.new ≡ with_pipe_of (S.changed step.now) self.old sender }
-        ensures unchanged { result ≡ None → self.new ≡ self.old }
-    {
-        if self.usual() <= rank {
-            return None;
-        }
-        self.incoming.on_pipe_near(sender, rank, step)
-    }
-
-    /// The request state of that lane, beside the pipe from this sender, if that is of the rank, and
-    /// no pipe is kept of a sender that is gone.
-    #[inline(always)]
-    pub fn state_near(&self, sender: u64, rank: usize, lane: u64) -> Option<RequestState>
-        requires { IsFirstAt self.now.incoming.pipes rank }
-        ensures { IfSome result (λ state. state ≡ state_from self.now sender lane) }
-    {
-        if self.usual() <= rank {
-            return None;
-        }
-        self.incoming.state_near(sender, rank, lane)
-    }
-
-    // ---- what a receiver takes
-
-    /// The oldest message of the first connected sender from which one waits on that lane, if it may
-    /// have one more of it, and keeps no pipe of a sender that is gone.
-    #[inline(always)]
-    pub fn oldest(&self, lane: usize) -> Option<Oldest>
-        ensures { result ≡ oldest_of self.now lane }
-    {
-        if self.keeps_none() {
-            return self.incoming.oldest(lane);
-        }
-        None
-    }
-
-    /// Takes that message. So does each visit by which it is wanted.
-    #[inline(always)]
-    pub fn take_oldest(&mut self, lane: usize, oldest: Oldest)
-        requires { oldest_of self.old lane ≡ Some oldest }
-        ensures { (wanted : Wanted) (labels : LabelsByPlace)
-            → is_wanted wanted [] (labels oldest.pool) oldest.place ≡ true
-            → self.new ≡ visited_port wanted labels lane self.old }
-    {
-        self.incoming.take_oldest(lane, oldest);
     }
 }

@@ -9,7 +9,7 @@ ghost use Rattle.iox_tables.specs.Visited.{all_visits};
 ghost use Rattle.iox_tables.specs.HubStates.Receives.{visited_port};
 ghost use Rattle.iox_tables.specs.HubStates.Tables.{pipes_of};
 ghost use Rattle.iox_tables.specs.HubStates.Ways.{with_pipe_of};
-ghost use Rattle.iox_hub_ports.specs.InPlace.{IsFirstIn, in_place, on_pipe_from, only_of, places_of, usual_of, with_place};
+ghost use Rattle.iox_hub_ports.specs.InPlace.{IsFirstIn, in_place, on_pipe_from, only_of, places_of, with_place};
 ghost use Rattle.iox_hub_ports.specs.Ports.{state_from, with_loan_counted, with_ports};
 
 use crate::ports::Ports;
@@ -28,16 +28,6 @@ impl Ports {
         requires { place < length self.now.ports }
     {
         self.ports[place].rank()
-    }
-
-    /// How many senders are connected to the port in that place, where it keeps no pipe of one that
-    /// is gone; else 0.
-    #[inline(always)]
-    pub fn usual(&self, place: usize) -> usize
-        requires { place < length self.now.ports }
-        ensures { result ≡ in_place usual_of 0 self.now.ports place }
-    {
-        self.ports[place].usual()
     }
 
     /// Takes a step on the pipe from the sender to the port in that place. The pipe is looked for
@@ -82,24 +72,6 @@ impl Ports {
             (with_place with_loan_counted self.old.ports place) }
     {
         self.ports[place].count_loan();
-    }
-
-    /// Visits that lane of each sender to the port in that place, until one gives a message.
-    #[inline(always)]
-    pub fn visit_at<L: Labels>(
-        &mut self,
-        place: usize,
-        lane: u64,
-        wanted: Wanted,
-        labels: &L,
-    ) -> Visits
-        requires { place < length self.old.ports }
-        ensures visits { result ≡ all_visits wanted (L.label_of labels.now) lane
-            (in_place pipes_of [] self.old.ports place) }
-        ensures visited { self.new ≡ with_ports self.old (with_place
-            (visited_port wanted (L.label_of labels.now) lane) self.old.ports place) }
-    {
-        self.ports[place].visit(lane as usize, wanted, labels)
     }
 
     // ---- the ports of a role

@@ -1,16 +1,14 @@
 //! The pipe from a sender, which is looked for at a hint first: a wrong hint is only slower.
 ghost use Rattle.std.specs.Option.{option_map};
-ghost use Rattle.std.specs.Prelude.{◌≡◌, ◌<◌, IfSome, IsSome, IsTrue, None, Some, is_some, length, slice_get};
+ghost use Rattle.std.specs.Prelude.{◌≡◌, IfSome, None, Some, is_some, slice_get};
 ghost use Rattle.iox_model.specs.declared.way.RequestState.TheVariants.{Closed};
-ghost use Rattle.iox_lanes.specs.Lanes.{oldest_taken, without_returned};
+ghost use Rattle.iox_lanes.specs.Lanes.{without_returned};
 ghost use Rattle.iox_lanes.specs.Pipes.{lane_to_get, on_lane, with_lane};
 ghost use Rattle.iox_lanes.specs.Searches.{state_on};
-ghost use Rattle.iox_lanes.specs.Incomings.{IsFirstAt, on_pipe_by, rank_from, with_pipe, with_pipe_by};
-ghost use Rattle.iox_lanes.specs.Oldest.{first_waiting, oldest_from};
+ghost use Rattle.iox_lanes.specs.Incomings.{IsFirstAt, on_pipe_by, with_pipe_by};
 
 use crate::incoming::Incoming;
-use crate::pipe::{Next, Oldest};
-use crate::steps::NearStep;
+use crate::pipe::Next;
 use iox_model::way::RequestState;
 
 impl Incoming {
@@ -48,83 +46,5 @@ impl Incoming {
             Some(rank) => self.pipes[rank].get_next(),
             None => None,
         }
-    }
-
-    // ---- where the pipe is at the hint, or nothing is done
-
-    /// Whether the pipe of that rank is from this sender.
-    #[inline(always)]
-    fn is_first_from(&self, sender: u64, rank: usize) -> bool
-        requires within { rank < length self.now.pipes }
-        requires once { IsFirstAt self.now.pipes rank }
-        ensures { IsTrue result → Some rank ≡ rank_from self.now.pipes sender }
-    {
-        self.pipes[rank].sender() == sender
-    }
-
-    /// Takes a step on the pipe from this sender, if it is that of the rank and the step is short.
-    #[inline(always)]
-    pub fn on_pipe_near<S: NearStep>(
-        &mut self,
-        sender: u64,
-        rank: usize,
-        step: &S,
-    ) -> Option<S::Answer>
-        requires within { rank < length self.old.pipes }
-        requires once { IsFirstAt self.old.pipes rank }
-        ensures told { IfSome result (λ answer.
-            answer ≡ on_pipe_by (S.told step.now) (S.none step.now) self.old sender) }
-        ensures changed { IsSome result
-            → self.new ≡ with_pipe_by (S.changed step.now) self.old sender }
-        ensures unchanged { result ≡ None → self.new ≡ self.old }
-    {
-        if !self.is_first_from(sender, rank) {
-            return None;
-        }
-        step.step_near(&mut self.pipes[rank])
-    }
-
-    /// The request state of that lane, beside the pipe from this sender, if it is that of the rank.
-    #[inline(always)]
-    pub fn state_near(&self, sender: u64, rank: usize, lane: u64) -> Option<RequestState>
-        requires within { rank < length self.now.pipes }
-        requires once { IsFirstAt self.now.pipes rank }
-        ensures { IfSome result (λ state.
-            state ≡ on_pipe_by (λ p. state_on p.states lane) Closed self.now sender) }
-    {
-        if !self.is_first_from(sender, rank) {
-            return None;
-        }
-        Some(self.pipes[rank].state(lane))
-    }
-
-    // ---- what a receiver takes
-
-    /// The rank of the first pipe on which something waits on that lane.
-    #[inline(always)]
-    pub(crate) fn first_waiting(&self, lane: usize) -> Option<usize>
-        ensures first { result ≡ first_waiting self.now.pipes lane }
-        ensures within { IfSome result (λ rank. rank < length self.now.pipes) }
-    {
-        self.pipes.iter().position(|pipe| pipe.has_waiting(lane))
-    }
-
-    /// The oldest message on that lane of the first pipe on which one waits there, if the receiver
-    /// may have one more of it.
-    #[inline(always)]
-    pub fn oldest(&self, lane: usize) -> Option<Oldest>
-        ensures { result ≡ oldest_from self.now.pipes lane }
-    {
-        let rank = self.first_waiting(lane)?;
-        self.pipes[rank].oldest(rank, lane)
-    }
-
-    /// The receiver takes that message.
-    #[inline(always)]
-    pub fn take_oldest(&mut self, lane: usize, oldest: Oldest)
-        requires { oldest_from self.old.pipes lane ≡ Some oldest }
-        ensures { self.new ≡ with_pipe (λ p. with_lane oldest_taken p lane) self.old oldest.rank }
-    {
-        self.pipes[oldest.rank].take_oldest(lane);
     }
 }
