@@ -4,10 +4,10 @@ ghost use Rattle.std.specs.Vec.{vec_capacity};
 ghost use Rattle.iox_model.specs.Maps.{AreDistinct};
 ghost use Rattle.iox_model.specs.Settings.{same_role};
 ghost use Rattle.iox_tables.specs.HubStates.Tables.{numbers_of};
-ghost use Rattle.iox_tables.specs.HubStates.Ways.{with_lanes_on, with_states_on};
+ghost use Rattle.iox_tables.specs.HubStates.Ways.{with_states_on};
 ghost use Rattle.iox_hub_ports.specs.InPlace.{roles_of};
 ghost use Rattle.iox_hub_ports.specs.Ports.{if_role, is_at, on_way_at, place_in, state_ways};
-ghost use Rattle.iox_hub_ports.specs.Ports.{ways_from, with_lane_at, with_lane_from, with_state_from};
+ghost use Rattle.iox_hub_ports.specs.Ports.{with_lane_at, with_state_from};
 
 use crate::port::Port;
 use iox_model::kind::Role;
@@ -73,17 +73,6 @@ pub fn on_lane_at<S: LaneStep>(
 }
 
 // ---- the ways to, or from, all ports of one role
-
-/// Takes a step on one lane of the port, if it is of the role.
-#[inline]
-fn on_lane_if<S: LaneStep>(port: &mut Port, role: Role, sender: u64, lane: usize, step: &S)
-    ensures { port.new
-        ≡ if_role role (λ p. with_lane_from (S.changed step.now) p sender lane) port.old }
-{
-    if is_same_role(port.role(), role) {
-        port.on_lane(sender, lane, step);
-    }
-}
 
 /// Takes a step on one request state of the port, if it is of the role.
 #[inline]

@@ -1,5 +1,5 @@
 //! A visit to one lane, and the search for a message that its receiver wants.
-ghost use Rattle.std.specs.Prelude.{◌≡◌, length, OnSome};
+ghost use Rattle.std.specs.Prelude.{◌≡◌, OnSome};
 ghost use Rattle.iox_lanes.specs.Lanes.{HasOneInHand};
 ghost use Rattle.iox_lanes.specs.Searches.{first_on, is_wanted, searched_on, visit_on, visited_on};
 

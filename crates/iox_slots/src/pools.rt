@@ -1,16 +1,13 @@
 //! The pools of a hub, by place.
-ghost use Rattle.std.specs.Prelude.{◌≡◌, ◌<◌, ◌^◌, ◌-◌, ◌+◌, ◌↔◌, ℕ, IfOk, IfSome, IsSome, IsTrue, None, OnErr, OnOk};
-ghost use Rattle.std.specs.Prelude.{Some, [], count_by, false, length, nat_lt, option_map, position, is_none, slice_get, true};
-ghost use Rattle.std.specs.List.{list_all};
+ghost use Rattle.std.specs.Prelude.{◌≡◌, ◌<◌, ◌^◌, ◌-◌, ◌+◌, ◌↔◌, IfOk, IfSome, IsSome, None, OnErr, OnOk};
+ghost use Rattle.std.specs.Prelude.{Some, [], false, length, option_map, position, is_none, slice_get, true};
 ghost use Rattle.std.specs.Bool.{OnFalse};
-ghost use Rattle.std.specs.Option.{option_map_or};
-ghost use Rattle.iox_tables.specs.HubStates.States.{no_id, node_id_of, port_id_of};
-ghost use Rattle.iox_tables.specs.HubStates.Tables.{labels_of, owner_of, pool_at, slot_at, slots_of, is_free};
+ghost use Rattle.iox_tables.specs.HubStates.Tables.{labels_of, owner_of, pool_at, slot_at, slots_of};
 ghost use Rattle.iox_tables.specs.HubLoans.Slots.{put_slot_of};
 ghost use Rattle.iox_slots.specs.FreeLists.{has_free_slot};
 ghost use Rattle.iox_slots.specs.Pools.{Acquires, free_count, freed_by_one, has_slot, is_idle};
 ghost use Rattle.iox_slots.specs.Pools.{is_taken_at, place_for_one, with_one_more, with_pool, with_slot, without_pool, Takes};
-ghost use Rattle.iox_slots.specs.Slots.{held, is_taken, let_go, new_pool, slot_in, taken, with_slot_of, written};
+ghost use Rattle.iox_slots.specs.Slots.{held, let_go, new_pool, taken, written};
 
 mod leaving;
 mod shared;

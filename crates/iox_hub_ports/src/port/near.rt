@@ -1,11 +1,8 @@
 //! The pipe from a sender, which is looked for at a hint first: a wrong hint is only slower.
 ghost use Rattle.std.specs.Option.{option_map};
-ghost use Rattle.std.specs.Prelude.{◌≡◌, ◌==◌, [], IfSome, IsSome, None, Some, is_some, length, slice_get, true};
+ghost use Rattle.std.specs.Prelude.{◌≡◌, ◌==◌, [], IfSome, None, Some, is_some, length, slice_get};
 ghost use Rattle.iox_tables.specs.Incomings.{IsFirstAt};
 ghost use Rattle.iox_tables.specs.Lanes.{without_returned};
-ghost use Rattle.iox_tables.specs.Searches.{LabelsByPlace, is_wanted};
-ghost use Rattle.iox_tables.specs.Wanted.{Wanted};
-ghost use Rattle.iox_tables.specs.HubStates.Receives.{visited_port};
 ghost use Rattle.iox_tables.specs.HubStates.Tables.{pipes_of};
 ghost use Rattle.iox_tables.specs.HubStates.Ways.{with_pipe_of};
 ghost use Rattle.iox_hub_ports.specs.InPlace.{on_pipe_from};

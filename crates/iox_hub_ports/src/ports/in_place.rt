@@ -5,9 +5,6 @@ ghost use Rattle.std.specs.Prelude.{◌≡◌, ◌<◌, ◌^◌, ◌-◌, [], If
 ghost use Rattle.iox_model.specs.declared.kind.Role.TheVariants.{Client, Server};
 ghost use Rattle.iox_model.specs.declared.way.RequestState.TheVariants.{Closed};
 ghost use Rattle.iox_model.specs.Settings.{other_role};
-ghost use Rattle.iox_tables.specs.Visited.{all_visits};
-ghost use Rattle.iox_tables.specs.HubStates.Receives.{visited_port};
-ghost use Rattle.iox_tables.specs.HubStates.Tables.{pipes_of};
 ghost use Rattle.iox_tables.specs.HubStates.Ways.{with_pipe_of};
 ghost use Rattle.iox_hub_ports.specs.InPlace.{IsFirstIn, in_place, on_pipe_from, only_of, places_of, with_place};
 ghost use Rattle.iox_hub_ports.specs.Ports.{state_from, with_loan_counted, with_ports};
@@ -17,7 +14,6 @@ use iox_model::kind::Role;
 use iox_model::way::RequestState;
 use iox_tables::incoming::Visits;
 use iox_tables::steps::PipeStep;
-use iox_tables::wanted::{Labels, Wanted};
 
 impl Ports {
     // ---- the port in a place

@@ -79,18 +79,6 @@ impl Ports {
 
     // ---- for each port in its place
 
-    /// The lowest lane from the sender on which the port in that place left something to get back,
-    /// if there is one.
-    pub fn lane_to_get_at(&mut self, at: usize, sender: u64) -> Option<usize>
-        ensures lowest { result ≡ lane_to_get_at self.old.ports at sender }
-        ensures unchanged { self.new ≡ self.old }
-    {
-        if at < self.ports.len() {
-            return self.ports[at].lane_to_get(sender);
-        }
-        None
-    }
-
     /// Gets back the oldest message of those that the port in that place gave back on the lowest
     /// lane from the sender on which something is left to get back, if there is one.
     #[inline(always)]
