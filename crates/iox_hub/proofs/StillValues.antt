@@ -1,5 +1,5 @@
 -- What a node has of some kind it still has.
-use Rattle.std.specs.Prelude.{◌≡◌, ℕ, false, Option}
+use Rattle.std.specs.Prelude.{ℕ, false, Option}
 use Rattle.std.specs.Option.{option_map_or}
 use Rattle.std.proofs.Common.{ap, ◌∙◌}
 use Rattle.iox_model.specs.declared.kind.Kind.{Kind}

@@ -261,12 +261,10 @@ impl<Q: Payload, QH: Words, P: Payload, PH: Words, H: Backpressure> Hub<Q, QH, P
             → WantsRoom self.old (lender_of_request p 0) self.old.request elements }
     {
         self.is_in_order();
-        let at = self.control.likely_place(client, hint);
-        let Some(port) = self.control.ports().find_near(client, at) else {
-            unreachable!();
-        };
-        if elements as u64 <= port.longest {
-            return self.lend_request_in_room(node, client, at, port, elements, uninit, None);
+        if let Some(port) = self.control.ports().near(client, hint) {
+            if elements as u64 <= port.longest {
+                return self.lend_request_in_room(node, client, hint, port, elements, uninit, None);
+            }
         }
         self.lend_request_growing(node, client, elements, uninit)
     }
@@ -331,14 +329,13 @@ impl<Q: Payload, QH: Words, P: Payload, PH: Words, H: Backpressure> Hub<Q, QH, P
     {
         self.is_in_order();
         let entry = self.control.known(node, number, hint);
-        let at = self.control.likely_place(entry.port, entry.at as usize);
-        let Some(port) = self.control.ports().find_near(entry.port, at) else {
-            unreachable!();
-        };
-        if port.longest >= elements as u64 {
-            return self.lend_response_in_room(
-                node, number, entry, at, port, elements, uninit, None,
-            );
+        let at = entry.at as usize;
+        if let Some(port) = self.control.ports().near(entry.port, at) {
+            if port.longest >= elements as u64 {
+                return self.lend_response_in_room(
+                    node, number, entry, at, port, elements, uninit, None,
+                );
+            }
         }
         self.lend_response_growing(node, number, hint, elements, uninit)
     }
