@@ -92,14 +92,19 @@ def text_of(name):
     return "\n".join(it.read_text() for it in files if it.suffix in (".rt", ".antt", ".edit"))
 
 
+# Libraries that crates are given and do not name, for now. To take one out, all that stands on its crate is proved anew: so it goes with
+# the next change there.
+SPARE = {("iox_hub_ports", "iox_lanes")}
+
+
 def unnamed():
-    """The libraries of ours that a crate is given and does not name, as pairs."""
+    """The libraries of ours that a crate is given and does not name, as pairs, without those that are left for now."""
     crates = [crate for _, found in groups() for crate in found]
     ours = {name for name, _ in crates}
     for name, below in crates:
         text = text_of(name)
         for it in below:
-            if it in ours and not re.search(rf"\bRattle\.{it}\b|\b{it}::|\buse {it}\b", text):
+            if it in ours and (name, it) not in SPARE and not re.search(rf"\bRattle\.{it}\b|\b{it}::|\buse {it}\b", text):
                 yield f"{name}: {it}"
 
 
