@@ -22,7 +22,7 @@ TOP = pathlib.Path(__file__).resolve().parent.parent
 PAGE = TOP / "docs" / "ARCHITECTURE.md"
 BEGIN, END = "<!-- crates: written by tools/crate_list.py -->", "<!-- end of crates -->"
 # A way costs the gate some 3 to 6 ms, of one processor, twice.
-MOST_WAYS = 96_000
+MOST_WAYS = 101_000
 CRATE = re.compile(r"^([a-z0-9_]+)(?: staticlib)?:(.*)$")
 
 
