@@ -92,6 +92,7 @@ fn end_removed(control: &mut Control, entry: Entry) -> bool
 /// It is looked for once, at the hint first. Its port stays. It is a call of its own, so that what is
 /// usual is short.
 #[inline(never)]
+#[cold]
 fn end_far(control: &mut Control, node: u64, number: u64, kind: Kind, hint: usize) -> Option<Ended>
     requires order { IsControl control.old }
     ensures told { option_map (λ r. handle_state r.entry) result

@@ -14,7 +14,7 @@ ghost use Rattle.iox_control.specs.Controls.{IsControl, with_handle_dropped, wit
 ghost use Rattle.iox_control.specs.Entries.{handle_state};
 ghost use Rattle.iox_control_releasing.specs.Ends.{HasEnded, IsNear};
 
-use iox_control::Control;
+use iox_control::{Control, is_still};
 use iox_handles::Entry;
 use iox_hub_ports::ports::Ports;
 use iox_model::kind::Kind;
@@ -76,13 +76,12 @@ fn remove(
         (with_slot let_go control.old.tables.pools entry.pool entry.slot) }
     ensures unchanged { OnFalse result (control.new ≡ control.old) }
 {
-    match control.remove_still(node, number, kind, hint) {
-        None => false,
-        Some(_) => {
-            control.let_go_of(entry.pool, entry.slot);
-            true
-        }
+    if !is_still(kind, entry.kind) {
+        return false;
     }
+    control.remove_known(node, number, hint, entry.kind);
+    control.let_go_of(entry.pool, entry.slot);
+    true
 }
 
 /// Ends the node's active request of that number, if that is usual.

@@ -80,9 +80,3 @@ module _ {h : HubState} {role : Role} {node n count : ℕ} {new : ControlState} 
       → HasWritten h node n (kind_of_filled role) count ws result (with_control h new)
   other_has ws (written.Done p) never c = absurd (never p refl)
   other_has ws written.WrongLength never c = misfit_length role c.hub node n c.loan count new (c.write.left c.loan.handle c.loan.there)
-
-  -- a loan that has so many elements is filled
-  pub is_done : (result : Written) → ((p : Place) → result ≡ written.Done p → ⊥) → IsWriteCall h role node n count new result
-      → (message_in h node n).elements ≡ count → ⊥
-  is_done (written.Done p) never c fits = never p refl
-  is_done written.WrongLength never c fits = misfit_length role c.hub node n c.loan count new (c.write.left c.loan.handle c.loan.there) fits

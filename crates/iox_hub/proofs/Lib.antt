@@ -24,6 +24,7 @@ pub mod ReleasedWords
 pub mod SendingFits
 pub mod SendingNames
 pub mod SendingHubs
+mod SendLeft
 pub mod Handling
 pub mod Overflowing
 pub mod LendingWords

@@ -210,6 +210,7 @@ impl<Q: Payload, QH: Words, P: Payload, PH: Words, H: Backpressure> Hub<Q, QH, P
 
     /// Lends a request of that client for so many elements, for which its message may have to grow.
     #[inline(never)]
+    #[cold]
     fn lend_request_growing(
         &mut self,
         node: u64,
@@ -272,6 +273,7 @@ impl<Q: Payload, QH: Words, P: Payload, PH: Words, H: Backpressure> Hub<Q, QH, P
     /// Lends a response to that active request for so many elements, for which its message may have
     /// to grow. The handle of the request is looked for at the hint first.
     #[inline(never)]
+    #[cold]
     fn lend_response_growing(
         &mut self,
         node: u64,

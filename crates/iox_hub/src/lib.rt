@@ -54,7 +54,7 @@ pub use iox_backpressure::{
 };
 pub use iox_control::{Received, Settings};
 pub use iox_control_making::NotMade;
-pub use iox_control_questions::{Asked, NotBegun};
+pub use iox_control_questions::{Asked, NotBegun, may_be_asked};
 pub use iox_control_request_copies::{
     Answered, Copied, Lent, LoanRefusal, Place, Requested, Responded, Written,
 };
