@@ -18,6 +18,7 @@ mod invariant;
 mod known_shape;
 mod layouts;
 mod lending;
+mod lending_responses;
 mod listings;
 mod loan_reads;
 mod making;

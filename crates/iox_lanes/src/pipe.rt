@@ -206,7 +206,7 @@ impl Pipe {
 
     /// Puts a message last in line on that lane. Where as many wait as may, the oldest is pushed
     /// out first: it is its sender's again.
-    #[inline]
+    #[inline(always)]
     pub fn push(&mut self, lane: usize, place: u64) -> Option<u64>
         ensures oldest { result ≡ on_lane pushed_out None self.old lane }
         ensures pushed { self.new ≡ with_lane (λ l. pushed l place) self.old lane }
@@ -396,6 +396,7 @@ impl Pipe {
     }
 
     /// Opens a request on that lane.
+    #[inline(always)]
     pub fn open_request(&mut self, lane: usize, id: u64)
         ensures { self.new ≡ opened self.old lane id }
     {
