@@ -88,8 +88,8 @@ fn remove(
 #[inline(always)]
 fn end_active(control: &mut Control, node: u64, number: u64, hint: usize) -> Option<Entry>
     requires order { IsControl control.old }
-    ensures ended { IfSome result (λ e. HasEnded control.old node number ActiveRequest false control.new
-        (handle_state e)) }
+    ensures ended { IfSome result (λ e.
+        HasEnded control.old node number ActiveRequest false control.new (handle_state e)) }
     ensures unchanged { result ≡ None → control.new ≡ control.old }
 {
     let entry = near(control, node, number, hint)?;
@@ -145,8 +145,8 @@ fn end_response(control: &mut Control, node: u64, number: u64, hint: usize) -> O
 #[inline(always)]
 fn end_pending(control: &mut Control, node: u64, number: u64, hint: usize) -> Option<Entry>
     requires order { IsControl control.old }
-    ensures ended { IfSome result (λ e. HasEnded control.old node number PendingResponse false control.new
-        (handle_state e)) }
+    ensures ended { IfSome result (λ e.
+        HasEnded control.old node number PendingResponse false control.new (handle_state e)) }
     ensures unchanged { result ≡ None → control.new ≡ control.old }
 {
     let entry = near(control, node, number, hint)?;
@@ -167,8 +167,8 @@ fn end_pending(control: &mut Control, node: u64, number: u64, hint: usize) -> Op
     Some(entry)
 }
 
-/// Ends the node's loan of that number, which is of that kind or filled meanwhile, if that is usual.
-/// Its message is of its port's pool, so that stays with its port.
+/// Ends the node's loan of that number, which is of that kind or filled meanwhile, if that is
+/// usual. Its message is of its port's pool, so that stays with its port.
 #[inline(always)]
 fn end_loan(control: &mut Control, node: u64, number: u64, kind: Kind, hint: usize) -> Option<Entry>
     requires order { IsControl control.old }

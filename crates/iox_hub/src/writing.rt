@@ -38,8 +38,8 @@ fn write_loan(control: &mut Control, node: u64, number: u64, hint: usize, count:
     write(control, node, number, hint, Some(count as u64))
 }
 
-/// The one element of the node's loan is written: it is of that kind then. Its handle is looked for at
-/// the hint first.
+/// The one element of the node's loan is written: it is of that kind then. Its handle is looked for
+/// at the hint first.
 #[inline(always)]
 fn write_one(control: &mut Control, node: u64, number: u64, hint: usize, kind: Kind) -> Place
     requires loan { IsLoan control.old.tables node number }

@@ -302,8 +302,8 @@ impl Pipe {
         self.get_next_other()
     }
 
-    /// The same, where it is on another lane, too. What the call tells is put together anew, so that
-    /// it stays in registers where it is not called.
+    /// The same, where it is on another lane, too. What the call tells is put together anew, so
+    /// that it stays in registers where it is not called.
     #[inline(always)]
     fn get_next_other(&mut self) -> Option<Next>
         ensures lowest { option_map (λ n. n.lane) result ≡ lane_to_get self.old }

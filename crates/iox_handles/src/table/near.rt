@@ -22,8 +22,9 @@ impl Table {
         None
     }
 
-    /// The handle of that number, which is there, gets another kind, which is counted as its own is,
-    /// if it is at the hint. It tells the handle as it is now. `None` says that nothing changed.
+    /// The handle of that number, which is there, gets another kind, which is counted as its own
+    /// is, if it is at the hint. It tells the handle as it is now. `None` says that nothing
+    /// changed.
     #[inline(always)]
     pub fn turn_near(&mut self, number: u64, hint: usize, kind: Kind) -> Option<Entry>
         requires there { is_some (handle_at self.old number) ≡ true }

@@ -111,8 +111,8 @@ impl Port {
         self.get_next_other(sender)
     }
 
-    /// The same, where there may be senders that are gone. What the call tells is put together anew,
-    /// so that it stays in registers where it is not called.
+    /// The same, where there may be senders that are gone. What the call tells is put together
+    /// anew, so that it stays in registers where it is not called.
     #[inline(always)]
     fn get_next_other(&mut self, sender: u64) -> Option<Next>
         ensures lowest { option_map (λ n. n.lane) result
