@@ -15,7 +15,7 @@ use Rattle.iox_control_request_copies.specs.Fills.{IsFilled, reply_of_write}
 use Rattle.iox_hub.specs.Fits.{are_requests_in, count_in}
 use Rattle.iox_hub.specs.Hubs.{HubState, IsHub, given_by, state_of_hub, with_control}
 use Rattle.iox_hub.specs.Lending.{HasWritten, IsWrite, IsWritten, LeavesWritten, payload_of, with_message}
-use Rattle.iox_hub.specs.Reads.{HasOf, message_in}
+use Rattle.iox_hub.specs.Reads.{HasOf}
 use Rattle.iox_hub.specs.Words.{Carried, stored_in}
 use Rattle.iox_hub.proofs.LendingWrites.{IsLoanOf, is_loan_of, is_written, kind_of_filled, loan_named, misfit_left, misfit_length, write_equal, write_of_role, write_within, written_hub, written_whole}
 

@@ -1,6 +1,5 @@
 -- What a send leaves of a hub's words.
-use Rattle.std.specs.Prelude.{◌≡◌, ℕ, Bool, true, zero, suc, List, [], ◌∷◌, map, Option, IfSome, Some, None, is_some, refl}
-use Rattle.std.specs.Option.{option_map}
+use Rattle.std.specs.Prelude.{◌≡◌, ℕ, true, zero, suc, List, [], ◌∷◌, Option, IfSome, Some, None, is_some, refl}
 use Rattle.std.proofs.Common.{sym, ap, subst, ◌∙◌}
 use Rattle.std.proofs.lemmas.Option.{same_Some}
 use Rattle.iox_tables.specs.HubBooks.Keeps.{bare_pools}
@@ -18,7 +17,7 @@ bare_there (None ∷ ps) zero = refl
 bare_there (Some p ∷ ps) zero = refl
 bare_there (p ∷ ps) (suc i) = bare_there ps i
 
-module _ (h : HubState) (c : ControlState) (node n : ℕ) (e : HandleState) (found : handle_in h.control.tables.handles node n ≡ Some e) where
+module _ {h : HubState} (hub : IsHub h) (c : ControlState) (node n : ℕ) (e : HandleState) (found : handle_in h.control.tables.handles node n ≡ Some e) where
   -- the words go that are left, if they do
   pub left_with : (new : HubState) → new ≡ with_words_left (with_control h c) e.pool
       → (k : HandleState) → handle_in h.control.tables.handles node n ≡ Some k → new ≡ with_words_left (with_control h new.control) k.pool
@@ -46,3 +45,7 @@ pub goes_on_if : {X : Type 0} (r : Option X) {h : HubState} → IsHub h → (c :
     → IfSome r (λ x. IsHub (with_control h c)) → IsHub (with_control h c)
 goes_on_if None {h} hub c same goes = subst (λ (d : ControlState). IsHub (with_control h d)) (sym (same refl)) hub
 goes_on_if (Some x) hub c same goes = goes
+
+-- the hub of which that is known
+abbrev pub hub_of : {h : HubState} → IsHub h → HubState
+hub_of {h} hub = h

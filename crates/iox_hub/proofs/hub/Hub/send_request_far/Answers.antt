@@ -43,7 +43,7 @@ returns g c = record {
       (λ off. requests_said c.self.invariant (handle_state c.known-entry.result) _ c.asked_of_client-by.result.strategy (c.asked_of_client-by.ensures.handler off) (c.asked_of_client-by.ensures.strategy off) h
       (same_Some (handle_state c.known-entry.result) h (c.known-entry.ensures ∙ there)) p at));
   left = rw (← c.self.view_is)
-      (left_with _ c.send_request-requested.new.control c.args.node c.args.number (handle_state c.known-entry.result) (sym c.known-entry.ensures) c.drop_words.new.self c.drop_words.ensures.left);
+      (left_with c.self.invariant c.send_request-requested.new.control c.args.node c.args.number (handle_state c.known-entry.result) (sym c.known-entry.ensures) c.drop_words.new.self c.drop_words.ensures.left);
   whole = rw (← c.self.view_is)
       (λ x. whole_then c.self.invariant c.send_request-requested.new.control c.drop_words.new.self c.args.node (Send c.args.number) (reply_of_send c.send_request-requested.result) x
       (c.send_request-requested.ensures.whole (handle_state c.known-entry.result) (sym c.known-entry.ensures) (given_of c.self.invariant x)

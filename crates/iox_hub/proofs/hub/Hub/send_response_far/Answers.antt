@@ -39,7 +39,7 @@ returns g c = record {
       ∙ reply_as c.self.inside.control.tables h c.fails_without_overflow-fails.result _
       (λ off. response_said c.self.invariant (handle_state c.known-entry.result) c.fails_without_overflow-fails.result (c.fails_without_overflow-fails.ensures off) h (same_Some (handle_state c.known-entry.result) h (c.known-entry.ensures ∙ there)) p at));
   left = rw (← c.self.view_is)
-      (left_with _ c.send_response-responded.new.control c.args.node c.args.number (handle_state c.known-entry.result) (sym c.known-entry.ensures) c.drop_words.new.self c.drop_words.ensures.left);
+      (left_with c.self.invariant c.send_response-responded.new.control c.args.node c.args.number (handle_state c.known-entry.result) (sym c.known-entry.ensures) c.drop_words.new.self c.drop_words.ensures.left);
   whole = rw (← c.self.view_is)
       (λ x. whole_then c.self.invariant c.send_response-responded.new.control c.drop_words.new.self c.args.node (Send c.args.number) (reply_of_send c.send_response-responded.result) x
       (c.send_response-responded.ensures.whole (handle_state c.known-entry.result) (sym c.known-entry.ensures) (given_of c.self.invariant x)

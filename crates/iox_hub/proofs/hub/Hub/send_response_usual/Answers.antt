@@ -2,16 +2,15 @@ use Rattle.std.proofs.Common.{ap, false, refl, sym, Option, is_some}
 use Rattle.iox_lanes.proofs.Senders.{both_of}
 use Rattle.iox_model.specs.declared.call.Call.TheVariants.{Send}
 use Rattle.iox_hub_ports.specs.HubStates.Tables.{HandleState}
-use Rattle.iox_tables.specs.HubStates.Releases.{way_to_client}
 use Rattle.iox_control.specs.Entries.{handle_state}
 use Rattle.iox_control.proofs.HeldLemmas.{handle_has_pool}
 use Rattle.iox_control_releasing.proofs.Kept.{kept_bare}
 use Rattle.iox_control_request_copies.specs.Responses.{reply_of_send}
-use Rattle.iox_hub.specs.Hubs.{fails_of}
+use Rattle.iox_hub.specs.Hubs.{with_control}
 use Rattle.iox_hub.proofs.Named.{found_is_handle}
 use Rattle.iox_hub.proofs.SendingFits.{fits_response_sent}
 use Rattle.iox_hub.proofs.SendingHubs.{given_of, hub_goes_on_as, response_is_gone, response_of_hub}
-use Rattle.iox_hub.proofs.SendLeft.{all_of, goes_on_if, left_same}
+use Rattle.iox_hub.proofs.SendLeft.{all_of, goes_on_if, hub_of, left_same}
 use Rattle.iox_hub.proofs.KeepingCalls.{response_sent_keeps}
 use Rattle.iox_hub.proofs.hub.Hub.send_response_usual.Goals as goal
 
@@ -38,13 +37,13 @@ returns-clause-sent g c =
     rw (← c.self.view_is)
     (all_of c.send_response_usual.result c.send_response_usual.ensures.reply c.send_response_usual.ensures.left c.send_response_usual.ensures.whole
     (λ responded reply left whole. record {
-      reply = λ h there p at. reply (fails_of _ p (way_to_client c.self.inside.control.tables h)) h there;
-      left = left_same _ c.send_response_usual.new.control c.args.node c.args.number (handle_state c.in_ok-entry.entry) (sym c.in_ok-entry.ensures) c.send_response_usual.ensures.pools
+      reply = λ h there p at. reply _ h there;
+      left = left_same c.self.invariant c.send_response_usual.new.control c.args.node c.args.number (handle_state c.in_ok-entry.entry) (sym c.in_ok-entry.ensures) c.send_response_usual.ensures.pools
           (handle_has_pool c.self.inside.control.tables c.self.invariant.control.order c.args.node c.args.number (handle_state c.in_ok-entry.entry) (sym c.in_ok-entry.ensures));
       whole = λ x. whole (given_of c.self.invariant x);
       gone = response_is_gone c.self.inside.control.tables c.send_response_usual.new.control.tables c.args.node c.args.number (handle_state c.in_ok-entry.entry)
           (found_is_handle c.self.inside.control.tables c.self.invariant.control.order c.args.node c.args.number (handle_state c.in_ok-entry.entry) (sym c.in_ok-entry.ensures))
-          _ refl false (left false (handle_state c.in_ok-entry.entry) (sym c.in_ok-entry.ensures));
+          (with_control (hub_of c.self.invariant) c.send_response_usual.new.control) refl false (left false (handle_state c.in_ok-entry.entry) (sym c.in_ok-entry.ensures));
       keeps = response_sent_keeps c.self.invariant c.send_response_usual.new.control c.send_response_usual.ensures.order c.args.node c.args.number
           (handle_state c.in_ok-entry.entry) false (left false (handle_state c.in_ok-entry.entry) (sym c.in_ok-entry.ensures));
       tidy = c.send_response_usual.ensures.tidy;
