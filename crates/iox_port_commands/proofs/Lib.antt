@@ -1,3 +1,4 @@
+mod Suits
 pub mod Calling
 pub mod Making
 pub mod Wanting
