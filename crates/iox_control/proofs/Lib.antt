@@ -12,6 +12,7 @@ pub mod ChangeLemmas
 pub mod RoomLemmas
 pub mod FittingLemmas
 pub mod KnownEntries
+mod NearFills
 pub mod RemovalLemmas
 pub mod KindLemmas
 pub mod HeldLemmas

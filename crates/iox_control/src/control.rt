@@ -35,8 +35,10 @@ use std::marker::Model;
 pub struct Control {
     pub(crate) settings: Settings,
     pub(crate) calls: u64,
-    pub(crate) next_number: u64,
+    // Not beside the other count that each new handle raises: two additions of one are shorter than
+    // one of both, as a compiler makes it.
     pub(crate) ports_made: u64,
+    pub(crate) next_number: u64,
     pub(crate) ports: Ports,
     pub(crate) handles: Table,
     // Where the handle that came last is.

@@ -1,14 +1,16 @@
 //! Loans that are filled where their messages have so many elements.
 ghost use Rattle.std.specs.Option.{option_and_then, option_map};
-ghost use Rattle.std.specs.Prelude.{◌≡◌, IfSome, None};
+ghost use Rattle.std.specs.Prelude.{◌≡◌, IfSome, None, Some, is_some, true};
 ghost use Rattle.iox_handles.specs.Tables.{group_of};
 ghost use Rattle.iox_hub_ports.specs.HubStates.Ends.{with_changed};
+ghost use Rattle.iox_hub_ports.specs.HubStates.Tables.{HandleState};
 ghost use Rattle.iox_hub_ports.specs.HubStates.Wirings.{handle_in};
 ghost use Rattle.iox_control.specs.Controls.{with_tables};
 ghost use Rattle.iox_control.specs.Entries.{handle_state};
 ghost use Rattle.iox_control.specs.Fittings.{fitted, has_elements, filled_if_loan, kind_fitting};
 
 use crate::control::Control;
+use crate::known_handles::is_sound;
 use iox_handles::{Entry, KindChange};
 use iox_model::kind::Kind;
 use iox_slots::Pools;
@@ -87,5 +89,31 @@ impl Control {
             elements,
         };
         self.handles.change_kind(node, number, hint, &fitting)
+    }
+
+    /// Fills the node's loan of that number, which it has, whose message has so many elements, and
+    /// which is of that kind once it is filled, if its handle is at the hint, and tells that as it
+    /// is now. `None` says that nothing changed.
+    #[inline(always)]
+    pub fn fill_near(
+        &mut self,
+        _node: u64,
+        number: u64,
+        hint: usize,
+        kind: Kind,
+        _elements: u64,
+    ) -> Option<Entry>
+        requires there { is_some (handle_in self.old.tables.handles _node number) ≡ true }
+        requires fits { (h : HandleState) → handle_in self.old.tables.handles _node number ≡ Some h
+            → kind_fitting self.old.tables.pools (Some _elements) h ≡ Some kind }
+        ensures told { IfSome result (λ e. Some (handle_state e)
+            ≡ option_and_then (fitted self.old.tables.pools (Some _elements))
+            (handle_in self.old.tables.handles _node number)) }
+        ensures changed { IfSome result (λ e. self.new
+            ≡ with_tables self.old (with_changed self.old.tables (handle_state e))) }
+        ensures unchanged { result ≡ None → self.new ≡ self.old }
+    {
+        is_sound(&self.handles);
+        self.handles.turn_near(number, hint, kind)
     }
 }

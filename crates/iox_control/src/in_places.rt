@@ -57,7 +57,8 @@ impl Control {
         requires apart { AllApart self.old.tables.ports }
         ensures taken { result ≡ on_way (λ l. is_taken l slot) false self.old.tables.ports
             (request_way client _server) }
-        ensures left { self.new ≡ with_tables self.old (with_states (λ r. closed_for r label.request)
+        ensures left { self.new
+            ≡ with_tables self.old (with_states (λ r. closed_for r label.request)
             (with_lanes (λ l. released l slot) self.old.tables (request_way client _server ∷ []))
             (response_way client label.lane _server ∷ [])) }
     {

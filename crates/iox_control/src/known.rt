@@ -40,9 +40,9 @@ impl Control {
         self.ports.on_known_pipe_in(at, way.sender, rank, &back)
     }
 
-    /// Gives a request back that the server has, which is in that place, and says whether it had it.
-    /// Its slot stays as it is. Then closes the request of that label with the server, if it is the
-    /// open one. The pipe of that rank is from the client.
+    /// Gives a request back that the server has, which is in that place, and says whether it had
+    /// it. Its slot stays as it is. Then closes the request of that label with the server, if it is
+    /// the open one. The pipe of that rank is from the client.
     #[inline(always)]
     pub fn give_back_and_close_on(
         &mut self,
@@ -58,7 +58,8 @@ impl Control {
         requires from { in_place (is_from rank client) false self.old.tables.ports at ≡ true }
         ensures taken { result ≡ on_way (λ l. is_taken l slot) false self.old.tables.ports
             (request_way client _server) }
-        ensures left { self.new ≡ with_tables self.old (with_states (λ r. closed_for r label.request)
+        ensures left { self.new
+            ≡ with_tables self.old (with_states (λ r. closed_for r label.request)
             (with_lanes (λ l. released l slot) self.old.tables (request_way client _server ∷ []))
             (response_way client label.lane _server ∷ [])) }
     {

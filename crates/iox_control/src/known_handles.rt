@@ -13,7 +13,7 @@ use iox_model::kind::Kind;
 
 /// The table of handles is sound. It has nothing to do: it is there for its contract.
 #[inline(always)]
-fn is_sound(handles: &Table)
+pub(crate) fn is_sound(handles: &Table)
     ensures { IsSound handles.now }
 {
     handles.room();

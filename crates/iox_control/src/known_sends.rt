@@ -1,5 +1,5 @@
-//! Pushes, and looks at request states, where the place of the port is known, and from whom its pipe
-//! of a rank is. Each leaves what the change by numbers leaves.
+//! Pushes, and looks at request states, where the place of the port is known, and from whom its
+//! pipe of a rank is. Each leaves what the change by numbers leaves.
 ghost use Rattle.std.specs.Prelude.{◌≡◌, ◌<◌, ◌∷◌, [], None, Some, false, length, slice_get, true};
 ghost use Rattle.iox_model.specs.declared.way.RequestState.TheVariants.{Named};
 ghost use Rattle.iox_model.specs.Messages.{request_way, response_way};

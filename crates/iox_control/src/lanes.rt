@@ -1,6 +1,6 @@
 //! Single changes of lanes, of request states, and of what is kept of a port.
-ghost use Rattle.std.specs.Prelude.{◌≡◌, ◌<◌, ◌-◌, ◌^◌, ◌∷◌, [], IfSome, None, Some, false, is_some, map, slice_get};
-ghost use Rattle.std.specs.Option.{option_map, option_map_or};
+ghost use Rattle.std.specs.Prelude.{◌≡◌, ◌<◌, ◌-◌, ◌^◌, ◌∷◌, [], None, false, map, slice_get};
+ghost use Rattle.std.specs.Option.{option_map_or};
 ghost use Rattle.iox_model.specs.declared.kind.Role.TheVariants.{Server};
 ghost use Rattle.iox_model.specs.declared.way.RequestState.TheVariants.{Named};
 ghost use Rattle.iox_model.specs.Messages.{closed_for, response_way};
@@ -10,11 +10,10 @@ ghost use Rattle.iox_hub_ports.specs.HubStates.Ends.{with_loan};
 ghost use Rattle.iox_hub_ports.specs.HubStates.Releases.{with_value_released};
 ghost use Rattle.iox_hub_ports.specs.HubStates.Tables.{pipes_to, port_in};
 ghost use Rattle.iox_hub_ports.specs.HubStates.Wirings.{numbers_of_role};
-ghost use Rattle.iox_hub_ports.specs.Ports.{lane_to_get_at, lane_to_get_on, on_way, on_way_at, pushed, pushed_out, with_lane_at};
+ghost use Rattle.iox_hub_ports.specs.Ports.{lane_to_get_on, on_way, on_way_at, pushed, pushed_out, with_lane_at};
 ghost use Rattle.iox_control.specs.Controls.{with_ports, with_tables};
 
 use crate::control::Control;
-use iox_lanes::pipe::Next;
 use iox_model::way::Way;
 
 impl Control {
@@ -61,25 +60,6 @@ impl Control {
     }
 
     // ---- for each port in its place
-
-    /// Gets back the oldest message of those that the port in that place gave back on the lowest
-    /// lane from the sender on which something is left to get back, if there is one. Its slot stays
-    /// as it is.
-    #[inline(always)]
-    pub fn get_next_at(&mut self, at: usize, sender: u64) -> Option<Next>
-        ensures lowest { option_map (λ n. n.lane) result
-            ≡ lane_to_get_at self.old.tables.ports at sender }
-        ensures oldest { IfSome result (λ n.
-            on_way_at (λ l. slice_get l.returned 0) None self.old.tables.ports at sender n.lane
-            ≡ Some n.place) }
-        ensures got_back { IfSome result (λ n. self.new ≡ with_ports self.old
-            (with_lane_at without_returned self.old.tables.ports at sender n.lane)) }
-        ensures more { IfSome result (λ n.
-            n.more ≡ is_some (lane_to_get_at self.new.tables.ports at sender)) }
-        ensures unchanged { result ≡ None → self.new ≡ self.old }
-    {
-        self.ports.get_next_at(at, sender)
-    }
 
     /// How often the port in that place gave the slot back on the lane from the sender, so that it
     /// is left to get back.

@@ -23,4 +23,5 @@ mod usual;
 
 pub use control::Control;
 pub use received::Received;
+pub use removals::is_still;
 pub use settings::Settings;

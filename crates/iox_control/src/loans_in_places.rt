@@ -1,5 +1,5 @@
-//! What a loan does to ports where their places are known, and likely those of their pipes, too. Each
-//! leaves what the change by numbers leaves; a wrong hint is only slower.
+//! What a loan does to ports where their places are known, and likely those of their pipes, too.
+//! Each leaves what the change by numbers leaves; a wrong hint is only slower.
 ghost use Rattle.std.specs.Prelude.{◌≡◌, ◌<◌, ◌-◌, ◌^◌, IfSome, None, Some, is_some, length, slice_get};
 ghost use Rattle.std.specs.Option.{option_map, option_map_or};
 ghost use Rattle.iox_lanes.specs.Lanes.{without_returned};

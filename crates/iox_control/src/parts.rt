@@ -40,6 +40,12 @@ impl Control {
         self.last_place
     }
 
+    /// Where the handle of that number is likely: it may be looked for there first.
+    #[inline(always)]
+    pub fn likely_handle(&self, number: u64) -> usize {
+        self.handles.likely_place(number)
+    }
+
     /// A better hint: where the port of that number stands, if it is there.
     #[inline(always)]
     pub fn likely_place(&self, port: u64, hint: usize) -> usize {

@@ -13,11 +13,14 @@ pub enum Received {
     AtLimit,
 }
 
-/// The same, but for the number of the handle: it is the last that was given.
+/// What a receive came to, but for the number of the handle: it is the last that was given.
 #[derive(Clone, Copy)]
 pub enum Came {
+    /// A message was taken, and has a handle.
     Handle,
+    /// Nothing that is wanted waits.
     Nothing,
+    /// Something waits, and the receiver has as many messages as it may.
     AtLimit,
 }
 

@@ -65,6 +65,7 @@ impl Control {
     /// Receives a request for that server on any way. It tells no number, so that all that it tells
     /// is in one register.
     #[inline(never)]
+    #[cold]
     fn receive_request_far(&mut self, node: u64, server: u64, hint: usize) -> Came
         requires server { IsServer self.old.tables node server }
         requires order { IsControl self.old }
@@ -81,6 +82,7 @@ impl Control {
 
     /// Receives a response for that pending response on any way. It tells no number, either.
     #[inline(never)]
+    #[cold]
     fn receive_response_far(&mut self, node: u64, number: u64, hint: usize) -> Came
         requires pending { IsPending self.old.tables node number }
         requires order { IsControl self.old }

@@ -23,8 +23,8 @@ struct Still {
 
 /// Whether a handle of the old kind may be one of the new kind by now: it is of the same kind, or a
 /// loan that is filled.
-#[inline]
-fn is_still(old: Kind, new: Kind) -> bool
+#[inline(always)]
+pub fn is_still(old: Kind, new: Kind) -> bool
     ensures { result ≡ spec.is_still old new }
 {
     match old {

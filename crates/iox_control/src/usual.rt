@@ -96,7 +96,8 @@ impl Control {
         Some(self.receive_visited(node, Role::Server, server, hint, visits))
     }
 
-    /// Receives a response for that pending response, whose handle is at the hint, on the usual way.
+    /// Receives a response for that pending response, whose handle is at the hint, on the usual
+    /// way.
     #[inline(always)]
     pub(crate) fn receive_response_usual(
         &mut self,

@@ -2,6 +2,7 @@
 use Rattle.std.specs.Prelude.{◌≡◌, ℕ, Bool, true, false, if◌then◌else◌, Option, Some, None, refl}
 use Rattle.std.specs.Option.{option_and_then, option_map}
 use Rattle.std.proofs.Common.{sym, ap, subst, ◌∙◌}
+use Rattle.std.proofs.lemmas.Bool.{false≢true}
 use Rattle.std.proofs.lemmas.Option.{none-some, same_Some}
 use Rattle.iox_handles.specs.declared.entry.Entry.{Entry}
 use Rattle.iox_model.specs.declared.kind.Kind.{Kind}
@@ -13,7 +14,9 @@ use Rattle.iox_control.specs.Controls.{ControlState, IsControl, with_tables}
 use Rattle.iox_control.specs.Entries.{handle_state}
 use Rattle.iox_control.specs.Fittings.{fitted, filled_if_loan}
 use Rattle.iox_control_lending.specs.declared.asked.Place.{Place}
-use Rattle.iox_control_lending.specs.Fills.{IsFilled, IsLoan, IsMisfit, fits_loan}
+use Rattle.iox_control_lending.specs.declared.asked.Written.{Written}
+use Rattle.iox_control_lending.specs.declared.asked.Written.TheVariants.{Done, WrongLength}
+use Rattle.iox_control_lending.specs.Fills.{IsFilled, IsLoan, IsMisfit, Writes, fits_loan}
 use Rattle.iox_control_lending.proofs.FillLemmas.{filled_same, kind_keeps, loan_kind}
 
 -- the handle of that kind, if there is one
@@ -58,3 +61,9 @@ module _ (c new : ControlState) (node n : ℕ) (loan : IsLoan c.tables node n) (
   pub filled_keeps : (place : Place) → IsControl c → IsFilled c loan.handle elements place new → IsControl new
   filled_keeps place order is =
       subst IsControl (sym is.left) (kind_keeps c order node n loan.handle (filled_kind loan.handle.kind) loan.named (filled_same loan.handle.kind loan.loan))
+
+-- where the payload fits, a write is no misfit
+pub never_misfit : (c new : ControlState) (h : HandleState) (elements : Option ℕ) (result : Written) → ((place : Place) → result ≡ Done place → ⊥)
+    → Writes c h elements result new → fits_loan c.tables h elements ≡ true → ⊥
+never_misfit c new h elements (Done place) never is fits = never place refl
+never_misfit c new h elements WrongLength never is fits = false≢true (sym is.fits ∙ fits)

@@ -15,7 +15,8 @@ ghost use Rattle.iox_tables.specs.HubLoans.Slots.{with_contents};
 ghost use Rattle.iox_tables.specs.HubLending.Filling.{with_kind};
 ghost use Rattle.iox_control.specs.Controls.{IsControl, with_tables};
 ghost use Rattle.iox_control.specs.Entries.{handle_state};
-ghost use Rattle.iox_control_lending.specs.Fills.{IsLoan, Writes, given_written, kind_after, words_place, reply_of_write};
+ghost use Rattle.iox_control_lending.specs.Fills.{IsLoan, Writes, fits_loan, given_written, kind_after, words_place, reply_of_write};
+ghost use Rattle.iox_control_lending.specs.declared.asked.Written.TheVariants.{Done};
 
 use crate::asked::{Place, Written};
 use crate::counts::is_request_loan;
@@ -91,6 +92,69 @@ pub fn write(
         pool: entry.pool,
         slot: entry.slot,
     })
+}
+
+/// Fills a loan with a payload of as many whole elements as its message has, where it is of that
+/// kind once it is filled, and tells where its words lie. Its handle is looked for at the hint
+/// first.
+#[inline(always)]
+pub fn write_whole(
+    control: &mut Control,
+    node: u64,
+    number: u64,
+    hint: usize,
+    kind: Kind,
+    elements: u64,
+) -> Place
+    requires loan { IsLoan control.old.tables node number }
+    requires order { IsControl control.old }
+    requires fits { (h : HandleState) → handle_in control.old.tables.handles node number ≡ Some h
+        → fits_loan control.old.tables h (Some elements) ≡ true }
+    requires kind { (h : HandleState) → handle_in control.old.tables.handles node number ≡ Some h
+        → filled_kind h.kind ≡ kind }
+    ensures left { (h : HandleState) → handle_in control.old.tables.handles node number ≡ Some h
+        → Writes control.old h (Some elements) (Done result) control.new }
+    ensures order { IsControl control.new }
+    ensures whole { (x : Given) (h : HandleState) (p : Payload)
+        → handle_in control.old.tables.handles node number ≡ Some h
+        → suits false (Write number p) h.kind ≡ true → p.elements ≡ Some elements
+        → IsWholeCall (state_shown x control.old.tables) node (Write number p)
+        (reply_of_write (Done result))
+        (state_shown (given_written x control.old.tables h p.words (Done result))
+        control.new.tables) }
+{
+    if let Some(entry) = control.fill_near(node, number, hint, kind, elements) {
+        return Place {
+            pool: entry.pool,
+            slot: entry.slot,
+        };
+    }
+    write_far(control, node, number, hint, elements)
+}
+
+/// The same, where its handle is not at the hint. A call of its own, so that the other is short.
+#[inline(never)]
+#[cold]
+fn write_far(control: &mut Control, node: u64, number: u64, hint: usize, elements: u64) -> Place
+    requires loan { IsLoan control.old.tables node number }
+    requires order { IsControl control.old }
+    requires fits { (h : HandleState) → handle_in control.old.tables.handles node number ≡ Some h
+        → fits_loan control.old.tables h (Some elements) ≡ true }
+    ensures left { (h : HandleState) → handle_in control.old.tables.handles node number ≡ Some h
+        → Writes control.old h (Some elements) (Done result) control.new }
+    ensures order { IsControl control.new }
+    ensures whole { (x : Given) (h : HandleState) (p : Payload)
+        → handle_in control.old.tables.handles node number ≡ Some h
+        → suits false (Write number p) h.kind ≡ true → p.elements ≡ Some elements
+        → IsWholeCall (state_shown x control.old.tables) node (Write number p)
+        (reply_of_write (Done result))
+        (state_shown (given_written x control.old.tables h p.words (Done result))
+        control.new.tables) }
+{
+    let Written::Done(place) = write(control, node, number, hint, Some(elements)) else {
+        unreachable!();
+    };
+    place
 }
 
 /// The holder of a loan filled some of it, or all of it, and this is where its words lie. Its

@@ -83,6 +83,7 @@ fn is_either(kind: Kind, one: Kind, other: Kind) -> bool
 }
 
 /// Whether that may be asked of a port or handle of the kind.
+#[inline]
 pub fn may_be_asked(asked: Asked, kind: Kind) -> bool
     ensures { result ≡ suits false (call_of 0 asked) kind }
 {

@@ -6,6 +6,6 @@ mod connected;
 mod naming;
 mod refusals;
 
-pub use asked::{Asked, NotBegun};
+pub use asked::{Asked, NotBegun, may_be_asked};
 pub use connected::{has_hint, is_connected};
 pub use refusals::refusal;

@@ -88,10 +88,11 @@ fn end_removed(control: &mut Control, entry: Entry) -> bool
     goes
 }
 
-/// Ends the node's handle of that number, if it is of that kind, or a loan that was filled meanwhile.
-/// It is looked for once, at the hint first. Its port stays. It is a call of its own, so that what is
-/// usual is short.
+/// Ends the node's handle of that number, if it is of that kind, or a loan that was filled
+/// meanwhile. It is looked for once, at the hint first. Its port stays. It is a call of its own, so
+/// that what is usual is short.
 #[inline(never)]
+#[cold]
 fn end_far(control: &mut Control, node: u64, number: u64, kind: Kind, hint: usize) -> Option<Ended>
     requires order { IsControl control.old }
     ensures told { option_map (λ r. handle_state r.entry) result
@@ -105,8 +106,8 @@ fn end_far(control: &mut Control, node: u64, number: u64, kind: Kind, hint: usiz
     Some(Ended { entry, goes })
 }
 
-/// The same, where it is not known to be usual. What the call tells is put together anew, so that it
-/// stays in registers on the usual way.
+/// The same, where it is not known to be usual. What the call tells is put together anew, so that
+/// it stays in registers on the usual way.
 #[inline(always)]
 fn end_other(
     control: &mut Control,

@@ -14,7 +14,7 @@ ghost use Rattle.iox_control.specs.Controls.{IsControl, with_handle_dropped, wit
 ghost use Rattle.iox_control.specs.Entries.{handle_state};
 ghost use Rattle.iox_control_releasing.specs.Ends.{HasEnded, IsNear};
 
-use iox_control::Control;
+use iox_control::{Control, is_still};
 use iox_handles::Entry;
 use iox_hub_ports::ports::Ports;
 use iox_model::kind::Kind;
@@ -76,21 +76,20 @@ fn remove(
         (with_slot let_go control.old.tables.pools entry.pool entry.slot) }
     ensures unchanged { OnFalse result (control.new ≡ control.old) }
 {
-    match control.remove_still(node, number, kind, hint) {
-        None => false,
-        Some(_) => {
-            control.let_go_of(entry.pool, entry.slot);
-            true
-        }
+    if !is_still(kind, entry.kind) {
+        return false;
     }
+    control.remove_known(node, number, hint, entry.kind);
+    control.let_go_of(entry.pool, entry.slot);
+    true
 }
 
 /// Ends the node's active request of that number, if that is usual.
 #[inline(always)]
 fn end_active(control: &mut Control, node: u64, number: u64, hint: usize) -> Option<Entry>
     requires order { IsControl control.old }
-    ensures ended { IfSome result (λ e. HasEnded control.old node number ActiveRequest false control.new
-        (handle_state e)) }
+    ensures ended { IfSome result (λ e.
+        HasEnded control.old node number ActiveRequest false control.new (handle_state e)) }
     ensures unchanged { result ≡ None → control.new ≡ control.old }
 {
     let entry = near(control, node, number, hint)?;
@@ -146,8 +145,8 @@ fn end_response(control: &mut Control, node: u64, number: u64, hint: usize) -> O
 #[inline(always)]
 fn end_pending(control: &mut Control, node: u64, number: u64, hint: usize) -> Option<Entry>
     requires order { IsControl control.old }
-    ensures ended { IfSome result (λ e. HasEnded control.old node number PendingResponse false control.new
-        (handle_state e)) }
+    ensures ended { IfSome result (λ e.
+        HasEnded control.old node number PendingResponse false control.new (handle_state e)) }
     ensures unchanged { result ≡ None → control.new ≡ control.old }
 {
     let entry = near(control, node, number, hint)?;
@@ -168,8 +167,8 @@ fn end_pending(control: &mut Control, node: u64, number: u64, hint: usize) -> Op
     Some(entry)
 }
 
-/// Ends the node's loan of that number, which is of that kind or filled meanwhile, if that is usual.
-/// Its message is of its port's pool, so that stays with its port.
+/// Ends the node's loan of that number, which is of that kind or filled meanwhile, if that is
+/// usual. Its message is of its port's pool, so that stays with its port.
 #[inline(always)]
 fn end_loan(control: &mut Control, node: u64, number: u64, kind: Kind, hint: usize) -> Option<Entry>
     requires order { IsControl control.old }

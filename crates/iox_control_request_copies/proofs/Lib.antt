@@ -1,6 +1,6 @@
 pub mod Lost
 pub mod Emptied
-pub mod Loaned
+pub mod LoanLemmas
 pub mod Leads
 pub mod Machine
 pub mod Made

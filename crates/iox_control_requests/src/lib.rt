@@ -25,3 +25,4 @@ pub use requested::Requested;
 pub use sending::send_request;
 pub use sends::send_to_all;
 pub use servers::is_refused;
+pub use usual::send_request_usual;

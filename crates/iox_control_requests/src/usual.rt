@@ -1,11 +1,12 @@
-//! A request that is offered to the only server on the usual way: all is tested before anything is
+//! The send of a request to the only server on the usual way: all is tested before anything is
 //! changed.
-ghost use Rattle.std.specs.Prelude.{◌≡◌, ◌<◌, ◌≤◌, ◌^◌, ◌∷◌, [], IfSome, None, Some, false, length, true};
+ghost use Rattle.std.specs.Prelude.{◌≡◌, ◌<◌, ◌≤◌, ◌^◌, ◌∷◌, [], Bool, IfSome, None, Some, false, length, true};
 ghost use Rattle.iox_model.specs.Handles.{is_request_loan};
 ghost use Rattle.iox_model.specs.WholeCalls.{IsWholeCall};
 ghost use Rattle.iox_model.specs.declared.call.Call.TheVariants.{Send};
 ghost use Rattle.iox_model.specs.declared.kind.Kind.TheVariants.{RequestMut};
 ghost use Rattle.iox_model.specs.declared.kind.Role.TheVariants.{Server};
+ghost use Rattle.iox_model.specs.declared.way.Way.{Way};
 ghost use Rattle.iox_tables.specs.HubStates.Changes.{OnEach};
 ghost use Rattle.iox_tables.specs.HubStates.States.{Given, state_shown};
 ghost use Rattle.iox_tables.specs.HubStates.Tables.{HandleState};
@@ -16,13 +17,13 @@ ghost use Rattle.iox_hub_ports.specs.InPlace.{in_place, places_of};
 ghost use Rattle.iox_hub_ports.specs.Known.{is_from};
 ghost use Rattle.iox_control.specs.Controls.{IsControl};
 ghost use Rattle.iox_control.specs.Entries.{handle_state};
+ghost use Rattle.iox_control_releasing.specs.Goings.{StaysTidy};
 ghost use Rattle.iox_control_retrieving.specs.Alone.{has_one_out};
 ghost use Rattle.iox_control_requests.specs.declared.requested.Requested.TheVariants.{To};
 ghost use Rattle.iox_control_requests.specs.Requests.{ways_of, with_request_sent, with_requests_back};
-ghost use Rattle.iox_control_requests.specs.Sendings.{AreFailures, IsRequest, reply_of_send, request_outcome, with_request_ended};
+ghost use Rattle.iox_control_requests.specs.Sendings.{IsRequest, reply_of_send, request_outcome, with_request_ended};
 ghost use Rattle.iox_control_requests.specs.Servers.{request_ways};
 
-use crate::backpressure::WhenFull;
 use crate::counts::is_spent;
 use crate::sends::send_to_only;
 use iox_control::Control;
@@ -57,26 +58,26 @@ fn attempt_alone(control: &mut Control, place: usize, entry: Entry, rank: usize,
     send_to_only(control, place, entry, label, rank, hint);
 }
 
-/// Offers this loaned request to the only server on the usual way, and says to how many it was
+/// Sends this loaned request to the only server on the usual way, and says to how many it was
 /// delivered; else it answers `None`, and nothing has changed. It is usual that requests overflow,
-/// the client may have one more pending response, the loan is the only message of its pool that
-/// somebody has, and the client and its pipe stand where they are looked for first.
+/// so that no send fails, the client may have one more pending response, the loan is the only
+/// message of its pool that somebody has, and the client and its pipe stand where they are looked
+/// for first.
 #[inline(always)]
-pub(crate) fn offer_usual<B: WhenFull>(
+pub fn send_request_usual(
     control: &mut Control,
     node: u64,
     number: u64,
     hint: usize,
     entry: Entry,
-    _backpressure: &B,
 ) -> Option<u64>
     requires request { IsRequest control.old.tables node number }
     requires entry { Some (handle_state entry) ≡ handle_in control.old.tables.handles node number }
     requires order { IsControl control.old }
     requires calls { control.old.tables.calls < 2 ^ 56 }
-    ensures reply { IfSome result (λ count. (h : HandleState)
+    ensures reply { IfSome result (λ count. (fails : Way → Bool) (h : HandleState)
         → handle_in control.old.tables.handles node number ≡ Some h
-        → To count ≡ request_outcome (B.fails _backpressure.now) control.old.tables h) }
+        → To count ≡ request_outcome fails control.old.tables h) }
     ensures left { IfSome result (λ count. (h : HandleState)
         → handle_in control.old.tables.handles node number ≡ Some h
         → control.new.tables
@@ -84,11 +85,9 @@ pub(crate) fn offer_usual<B: WhenFull>(
           pools = control.new.tables.pools;
         }) }
     ensures pools { bare_pools control.old.tables.pools ≡ bare_pools control.new.tables.pools }
+    ensures tidy { StaysTidy control.old.tables control.new.tables }
     ensures order { IsControl control.new }
-    ensures whole { IfSome result (λ count. (h : HandleState)
-        → handle_in control.old.tables.handles node number ≡ Some h
-        → (x : Given) → (control.old.tables.settings.request_overflow ≡ false
-        → AreFailures x control.old.tables h (B.fails _backpressure.now))
+    ensures whole { IfSome result (λ count. (x : Given)
         → IsWholeCall (state_shown x control.old.tables) node (Send number)
         (reply_of_send (To count)) (state_shown x control.new.tables)) }
     ensures unchanged { result ≡ None → control.new ≡ control.old }

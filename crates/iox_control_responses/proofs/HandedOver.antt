@@ -194,12 +194,12 @@ module _ (c : ControlState) (node n : ℕ) (h : HandleState) (order : IsControl 
 
 -- where nothing is pushed out, what code does one after another comes to that
 pub handed_alone : (c c1 c2 c3 : ControlState) (node n : ℕ) (w : Way) (pool k : ℕ) → on_way pushed_out None c.tables.ports w ≡ None
-    → c1 ≡ with_tables c (with_lanes (λ l. pushed l k) c.tables (w ∷ [])) → c2 ≡ with_handle_dropped c1 node n → c3 ≡ with_tables c2 (with_call c2.tables)
+    → c1 ≡ with_handle_dropped c node n → c2 ≡ with_tables c1 (with_lanes (λ l. pushed l k) c1.tables (w ∷ [])) → c3 ≡ with_tables c2 (with_call c2.tables)
     → c3 ≡ with_handed_over c node n w pool k
-handed_alone c c1 c2 c3 node n w pool k none pushes drops counts =
+handed_alone c c1 c2 c3 node n w pool k none drops pushes counts =
     counts
-    ∙ ap (λ (d : ControlState). with_tables d (with_call d.tables)) drops
-    ∙ ap (λ (d : ControlState). with_tables (with_handle_dropped d node n) (with_call (with_handle_dropped d node n).tables)) pushes
+    ∙ ap (λ (d : ControlState). with_tables d (with_call d.tables)) pushes
+    ∙ ap (λ (d : ControlState). with_tables d (with_call (with_lanes (λ l. pushed l k) d.tables (w ∷ [])))) drops
     ∙ ap (λ (o : Option ℕ). record c {
       tables = record (with_call (with_dropped (with_lanes (λ l. pushed l k) c.tables (w ∷ [])) node n)) {
         pools = option_map_or (with_slot let_go c.tables.pools pool) o c.tables.pools;

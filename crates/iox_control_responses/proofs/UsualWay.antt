@@ -1,5 +1,5 @@
--- A response that is offered on its usual way, as the only message of its pool that somebody has: nothing is got back, and
--- nothing is pushed out.
+-- A response that is sent on its usual way, as the only message of its pool that somebody has: nothing is got back, nothing
+-- is pushed out, and its server stays.
 use Rattle.std.specs.Prelude.{◌≡◌, ℕ, ◌<◌, ◌^◌, Bool, true, false, not, ◌&&◌, if◌then◌else◌, [], ◌∷◌, Option, Some, None, slice_get, refl}
 use Rattle.std.specs.Option.{option_map, option_map_or}
 use Rattle.std.proofs.Common.{sym, ap, subst, ◌∙◌}
@@ -24,6 +24,7 @@ use Rattle.iox_tables.specs.HubMaking.Disconnections.{with_disconnected, with_re
 use Rattle.iox_hub_ports.specs.Ports.{info_of, on_way, pushed_out}
 use Rattle.iox_control.specs.Controls.{ControlState, IsControl, with_tables}
 use Rattle.iox_control.specs.Entries.{handle_state}
+use Rattle.iox_control_releasing.specs.Goings.{StaysTidy}
 use Rattle.iox_control_releasing.proofs.Lefts.{told_held}
 use Rattle.iox_control_retrieving.proofs.Infos.{infos_of, lanes_infos, same_info}
 use Rattle.iox_control_retrieving.proofs.OneLoan.{none_on_way, nothing_waits}
@@ -32,6 +33,42 @@ use Rattle.iox_control_retrieving.specs.Retrieving.{GetsBack}
 use Rattle.iox_control_responses.specs.declared.responded.Responded.TheVariants.{Done}
 use Rattle.iox_control_responses.specs.Responses.{IsFailure, IsResponse, is_shut, reply_of_send, with_handed_over, with_response_ended, with_response_offered, with_response_sent, with_way_emptied}
 use Rattle.iox_control_responses.proofs.Offered.{IsOffered, in_line_keeps, is_in_line, left_for, of_pool, only_loan, whole_for}
+use Rattle.iox_control_responses.proofs.Sent.{released_left}
+use Rattle.iox_control_responses.proofs.Tidy.{offered_tidies}
+
+-- ---- its server stays
+
+sent_infos : (t : HubTables) (h : HandleState) → infos_of (with_response_sent t h).ports ≡ infos_of t.ports
+sent_infos t h = step (is_named_by_client t h false)
+  where
+    emptied : infos_of (with_way_emptied t h).ports ≡ infos_of t.ports
+    emptied = lanes_infos emptied_lane t.ports (way_to_client t h ∷ [])
+
+    offered : (b : Bool)
+        → infos_of (if b then with_way_emptied t h else with_lanes (delivers t.settings.response_overflow h.slot) (with_way_emptied t h) (way_to_client t h ∷ [])).ports ≡ infos_of t.ports
+    offered true = emptied
+    offered false = lanes_infos (delivers t.settings.response_overflow h.slot) (with_way_emptied t h).ports (way_to_client t h ∷ []) ∙ emptied
+
+    step : (b : Bool) → infos_of (if b then with_response_offered t h else t).ports ≡ infos_of t.ports
+    step true = offered (is_shut t h)
+    step false = refl
+
+-- a server whose own value is there does not go with its response
+server_stays : (t u : HubTables) (node n : ℕ) (h : HandleState) (fails : Bool) (port : ℕ) → AreInOrder u
+    → u ≡ record (with_response_ended t node n h fails) { pools = u.pools } → option_map_or (λ p. p.held) (port_in t.ports port) false ≡ true → with_released u port ≡ u
+server_stays t u node n h fails port order is held = step (port_in t.ports port) refl held
+  where
+    infos : infos_of u.ports ≡ infos_of t.ports
+    infos = ap (λ (x : HubTables). infos_of x.ports) is ∙ sent_infos t h
+
+    step : (o : Option PortState) → port_in t.ports port ≡ o → option_map_or (λ p. p.held) o false ≡ true → with_released u port ≡ u
+    step (Some p) at held =
+        ap (λ (b : Bool). if b then with_disconnected u port else u)
+        (sym (told_held u port order (info_of p)
+        (sym (same_info u.ports t.ports port infos ∙ ap (option_map info_of) at)) held))
+    step None at held = absurd (false≢true held)
+
+-- ---- the send
 
 module _ (c : ControlState) (node n : ℕ) (order : IsControl c) (few : c.tables.calls < 2 ^ 56) (response : IsResponse c.tables node n)
     (e : Entry) (found : Some (handle_state e) ≡ handle_in c.tables.handles node n) (fails : Bool) (over : not c.tables.settings.response_overflow ≡ false)
@@ -90,7 +127,7 @@ module _ (c : ControlState) (node n : ℕ) (order : IsControl c) (few : c.tables
         is_sent : IsOffered c node n order few response order.buffers.responses e found fails v its_way false not_shut sound Done new.tables
         is_sent = is_in_line c node n order few response order.buffers.responses e found fails v its_way false not_shut sound awaits d order_then left_then bare_then refl new is
 
-        pub left_is : (k : HandleState) → handle_in c.tables.handles node n ≡ Some k → new.tables ≡ record (with_response_ended c.tables node n k fails) { pools = new.tables.pools }
+        left_is : (k : HandleState) → handle_in c.tables.handles node n ≡ Some k → new.tables ≡ record (with_response_ended c.tables node n k fails) { pools = new.tables.pools }
         left_is = left_for c node n order few response order.buffers.responses e found fails v its_way false not_shut sound Done new.tables is_sent
 
         pub pools_are : bare_pools c.tables.pools ≡ bare_pools new.tables.pools
@@ -99,38 +136,20 @@ module _ (c : ControlState) (node n : ℕ) (order : IsControl c) (few : c.tables
         pub in_order : IsControl new
         in_order = in_line_keeps c node n order few response order.buffers.responses e found fails v its_way false not_shut sound awaits d order_then left_then bare_then refl new is
 
-        pub is_whole : (k : HandleState) → handle_in c.tables.handles node n ≡ Some k → (x : Given) → (c.tables.settings.response_overflow ≡ false → IsFailure x c.tables k fails)
-            → (u : HubTables) → state_shown x (with_released new.tables k.port) ≡ state_shown x u → IsWholeCall (state_shown x c.tables) node (Send n) (reply_of_send Done) (state_shown x u)
-        is_whole = whole_for c node n order few response order.buffers.responses e found fails v its_way false not_shut sound Done new.tables is_sent
+        pub tidies : StaysTidy c.tables new.tables
+        tidies = offered_tidies c.tables new.tables node n (handle_state e) fails order.order in_order.order response found (left_is (handle_state e) (sym found)) pools_are
 
--- ---- its server stays
+        module _ (held : option_map_or (λ p. p.held) (port_in c.tables.ports e.port) false ≡ true) where
+          stays : with_released new.tables e.port ≡ new.tables
+          stays = server_stays c.tables new.tables node n (handle_state e) fails e.port in_order.order (left_is (handle_state e) (sym found)) held
 
-sent_infos : (t : HubTables) (h : HandleState) → infos_of (with_response_sent t h).ports ≡ infos_of t.ports
-sent_infos t h = step (is_named_by_client t h false)
-  where
-    emptied : infos_of (with_way_emptied t h).ports ≡ infos_of t.ports
-    emptied = lanes_infos emptied_lane t.ports (way_to_client t h ∷ [])
+          pub left_so : (k : HandleState) → handle_in c.tables.handles node n ≡ Some k
+              → new.tables ≡ record (with_released (with_response_ended c.tables node n k fails) k.port) { pools = new.tables.pools }
+          left_so k there =
+              released_left c.tables node n e found k there new.tables new.tables fails (left_is k there)
+              (ap (λ (u : HubTables). record u { pools = new.tables.pools }) (sym stays))
 
-    offered : (b : Bool)
-        → infos_of (if b then with_way_emptied t h else with_lanes (delivers t.settings.response_overflow h.slot) (with_way_emptied t h) (way_to_client t h ∷ [])).ports ≡ infos_of t.ports
-    offered true = emptied
-    offered false = lanes_infos (delivers t.settings.response_overflow h.slot) (with_way_emptied t h).ports (way_to_client t h ∷ []) ∙ emptied
-
-    step : (b : Bool) → infos_of (if b then with_response_offered t h else t).ports ≡ infos_of t.ports
-    step true = offered (is_shut t h)
-    step false = refl
-
--- a server whose own value is there does not go with its response
-pub server_stays : (t u : HubTables) (node n : ℕ) (h : HandleState) (fails : Bool) (port : ℕ) → AreInOrder u
-    → u ≡ record (with_response_ended t node n h fails) { pools = u.pools } → option_map_or (λ p. p.held) (port_in t.ports port) false ≡ true → with_released u port ≡ u
-server_stays t u node n h fails port order is held = step (port_in t.ports port) refl held
-  where
-    infos : infos_of u.ports ≡ infos_of t.ports
-    infos = ap (λ (x : HubTables). infos_of x.ports) is ∙ sent_infos t h
-
-    step : (o : Option PortState) → port_in t.ports port ≡ o → option_map_or (λ p. p.held) o false ≡ true → with_released u port ≡ u
-    step (Some p) at held =
-        ap (λ (b : Bool). if b then with_disconnected u port else u)
-        (sym (told_held u port order (info_of p)
-        (sym (same_info u.ports t.ports port infos ∙ ap (option_map info_of) at)) held))
-    step None at held = absurd (false≢true held)
+          pub is_whole : (x : Given) → IsFailure x c.tables (handle_state e) fails → IsWholeCall (state_shown x c.tables) node (Send n) (reply_of_send Done) (state_shown x new.tables)
+          is_whole x failure =
+              whole_for c node n order few response order.buffers.responses e found fails v its_way false not_shut sound Done new.tables is_sent
+              (handle_state e) (sym found) x (λ off. failure) new.tables (ap (state_shown x) stays)

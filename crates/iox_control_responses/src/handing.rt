@@ -66,7 +66,7 @@ pub(crate) fn hand_over_alone(
     requires none { on_way pushed_out None control.old.tables.ports way ≡ None }
     ensures { control.new ≡ with_handed_over control.old node number way entry.pool entry.slot }
 {
-    control.push_on(to.place, to.rank, way, entry.slot);
     control.remove_known(node, number, hint, Kind::ResponseMut);
+    control.push_on(to.place, to.rank, way, entry.slot);
     control.count_call();
 }

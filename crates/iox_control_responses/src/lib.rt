@@ -18,3 +18,4 @@ pub use iox_control_retrieving::retrieve_all;
 pub use offering::offer_response;
 pub use responded::Responded;
 pub use sending::send_response;
+pub use usual::send_response_usual;

@@ -18,8 +18,8 @@ use iox_model::kind::Role;
 use iox_model::way::Way;
 
 /// Where the response goes whose handle and label these are, if its client waits for it, the server
-/// and the pipes between both stand where they are looked for first, and the own value of the server
-/// is there.
+/// and the pipes between both stand where they are looked for first, and the own value of the
+/// server is there.
 #[inline(always)]
 pub(crate) fn find_near(control: &mut Control, entry: Entry, label: Label) -> Option<Target>
     requires order { IsControl control.old }

@@ -1,12 +1,11 @@
-//! A response that is offered to its client on the usual way: all is tested before anything is
+//! The send of a response to its client on the usual way: all is tested before anything is
 //! changed.
-ghost use Rattle.std.specs.Prelude.{◌≡◌, ◌<◌, ◌^◌, IfSome, None, Some, false, true};
-ghost use Rattle.std.specs.Option.{option_map_or};
+ghost use Rattle.std.specs.Prelude.{◌≡◌, ◌<◌, ◌^◌, Bool, IfSome, None, Some};
 ghost use Rattle.iox_lanes.specs.Lanes.{IsSound, LaneState};
 ghost use Rattle.iox_model.specs.WholeCalls.{IsWholeCall};
 ghost use Rattle.iox_model.specs.declared.call.Call.TheVariants.{Send};
 ghost use Rattle.iox_tables.specs.HubStates.States.{Given, state_shown};
-ghost use Rattle.iox_tables.specs.HubStates.Tables.{HandleState, HubTables, port_in};
+ghost use Rattle.iox_tables.specs.HubStates.Tables.{HandleState};
 ghost use Rattle.iox_tables.specs.HubStates.Ways.{lane_on};
 ghost use Rattle.iox_tables.specs.HubStates.Wirings.{handle_in};
 ghost use Rattle.iox_tables.specs.HubBooks.Keeps.{bare_pools};
@@ -14,7 +13,8 @@ ghost use Rattle.iox_tables.specs.HubMaking.Disconnections.{with_released};
 ghost use Rattle.iox_hub_ports.specs.Ports.{place_in};
 ghost use Rattle.iox_control.specs.Controls.{IsControl};
 ghost use Rattle.iox_control.specs.Entries.{handle_state};
-ghost use Rattle.iox_control_responses.specs.Responses.{IsFailure, IsResponse, reply_of_send, response_reply, with_response_ended};
+ghost use Rattle.iox_control_releasing.specs.Goings.{StaysTidy};
+ghost use Rattle.iox_control_responses.specs.Responses.{IsResponse, reply_of_send, response_reply, with_response_ended};
 
 use crate::handing::hand_over_alone;
 use crate::near::find_near;
@@ -24,8 +24,8 @@ use iox_control_retrieving::has_one_out;
 use iox_handles::Entry;
 use iox_model::way::Way;
 
-/// The lane of the way, whose receiver is in that place, is sound. It has nothing to do: it is there
-/// for its contract.
+/// The lane of the way, whose receiver is in that place, is sound. It has nothing to do: it is
+/// there for its contract.
 #[inline(always)]
 fn lane_is_sound(control: &Control, place: usize, way: Way)
     requires { place_in control.now.tables.ports way.receiver ≡ Some place }
@@ -34,42 +34,38 @@ fn lane_is_sound(control: &Control, place: usize, way: Way)
     control.ports().is_full_at(place, way.sender, way.lane);
 }
 
-/// Offers this loaned response to its client on the usual way, and ends its handle; else it answers
-/// `None`, and nothing has changed. It is usual that responses overflow, the loan is the only
-/// message of its pool that somebody has, the own value of its server is there, and the client waits
-/// for the response.
+/// Sends this loaned response to its client on the usual way, and ends its handle; else it answers
+/// `None`, and nothing has changed. It is usual that responses overflow, so that no send fails, the
+/// loan is the only message of its pool that somebody has, the own value of its server is there, so
+/// that the server stays, and the client waits for the response.
 #[inline(always)]
-pub(crate) fn offer_usual(
+pub fn send_response_usual(
     control: &mut Control,
     node: u64,
     number: u64,
     hint: usize,
     entry: Entry,
-    _fails: bool,
 ) -> Option<Responded>
     requires response { IsResponse control.old.tables node number }
     requires entry { Some (handle_state entry) ≡ handle_in control.old.tables.handles node number }
     requires order { IsControl control.old }
     requires calls { control.old.tables.calls < 2 ^ 56 }
-    ensures reply { IfSome result (λ responded. (h : HandleState)
+    ensures reply { IfSome result (λ responded. (fails : Bool) (h : HandleState)
         → handle_in control.old.tables.handles node number ≡ Some h
-        → reply_of_send responded ≡ response_reply control.old.tables h _fails) }
-    ensures left { IfSome result (λ _. (h : HandleState)
+        → reply_of_send responded ≡ response_reply control.old.tables h fails) }
+    ensures left { IfSome result (λ _. (fails : Bool) (h : HandleState)
         → handle_in control.old.tables.handles node number ≡ Some h
-        → control.new.tables ≡ record (with_response_ended control.old.tables node number h _fails) {
+        → control.new.tables
+        ≡ record (with_released (with_response_ended control.old.tables node number h fails)
+        h.port) {
           pools = control.new.tables.pools;
         }) }
     ensures pools { bare_pools control.old.tables.pools ≡ bare_pools control.new.tables.pools }
+    ensures tidy { StaysTidy control.old.tables control.new.tables }
     ensures order { IsControl control.new }
-    ensures held { IfSome result (λ _. option_map_or (λ p. p.held)
-        (port_in control.old.tables.ports entry.port) false ≡ true) }
-    ensures whole { IfSome result (λ responded. (h : HandleState)
-        → handle_in control.old.tables.handles node number ≡ Some h → (x : Given)
-        → (control.old.tables.settings.response_overflow ≡ false
-        → IsFailure x control.old.tables h _fails) → (t : HubTables)
-        → state_shown x (with_released control.new.tables h.port) ≡ state_shown x t
+    ensures whole { IfSome result (λ responded. (x : Given)
         → IsWholeCall (state_shown x control.old.tables) node (Send number)
-        (reply_of_send responded) (state_shown x t)) }
+        (reply_of_send responded) (state_shown x control.new.tables)) }
     ensures unchanged { result ≡ None → control.new ≡ control.old }
 {
     if !control.settings().response_overflow {

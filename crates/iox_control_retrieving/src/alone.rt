@@ -25,6 +25,7 @@ pub fn has_one_out(control: &Control, pool: usize) -> bool
 
 /// Gets back all that was given back on the way. A call of its own, so that the others are short.
 #[inline(never)]
+#[cold]
 fn retrieve_others(control: &mut Control, way: Way, pool: usize)
     requires order { IsControl control.old }
     requires pool { (l : LaneState) → lane_on control.old.tables.ports way ≡ Some l
@@ -60,6 +61,7 @@ pub fn retrieve_unless(control: &mut Control, way: Way, pool: usize, alone: bool
 
 /// Gets back all that was given back to the port. A call of its own, so that the others are short.
 #[inline(never)]
+#[cold]
 fn retrieve_all_others(control: &mut Control, port: u64)
     requires order { IsControl control.old }
     requires there { (p : PortState) × (port_in control.old.tables.ports port ≡ Some p) }

@@ -52,6 +52,7 @@ pub fn retrieve_all_of(control: &mut Control, sender: &PortInfo, hint: usize)
 /// Gets back all that was given back to a port that is in that place. A call of its own, so that
 /// others are short.
 #[inline(never)]
+#[cold]
 fn retrieve_several(control: &mut Control, at: usize)
     requires order { IsControl control.old }
     requires there { at < length control.old.tables.ports }

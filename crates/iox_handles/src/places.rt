@@ -83,6 +83,7 @@ pub fn known_place(places: &[Entry], number: u64, likely: &[usize; REMAINDERS], 
 
 /// The same, where it is not at the hint.
 #[inline(never)]
+#[cold]
 fn place_in(places: &[Entry], number: u64, likely: &[usize; REMAINDERS]) -> Option<usize>
     requires { number < 2 ^ 64 - 1 }
     ensures found { IfSome result (λ place.

@@ -15,7 +15,7 @@ use Rattle.iox_control_request_copies.specs.Fills.{IsFilled, reply_of_write}
 use Rattle.iox_hub.specs.Fits.{are_requests_in, count_in}
 use Rattle.iox_hub.specs.Hubs.{HubState, IsHub, given_by, state_of_hub, with_control}
 use Rattle.iox_hub.specs.Lending.{HasWritten, IsWrite, IsWritten, LeavesWritten, payload_of, with_message}
-use Rattle.iox_hub.specs.Reads.{HasOf, message_in}
+use Rattle.iox_hub.specs.Reads.{HasOf}
 use Rattle.iox_hub.specs.Words.{Carried, stored_in}
 use Rattle.iox_hub.proofs.LendingWrites.{IsLoanOf, is_loan_of, is_written, kind_of_filled, loan_named, misfit_left, misfit_length, write_equal, write_of_role, write_within, written_hub, written_whole}
 
@@ -80,9 +80,3 @@ module _ {h : HubState} {role : Role} {node n count : ℕ} {new : ControlState} 
       → HasWritten h node n (kind_of_filled role) count ws result (with_control h new)
   other_has ws (written.Done p) never c = absurd (never p refl)
   other_has ws written.WrongLength never c = misfit_length role c.hub node n c.loan count new (c.write.left c.loan.handle c.loan.there)
-
-  -- a loan that has so many elements is filled
-  pub is_done : (result : Written) → ((p : Place) → result ≡ written.Done p → ⊥) → IsWriteCall h role node n count new result
-      → (message_in h node n).elements ≡ count → ⊥
-  is_done (written.Done p) never c fits = never p refl
-  is_done written.WrongLength never c fits = misfit_length role c.hub node n c.loan count new (c.write.left c.loan.handle c.loan.there) fits

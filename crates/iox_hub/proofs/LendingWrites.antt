@@ -28,7 +28,7 @@ use Rattle.iox_tables.specs.HubLending.Filling.{with_kind}
 use Rattle.iox_control.specs.Controls.{ControlState, IsControl, with_tables}
 use Rattle.iox_control_request_copies.specs.Place.{Place}
 use Rattle.iox_control_request_copies.specs.Written.TheVariants as written
-use Rattle.iox_control_request_copies.specs.Fills.{IsFilled, IsLoan, IsMisfit, given_written, reply_of_write}
+use Rattle.iox_control_request_copies.specs.Fills.{IsFilled, IsLoan, IsMisfit, fits_loan, given_written, reply_of_write}
 use Rattle.iox_hub.specs.Fits.{SuitsHandle, WordsFit, are_requests_in, count_in, comes_with_request}
 use Rattle.iox_hub.specs.Hubs.{HasValue, HubState, IsHub, given_by, many_in, state_of_hub}
 use Rattle.iox_hub.specs.Lending.{IsWritten, payload_of, with_message}
@@ -316,3 +316,15 @@ module _ (role : Role) {h : HubState} (hub : IsHub h) (node n : ℕ) (loan : IsL
 
     pub misfit_left : record h { control = new } ≡ h
     misfit_left = ap (λ (d : ControlState). record h { control = d }) is.left
+
+  -- a payload of as many elements as the loan has fits it
+  pub length_fits : (count : ℕ) → (message_in h node n).elements ≡ count → (j : HandleState) → handle_in t.handles node n ≡ Some j
+      → fits_loan t j (Some count) ≡ true
+  length_fits count e j there =
+      ap (λ (i : HandleState). fits_loan t i (Some count)) (sym (same_Some k j (sym loan.there ∙ there)))
+      ∙ eq-eqb count (elements_of t k) (sym e ∙ ap (λ (s : StoredMessage). s.elements) loan_message ∙ loan_elements)
+
+  -- and this is its kind once it is filled
+  pub kind_fits : (j : HandleState) → handle_in t.handles node n ≡ Some j → filled_kind j.kind ≡ kind_of_filled role
+  kind_fits j there =
+      ap (λ (i : HandleState). filled_kind i.kind) (sym (same_Some k j (sym loan.there ∙ there))) ∙ filled_of_role role k.kind loan.passes

@@ -18,12 +18,14 @@ pub mod MakingFits
 pub mod MakingWhole
 pub mod MakingPools
 pub mod AskingLemmas
+pub mod Suits
 pub mod ReleasingFits
 pub mod ReleasingWords
 pub mod ReleasedWords
 pub mod SendingFits
 pub mod SendingNames
 pub mod SendingHubs
+mod SendLeft
 pub mod Handling
 pub mod Overflowing
 pub mod LendingWords

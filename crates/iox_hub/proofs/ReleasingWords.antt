@@ -146,7 +146,7 @@ module _ {B : Type 0} (f : PoolState → B) {h : HubState} (hub : IsHub h) (ps :
 -- ---- the words beside two pools
 
 -- where the pool is there, its words stay
-one_stays : (h : HubState) (a : ℕ) → is_some (pool_at h.control.tables.pools a) ≡ true → h ≡ with_words_left h a
+pub one_stays : (h : HubState) (a : ℕ) → is_some (pool_at h.control.tables.pools a) ≡ true → h ≡ with_words_left h a
 one_stays h a there = sym (ap (λ (b : Bool). record h { words = if b then h.words else slice_set h.words a None }) there)
 
 pub both_stay : (h : HubState) (a b : ℕ) → is_some (pool_at h.control.tables.pools a) ≡ true → is_some (pool_at h.control.tables.pools b) ≡ true

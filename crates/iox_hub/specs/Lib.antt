@@ -11,6 +11,7 @@ pub mod Releases
 pub mod Lending
 pub mod Growing
 pub mod Keeping
+pub mod SendCalls
 pub mod Listings
 pub mod Cleaning
 pub mod Fillings

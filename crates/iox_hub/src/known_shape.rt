@@ -77,6 +77,12 @@ impl<E: Words, H: Words> KnownShape<E, H> {
         }
     }
 
+    /// Whether so many elements are few: then one look tells that their message can be addressed.
+    #[inline(always)]
+    pub(crate) fn is_few(&self, elements: u64) -> bool {
+        elements < self.below
+    }
+
     /// Whether a message of so many elements has fewer than 2^63 bytes, wherever its parts have to
     /// stand. Where it has few, one look tells it.
     #[inline(always)]

@@ -29,6 +29,7 @@ fn is_small(part: Part) -> bool
 /// stand, by all its bytes.
 #[tactic(auto, using(crate::proofs::LayoutLemmas::small_fits))]
 #[inline(never)]
+#[cold]
 fn can_be_addressed(header: Part, user: Part, element: Part, elements: u64) -> bool
     ensures { result
         ≡ nat_lt (size_of_parts (part_of header) (part_of user) (part_of element) elements)

@@ -18,6 +18,7 @@ mod invariant;
 mod known_shape;
 mod layouts;
 mod lending;
+mod lending_responses;
 mod listings;
 mod loan_reads;
 mod making;
@@ -54,7 +55,7 @@ pub use iox_backpressure::{
 };
 pub use iox_control::{Received, Settings};
 pub use iox_control_making::NotMade;
-pub use iox_control_questions::{Asked, NotBegun};
+pub use iox_control_questions::{Asked, NotBegun, may_be_asked};
 pub use iox_control_request_copies::{
     Answered, Copied, Lent, LoanRefusal, Place, Requested, Responded, Written,
 };

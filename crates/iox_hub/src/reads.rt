@@ -59,13 +59,15 @@ impl<Q: Payload, QH: Words, P: Payload, PH: Words, H: Backpressure> Hub<Q, QH, P
         entry
     }
 
-    /// The node's handle of that number, if it is at the hint.
+    /// The node's handle of that number, which it has, if it is at the hint.
     #[inline(always)]
     fn near_handle(&self, node: u64, number: u64, hint: usize) -> Option<Entry>
+        requires { (h : HandleState)
+            × (handle_in self.now.control.tables.handles node number ≡ Some h) }
         ensures { IfSome result (λ entry. handle_in self.now.control.tables.handles node number
             ≡ Some (handle_state entry)) }
     {
-        match self.control.near(node, number, hint) {
+        match self.control.near_known(node, number, hint) {
             Some(entry) => Some(entry),
             None => None,
         }
@@ -91,6 +93,7 @@ impl<Q: Payload, QH: Words, P: Payload, PH: Words, H: Backpressure> Hub<Q, QH, P
     /// The same, where the handle is not at the hint. A call of its own, so that the others are
     /// short.
     #[inline(never)]
+    #[cold]
     fn request_far(&self, node: u64, number: u64) -> &[Q::Element]
         requires has { HasOf has_request self.now node number }
         ensures words { flat_map Q.Element.words result.now
@@ -135,6 +138,7 @@ impl<Q: Payload, QH: Words, P: Payload, PH: Words, H: Backpressure> Hub<Q, QH, P
     /// The same, where the handle is not at the hint. A call of its own, so that the others are
     /// short.
     #[inline(never)]
+    #[cold]
     fn response_far(&self, node: u64, number: u64) -> &[P::Element]
         requires has { HasOf has_response self.now node number }
         ensures words { flat_map P.Element.words result.now

@@ -30,9 +30,28 @@ fn is_held_by(port: PortInfo, node: u64) -> bool
 }
 
 impl<Q: Payload, QH: Words, P: Payload, PH: Words, H: Backpressure> Hub<Q, QH, P, PH, H> {
-    /// The kind of the node's port or handle of that number, if it has one that is not released. A
-    /// handle is looked for at the hint first.
+    /// The kind of the node's port or handle of that number, if it has one that is not released. It
+    /// is looked for at the hint first.
+    #[inline(always)]
     pub fn kind(&self, node: u64, number: u64, hint: usize) -> Option<Kind>
+        ensures { result ≡ kind_in self.now.control.tables node number }
+    {
+        if let Some(entry) = self.control.near(node, number, hint) {
+            return Some(entry.kind);
+        }
+        if let Some(port) = self.control.ports().near(number, hint) {
+            if is_held_by(port, node) {
+                return Some(kind_of(port.role));
+            }
+            return None;
+        }
+        self.kind_far(node, number)
+    }
+
+    /// The same, where it is not at the hint. A call of its own, so that the others are short.
+    #[inline(never)]
+    #[cold]
+    fn kind_far(&self, node: u64, number: u64) -> Option<Kind>
         ensures { result ≡ kind_in self.now.control.tables node number }
     {
         match self.control.ports().find(number) {
@@ -42,11 +61,21 @@ impl<Q: Payload, QH: Words, P: Payload, PH: Words, H: Backpressure> Hub<Q, QH, P
                 }
                 None
             }
-            None => match self.control.entry(node, number, hint) {
+            None => match self.control.entry(node, number, 0) {
                 Some(entry) => Some(entry.kind),
                 None => None,
             },
         }
+    }
+
+    /// Where the handle or the port of that number is likely: it may be looked for there first.
+    #[inline(always)]
+    pub fn likely_place(&self, number: u64) -> usize {
+        let place = self.control.likely_handle(number);
+        if self.control.handles().near(number, place).is_some() {
+            return place;
+        }
+        self.control.likely_place(number, place)
     }
 
     /// Where the handle that came last is: it may be looked for there first.
@@ -90,10 +119,11 @@ impl<Q: Payload, QH: Words, P: Payload, PH: Words, H: Backpressure> Hub<Q, QH, P
 
     /// The same, where no port is at the hint. A call of its own, so that the others are short.
     #[inline(never)]
+    #[cold]
     fn has_far(&self, node: u64, number: u64, kind: Kind) -> bool
         ensures { IsTrue result ↔ HasValue self.now node number kind }
     {
-        match self.kind(node, number, 0) {
+        match self.kind_far(node, number) {
             Some(other) => other == kind,
             None => false,
         }
@@ -114,6 +144,7 @@ impl<Q: Payload, QH: Words, P: Payload, PH: Words, H: Backpressure> Hub<Q, QH, P
 
     /// The same, where it is not at the hint. A call of its own, so that the others are short.
     #[inline(never)]
+    #[cold]
     fn has_handle_far(&self, node: u64, number: u64, kind: Kind) -> bool
         requires { is_handle kind ≡ true }
         ensures { IsTrue result ↔ HasValue self.now node number kind }

@@ -1,14 +1,16 @@
 //! Writes to loans.
-ghost use Rattle.std.specs.Prelude.{◌≡◌, ◌∷◌, [], flat_map, length};
+ghost use Rattle.std.specs.Prelude.{◌≡◌, ◌∷◌, [], Some, flat_map, length, true};
 ghost use Rattle.iox_model.specs.declared.call.Call.TheVariants.{Write};
 ghost use Rattle.iox_model.specs.declared.kind.Kind.TheVariants.{RequestMut, ResponseMut};
 ghost use Rattle.iox_model.specs.declared.kind.Role.TheVariants as roles;
 ghost use Rattle.iox_model.specs.declared.reply.Reply.TheVariants.{Done};
-ghost use Rattle.iox_model.specs.Handles.{is_request_loan, is_response_loan};
+ghost use Rattle.iox_model.specs.Handles.{filled_kind, is_request_loan, is_response_loan};
 ghost use Rattle.iox_model.specs.WholeCalls.{IsWholeCall};
 ghost use Rattle.iox_tables.specs.HubStates.States.{Given};
 ghost use Rattle.iox_control.specs.Controls.{IsControl};
-ghost use Rattle.iox_control_request_copies.specs.Fills.{IsLoan, reply_of_write};
+ghost use Rattle.iox_tables.specs.HubStates.Tables.{HandleState};
+ghost use Rattle.iox_tables.specs.HubStates.Wirings.{handle_in};
+ghost use Rattle.iox_control_request_copies.specs.Fills.{IsLoan, fits_loan, reply_of_write};
 ghost use Rattle.iox_control_request_copies.specs.Written.TheVariants as written;
 ghost use Rattle.iox_hub.specs.Hubs.{state_of_hub};
 ghost use Rattle.iox_hub.specs.Keeping.{KeepsOthers};
@@ -21,7 +23,8 @@ use crate::contents::{
 use crate::hub::Hub;
 use iox_backpressure::Backpressure;
 use iox_control::Control;
-use iox_control_request_copies::{Place, Written, write};
+use iox_control_request_copies::{Place, Written, write, write_whole};
+use iox_model::kind::Kind;
 use iox_store::Payload;
 use iox_words::Words;
 
@@ -33,6 +36,21 @@ fn write_loan(control: &mut Control, node: u64, number: u64, hint: usize, count:
     ensures { IsWrite control.old node number count control.new result }
 {
     write(control, node, number, hint, Some(count as u64))
+}
+
+/// The one element of the node's loan is written: it is of that kind then. Its handle is looked for
+/// at the hint first.
+#[inline(always)]
+fn write_one(control: &mut Control, node: u64, number: u64, hint: usize, kind: Kind) -> Place
+    requires loan { IsLoan control.old.tables node number }
+    requires order { IsControl control.old }
+    requires fits { (h : HandleState) → handle_in control.old.tables.handles node number ≡ Some h
+        → fits_loan control.old.tables h (Some 1) ≡ true }
+    requires kind { (h : HandleState) → handle_in control.old.tables.handles node number ≡ Some h
+        → filled_kind h.kind ≡ kind }
+    ensures { IsWrite control.old node number 1 control.new (written.Done result) }
+{
+    write_whole(control, node, number, hint, kind, 1)
 }
 
 impl<Q: Payload, QH: Words, P: Payload, PH: Words, H: Backpressure> Hub<Q, QH, P, PH, H> {
@@ -111,9 +129,7 @@ impl<Q: Payload, QH: Words, P: Payload, PH: Words, H: Backpressure> Hub<Q, QH, P
             (flat_map Q.Element.words (value ∷ [])) self.new }
         ensures keeps { KeepsOthers self.old node number self.new }
     {
-        let Written::Done(place) = write_loan(&mut self.control, node, number, hint, 1) else {
-            unreachable!();
-        };
+        let place = write_one(&mut self.control, node, number, hint, Kind::RequestMut);
         write_one_request_in(&mut self.words, place.pool, place.slot as usize, value);
         place
     }
@@ -139,9 +155,7 @@ impl<Q: Payload, QH: Words, P: Payload, PH: Words, H: Backpressure> Hub<Q, QH, P
             (flat_map P.Element.words (value ∷ [])) self.new }
         ensures keeps { KeepsOthers self.old node number self.new }
     {
-        let Written::Done(place) = write_loan(&mut self.control, node, number, hint, 1) else {
-            unreachable!();
-        };
+        let place = write_one(&mut self.control, node, number, hint, Kind::ResponseMut);
         write_one_response_in(&mut self.words, place.pool, place.slot as usize, value);
         place
     }

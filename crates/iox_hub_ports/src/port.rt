@@ -253,6 +253,7 @@ impl Port {
     /// The same, where there may be senders that are gone. A call of its own, so that only the
     /// visits to connected senders are made in place.
     #[inline(never)]
+    #[cold]
     fn visit_both<L: Labels>(&mut self, lane: usize, wanted: Wanted, labels: &L) -> Visits
         ensures visits { result
             ≡ all_visits wanted (L.label_of labels.now) lane (pipes_of self.old) }

@@ -1,15 +1,15 @@
 -- On which lanes something is left to get back.
 use Rattle.std.proofs.Common.{◌≡◌, ◌≢◌, ◌<◌, ◌≤◌, ◌+◌, ◌-◌, ◌^◌, ℕ, zero, suc, true, false, cond, List, [], ◌∷◌, ◌++◌, drop, length, get_or, replicate, slice_set, take, Some, None, Option, w64, refl, sym, ap, subst, ◌∙◌, inl, inr, arith, length-take-le}
 use Rattle.std.proofs.lemmas.Bool.{cases_eq, cases_lt, false≢true}
-use Rattle.std.proofs.lemmas.Nat.Bits.{bit_at-trailing_zeros, bit_at-zero}
+use Rattle.std.proofs.lemmas.Nat.Bits.{bit_at-suc, bit_at-trailing_zeros, bit_at-zero, bit_at_lowest}
 use Rattle.std.proofs.lemmas.Option.{none-some, same_Some}
 use Rattle.std.specs.Int.{bit_at, trailing_zeros}
-use Rattle.std.specs.Prelude.{Bool, if◌then◌else◌, not}
+use Rattle.std.specs.Prelude.{Bool, if◌then◌else◌, is_some, not}
 use Rattle.std.specs.List.{position_from}
 use Rattle.iox_model.specs.Maps.{is_empty}
 use Rattle.iox_lanes.specs.Lanes.{LaneState, delivered, empty_lane, has_returned, has_room, is_at_limit, is_full, is_taken, offered, released, with_returned, without_oldest, without_returned, without_taken}
 use Rattle.iox_lanes.specs.Marks.{AreMarked, NoneToGetBelow, bit_of, has_returned_at, mark_of}
-use Rattle.iox_lanes.specs.Pipes.{PipeState, lane_to_get}
+use Rattle.iox_lanes.specs.Pipes.{PipeState, lane_to_get, with_lane}
 use Rattle.iox_lanes.specs.PipeSteps.{pushed}
 use Rattle.iox_lanes.specs.Searches.{LabelsByPlace, before_wanted, first_wanted, searched, visited, visited_on, wanted_on, with_found}
 use Rattle.iox_lanes.specs.declared.wanted.Wanted.{Wanted}
@@ -294,6 +294,38 @@ returned_at (x ∷ xs) n i e = step (has_returned x) refl e (returned_at xs (n +
         → (k : ℕ) × (i ≡ k + n) × (has_returned_at (x ∷ xs) k ≡ true)
     step true t h rest = let same = same_Some n i h in (0, omega (arith, same), t)
     step false t h rest = let r = rest h in (suc r.0, let at = r.1 in omega (arith, at), r.2)
+
+-- ---- on the first lane alone
+
+one_alone : (k : ℕ) → bit_at 1 (suc k) ≡ 0
+one_alone k = bit_at-suc 1 k ∙ bit_at-zero k
+
+-- the first mark alone: the first lane is the lowest
+pub first_marked : (marks : ℕ) (lanes : List LaneState) → AreMarked marks lanes → marks ≡ 1 → position_from has_returned 0 lanes ≡ Some 0
+first_marked marks lanes m is =
+    first_to_get lanes 0 (λ k b. absurd (omega (arith, b)))
+    (is_bit (has_returned_at lanes 0) (sym (m.one 0 (omega arith)) ∙ ap (λ (n : ℕ). bit_at n 0) is ∙ bit_at_lowest 1))
+
+-- then only that lane tells, after a change of it, whether something is left
+pub first_alone : (sender : ℕ) (lanes : List LaneState) (states : List RequestState) (f : LaneState → LaneState) (marks : ℕ)
+    → AreMarked marks lanes → marks ≡ 1
+    → is_some (lane_to_get (with_lane f (record { sender = sender; lanes = lanes; states = states }) 0))
+    ≡ has_returned_at (with_lane f (record { sender = sender; lanes = lanes; states = states }) 0).lanes 0
+first_alone sender [] states f marks m is = refl
+first_alone sender (x ∷ xs) states f marks m is = over (has_returned (f x)) refl
+  where
+    none : has_returned (f x) ≡ false → (k : ℕ) → has_returned_at (f x ∷ xs) k ≡ false
+    none e zero = e
+    none e (suc k) = elim (cases_lt (suc k) 63) [
+      | inl below ↦
+          no_bit (has_returned_at (x ∷ xs) (suc k))
+          (sym (m.one (suc k) below) ∙ ap (λ (n : ℕ). bit_at n (suc k)) is ∙ one_alone k)
+      | inr past ↦ m.rest (ap (λ (n : ℕ). bit_at n 63) is ∙ one_alone 62) (suc k) past
+    ]
+
+    over : (b : Bool) → has_returned (f x) ≡ b → is_some (position_from has_returned 0 (f x ∷ xs)) ≡ has_returned (f x)
+    over true e = ap (λ (b : Bool). is_some (cond b (Some 0) (position_from has_returned 1 xs))) e ∙ sym e
+    over false e = ap is_some (none_from (f x ∷ xs) 0 (none e)) ∙ sym e
 
 -- on the lowest lane on which something is left it is
 pub lowest_has : (p : PipeState) (lane : ℕ) → lane_to_get p ≡ Some lane → has_returned_at p.lanes lane ≡ true

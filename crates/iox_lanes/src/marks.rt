@@ -8,6 +8,9 @@ use crate::lane::Lane;
 /// So many lanes have a mark each. All others share one.
 pub(crate) const MOST: usize = 63;
 
+/// The marks where something is left to get back on the first lane alone.
+pub(crate) const FIRST: u64 = 1;
+
 /// The marks, with that of this lane.
 #[inline]
 #[tactic(auto, using(crate::proofs::Bits::set))]

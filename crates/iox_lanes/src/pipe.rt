@@ -11,9 +11,9 @@ ghost use Rattle.iox_lanes.specs.Visited.{pipe_visit, pipe_visited, pool_on};
 mod usual;
 
 use crate::lane::Lane;
-use crate::marks::{MOST, next_to_get, with_mark, without_mark};
+use crate::marks::{FIRST, MOST, next_to_get, with_mark, without_mark};
 use crate::search::{LaneVisit, visit_lane};
-use crate::states::{after_close, after_hint, state_of};
+use crate::states::{after_hint, is_named, state_of};
 use crate::wanted::{Labels, Wanted};
 use iox_model::way::RequestState;
 use std::alloc::{AllocError, Global};
@@ -206,7 +206,7 @@ impl Pipe {
 
     /// Puts a message last in line on that lane. Where as many wait as may, the oldest is pushed
     /// out first: it is its sender's again.
-    #[inline]
+    #[inline(always)]
     pub fn push(&mut self, lane: usize, place: u64) -> Option<u64>
         ensures oldest { result ≡ on_lane pushed_out None self.old lane }
         ensures pushed { self.new ≡ with_lane (λ l. pushed l place) self.old lane }
@@ -235,20 +235,23 @@ impl Pipe {
         oldest
     }
 
-    /// Gets back the oldest message of those that were given back on that lane. There is one.
+    /// Gets back the oldest message of those that were given back on that lane, and says whether
+    /// something is left there. There is one.
     #[inline]
-    fn get_one_back(&mut self, lane: usize) -> u64
+    fn get_one_back(&mut self, lane: usize) -> (u64, bool)
         requires some { has_returned_at self.old.lanes lane ≡ true }
-        ensures oldest { on_lane (λ l. slice_get l.returned 0) None self.old lane ≡ Some result }
+        ensures oldest { on_lane (λ l. slice_get l.returned 0) None self.old lane
+            ≡ Some result.0 }
         ensures got_back { self.new ≡ with_lane without_returned self.old lane }
+        ensures more { result.1 ≡ has_returned_at self.new.lanes lane }
     {
         let l = &mut self.lanes[lane];
         let place = l.get_one_back();
         if l.has_returned() {
-            return place;
+            return (place, true);
         }
         self.marks = without_mark(self.marks, lane);
-        place
+        (place, false)
     }
 
     /// The lowest lane on which something that was given back is left to get back, if there is one.
@@ -273,7 +276,8 @@ impl Pipe {
     }
 
     /// Gets back the oldest message of those that were given back on the lowest lane on which
-    /// something is left to get back, if there is one.
+    /// something is left to get back, if there is one. Where that is the first lane alone, it is
+    /// no call.
     #[inline(always)]
     pub fn get_next(&mut self) -> Option<Next>
         ensures lowest { option_map (λ n. n.lane) result ≡ lane_to_get self.old }
@@ -284,8 +288,50 @@ impl Pipe {
         ensures more { IfSome result (λ n. n.more ≡ is_some (lane_to_get self.new)) }
         ensures unchanged { result ≡ None → self.new ≡ self.old }
     {
+        if self.marks == FIRST {
+            let (place, more) = self.get_one_back(0);
+            return Some(Next {
+                lane: 0,
+                place,
+                more,
+            });
+        }
+        if self.marks == 0 {
+            return None;
+        }
+        self.get_next_other()
+    }
+
+    /// The same, where it is on another lane, too. What the call tells is put together anew, so
+    /// that it stays in registers where it is not called.
+    #[inline(always)]
+    fn get_next_other(&mut self) -> Option<Next>
+        ensures lowest { option_map (λ n. n.lane) result ≡ lane_to_get self.old }
+        ensures oldest { IfSome result (λ n.
+            on_lane (λ l. slice_get l.returned 0) None self.old n.lane ≡ Some n.place) }
+        ensures got_back { IfSome result (λ n.
+            self.new ≡ with_lane without_returned self.old n.lane) }
+        ensures more { IfSome result (λ n. n.more ≡ is_some (lane_to_get self.new)) }
+        ensures unchanged { result ≡ None → self.new ≡ self.old }
+    {
+        let Next { lane, place, more } = self.get_next_far()?;
+        Some(Next { lane, place, more })
+    }
+
+    /// The same. A call of its own, so that the others are short.
+    #[inline(never)]
+    #[cold]
+    fn get_next_far(&mut self) -> Option<Next>
+        ensures lowest { option_map (λ n. n.lane) result ≡ lane_to_get self.old }
+        ensures oldest { IfSome result (λ n.
+            on_lane (λ l. slice_get l.returned 0) None self.old n.lane ≡ Some n.place) }
+        ensures got_back { IfSome result (λ n.
+            self.new ≡ with_lane without_returned self.old n.lane) }
+        ensures more { IfSome result (λ n. n.more ≡ is_some (lane_to_get self.new)) }
+        ensures unchanged { result ≡ None → self.new ≡ self.old }
+    {
         let lane = self.lane_to_get()?;
-        let place = self.get_one_back(lane);
+        let (place, _) = self.get_one_back(lane);
         let more = self.lane_to_get().is_some();
         Some(Next { lane, place, more })
     }
@@ -350,6 +396,7 @@ impl Pipe {
     }
 
     /// Opens a request on that lane.
+    #[inline(always)]
     pub fn open_request(&mut self, lane: usize, id: u64)
         ensures { self.new ≡ opened self.old lane id }
     {
@@ -363,7 +410,9 @@ impl Pipe {
         ensures { self.new ≡ closed self.old lane id }
     {
         if lane < self.states.len() {
-            self.states[lane] = after_close(self.states[lane], id);
+            if is_named(self.states[lane], id) {
+                self.states[lane] = RequestState::Closed;
+            }
         }
     }
 

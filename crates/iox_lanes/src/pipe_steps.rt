@@ -65,7 +65,7 @@ impl PipeStep for OpenAndPush {
         None
     }
 
-    #[inline]
+    #[inline(always)]
     fn step(&self, pipe: &mut Pipe) -> Option<u64> {
         pipe.open_request(self.lane, self.id);
         pipe.push(0, self.place)

@@ -1,6 +1,6 @@
-//! What looks, closes and hints do to the state of a request.
+//! What looks and hints do to the state of a request.
 ghost use Rattle.std.specs.Prelude.{◌≡◌};
-ghost use Rattle.iox_model.specs.Messages.{closed_for, hinted_for, names};
+ghost use Rattle.iox_model.specs.Messages.{hinted_for, names};
 ghost use Rattle.iox_lanes.specs.Searches.{state_on};
 
 use iox_model::way::RequestState;
@@ -26,17 +26,6 @@ pub fn is_named(state: RequestState, request: u64) -> bool
         RequestState::Named { id, hinted: _ } => id == request,
         RequestState::Closed => false,
     }
-}
-
-/// The state after a close of the request.
-#[inline]
-pub fn after_close(state: RequestState, request: u64) -> RequestState
-    ensures { result ≡ closed_for state request }
-{
-    if is_named(state, request) {
-        return RequestState::Closed;
-    }
-    state
 }
 
 /// The state after a hint to the request.

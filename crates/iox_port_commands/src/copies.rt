@@ -13,7 +13,7 @@ ghost use Rattle.iox_port_commands.specs.Memory.{GrowsIfLent};
 ghost use Rattle.iox_port_commands.specs.Telling.{tells_want};
 
 use crate::answers::{answered, copied};
-use crate::begins::{NOWHERE, begin};
+use crate::begins::begin;
 use crate::elements::Elements;
 use iox_hub::{Asked, Backpressure, Hub};
 use iox_model::kind::{Kind, Role};
@@ -42,14 +42,8 @@ pub fn copy_request<Q: Payload, QH: Words, P: Payload, PH: Words, H: Backpressur
     ensures unchanged { OnErr result (hub.new ≡ hub.old) }
 {
     hub.is_in_order();
-    match begin(
-        hub,
-        node,
-        number,
-        Asked::SendCopy(Role::Client),
-        Kind::Client,
-        Kind::Client,
-    ) {
+    let place = hub.likely_place(number);
+    match begin(hub, node, number, place, Asked::SendCopy(Role::Client)) {
         Ok(Kind::Client) => copied(hub.copy_request(node, number, values)),
         Ok(_) => unreachable!(),
         Err(reply) => Ok(reply),
@@ -76,15 +70,9 @@ pub fn copy_response<Q: Payload, QH: Words, P: Payload, PH: Words, H: Backpressu
     ensures unchanged { OnErr result (hub.new ≡ hub.old) }
 {
     hub.is_in_order();
-    match begin(
-        hub,
-        node,
-        number,
-        Asked::SendCopy(Role::Server),
-        Kind::ActiveRequest,
-        Kind::ActiveRequest,
-    ) {
-        Ok(Kind::ActiveRequest) => answered(hub.copy_response(node, number, NOWHERE, values)),
+    let place = hub.likely_place(number);
+    match begin(hub, node, number, place, Asked::SendCopy(Role::Server)) {
+        Ok(Kind::ActiveRequest) => answered(hub.copy_response(node, number, place, values)),
         Ok(_) => unreachable!(),
         Err(reply) => Ok(reply),
     }

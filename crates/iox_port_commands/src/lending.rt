@@ -6,7 +6,7 @@ ghost use Rattle.iox_port_commands.specs.Applying.{HaveDefaults, IsCalled, Lacks
 ghost use Rattle.iox_port_commands.specs.Telling.{tells_want};
 
 use crate::answers::lent;
-use crate::begins::{NOWHERE, begin};
+use crate::begins::begin;
 use iox_hub::{Asked, Backpressure, Hub};
 use iox_model::kind::Kind;
 use iox_model::reply::PortReply;
@@ -33,16 +33,10 @@ pub(crate) fn loan<Q: Payload, QH: Words, P: Payload, PH: Words, H: Backpressure
 {
     hub.is_in_order();
     let count = elements as usize;
-    match begin(
-        hub,
-        node,
-        number,
-        Asked::Loan,
-        Kind::Client,
-        Kind::ActiveRequest,
-    ) {
-        Ok(Kind::Client) => lent(hub.lend_request(node, number, NOWHERE, count, false)),
-        Ok(Kind::ActiveRequest) => lent(hub.lend_response(node, number, NOWHERE, count, false)),
+    let place = hub.likely_place(number);
+    match begin(hub, node, number, place, Asked::Loan) {
+        Ok(Kind::Client) => lent(hub.lend_request(node, number, place, count, false)),
+        Ok(Kind::ActiveRequest) => lent(hub.lend_response(node, number, place, count, false)),
         Ok(_) => unreachable!(),
         Err(reply) => Ok(reply),
     }

@@ -4,7 +4,7 @@ ghost use Rattle.iox_model.specs.declared.call.Call.TheVariants.{HasHint, HasReq
 ghost use Rattle.iox_port_commands.specs.Applying.{IsCalled};
 ghost use Rattle.iox_port_commands.specs.Telling.{tells_want};
 
-use crate::begins::{NOWHERE, begin};
+use crate::begins::begin;
 use iox_hub::{Asked, Backpressure, Hub};
 use iox_model::kind::Kind;
 use iox_model::reply::PortReply;
@@ -20,15 +20,9 @@ pub(crate) fn is_connected<Q: Payload, QH: Words, P: Payload, PH: Words, H: Back
     ensures whole { IsCalled hub.now node (IsConnected number) result hub.now }
     ensures memory { tells_want result ≡ false }
 {
-    match begin(
-        hub,
-        node,
-        number,
-        Asked::IsConnected,
-        Kind::PendingResponse,
-        Kind::ActiveRequest,
-    ) {
-        Ok(_) => PortReply::Answer(hub.is_connected(node, number, NOWHERE)),
+    let place = hub.likely_place(number);
+    match begin(hub, node, number, place, Asked::IsConnected) {
+        Ok(_) => PortReply::Answer(hub.is_connected(node, number, place)),
         Err(reply) => reply,
     }
 }
@@ -43,16 +37,10 @@ pub(crate) fn set_hint<Q: Payload, QH: Words, P: Payload, PH: Words, H: Backpres
     ensures whole { IsCalled hub.old node (SetHint number) result hub.new }
     ensures memory { tells_want result ≡ false }
 {
-    match begin(
-        hub,
-        node,
-        number,
-        Asked::SetHint,
-        Kind::PendingResponse,
-        Kind::PendingResponse,
-    ) {
+    let place = hub.likely_place(number);
+    match begin(hub, node, number, place, Asked::SetHint) {
         Ok(Kind::PendingResponse) => {
-            hub.set_hint(node, number, NOWHERE);
+            hub.set_hint(node, number, place);
             PortReply::Done
         }
         Ok(_) => unreachable!(),
@@ -69,15 +57,9 @@ pub(crate) fn has_hint<Q: Payload, QH: Words, P: Payload, PH: Words, H: Backpres
     ensures whole { IsCalled hub.now node (HasHint number) result hub.now }
     ensures memory { tells_want result ≡ false }
 {
-    match begin(
-        hub,
-        node,
-        number,
-        Asked::HasHint,
-        Kind::ActiveRequest,
-        Kind::ActiveRequest,
-    ) {
-        Ok(Kind::ActiveRequest) => PortReply::Answer(hub.has_hint(node, number, NOWHERE)),
+    let place = hub.likely_place(number);
+    match begin(hub, node, number, place, Asked::HasHint) {
+        Ok(Kind::ActiveRequest) => PortReply::Answer(hub.has_hint(node, number, place)),
         Ok(_) => unreachable!(),
         Err(reply) => reply,
     }
@@ -92,14 +74,8 @@ pub(crate) fn has_requests<Q: Payload, QH: Words, P: Payload, PH: Words, H: Back
     ensures whole { IsCalled hub.now node (HasRequests number) result hub.now }
     ensures memory { tells_want result ≡ false }
 {
-    match begin(
-        hub,
-        node,
-        number,
-        Asked::HasRequests,
-        Kind::Server,
-        Kind::Server,
-    ) {
+    let place = hub.likely_place(number);
+    match begin(hub, node, number, place, Asked::HasRequests) {
         Ok(Kind::Server) => PortReply::Answer(hub.has_requests(node, number)),
         Ok(_) => unreachable!(),
         Err(reply) => reply,
@@ -115,15 +91,9 @@ pub(crate) fn has_response<Q: Payload, QH: Words, P: Payload, PH: Words, H: Back
     ensures whole { IsCalled hub.now node (HasResponse number) result hub.now }
     ensures memory { tells_want result ≡ false }
 {
-    match begin(
-        hub,
-        node,
-        number,
-        Asked::HasResponse,
-        Kind::PendingResponse,
-        Kind::PendingResponse,
-    ) {
-        Ok(Kind::PendingResponse) => { PortReply::Answer(hub.has_response(node, number, NOWHERE)) }
+    let place = hub.likely_place(number);
+    match begin(hub, node, number, place, Asked::HasResponse) {
+        Ok(Kind::PendingResponse) => { PortReply::Answer(hub.has_response(node, number, place)) }
         Ok(_) => unreachable!(),
         Err(reply) => reply,
     }

@@ -6,7 +6,7 @@ ghost use Rattle.iox_hub.specs.Reads.{HasOf, has_request, has_response};
 ghost use Rattle.iox_port_commands.specs.Applying.{IsCalled, LacksMemory};
 ghost use Rattle.iox_port_commands.specs.Telling.{tells_want};
 
-use crate::begins::{NOWHERE, begin};
+use crate::begins::begin;
 use crate::word_lists::words_of;
 use iox_hub::{Asked, Backpressure, Hub};
 use iox_model::kind::Kind;
@@ -15,41 +15,45 @@ use iox_store::Payload;
 use iox_words::Words;
 use std::alloc::{AllocError, Global};
 
-/// The words of a request, where there is memory for them.
+/// The words of a request, where there is memory for them. Its handle is looked for at the hint
+/// first.
 #[inline(always)]
 fn read_request<Q: Payload, QH: Words, P: Payload, PH: Words, H: Backpressure, C>(
     hub: &Hub<Q, QH, P, PH, H>,
     alloc: Global,
     node: u64,
     number: u64,
+    place: usize,
 ) -> Result<PortReply<Vec<u64>, C>, AllocError>
     requires has { HasOf has_request hub.now node number }
     ensures whole { IfOk result (λ reply. IsCalled hub.now node (Read number) reply hub.now) }
     ensures memory { IfOk result (λ reply. tells_want reply ≡ false) }
     ensures wanting { OnErr result (LacksMemory hub.now node (Use (Read number)) hub.now) }
 {
-    let header = hub.request_header(node, number, NOWHERE);
-    match words_of(alloc, header, hub.request(node, number, NOWHERE)) {
+    let header = hub.request_header(node, number, place);
+    match words_of(alloc, header, hub.request(node, number, place)) {
         Ok(words) => Ok(PortReply::Words(words)),
         Err(error) => Err(error),
     }
 }
 
-/// The words of a response, where there is memory for them.
+/// The words of a response, where there is memory for them. Its handle is looked for at the hint
+/// first.
 #[inline(always)]
 fn read_response<Q: Payload, QH: Words, P: Payload, PH: Words, H: Backpressure, C>(
     hub: &Hub<Q, QH, P, PH, H>,
     alloc: Global,
     node: u64,
     number: u64,
+    place: usize,
 ) -> Result<PortReply<Vec<u64>, C>, AllocError>
     requires has { HasOf has_response hub.now node number }
     ensures whole { IfOk result (λ reply. IsCalled hub.now node (Read number) reply hub.now) }
     ensures memory { IfOk result (λ reply. tells_want reply ≡ false) }
     ensures wanting { OnErr result (LacksMemory hub.now node (Use (Read number)) hub.now) }
 {
-    let header = hub.response_header(node, number, NOWHERE);
-    match words_of(alloc, header, hub.response(node, number, NOWHERE)) {
+    let header = hub.response_header(node, number, place);
+    match words_of(alloc, header, hub.response(node, number, place)) {
         Ok(words) => Ok(PortReply::Words(words)),
         Err(error) => Err(error),
     }
@@ -68,18 +72,12 @@ pub fn read<Q: Payload, QH: Words, P: Payload, PH: Words, H: Backpressure, C>(
     ensures memory { IfOk result (λ reply. tells_want reply ≡ false) }
     ensures wanting { OnErr result (LacksMemory hub.now node (Use (Read number)) hub.now) }
 {
-    match begin(
-        hub,
-        node,
-        number,
-        Asked::Read,
-        Kind::ActiveRequest,
-        Kind::Response,
-    ) {
+    let place = hub.likely_place(number);
+    match begin(hub, node, number, place, Asked::Read) {
         Ok(Kind::RequestMut | Kind::PendingResponse | Kind::ActiveRequest) => {
-            read_request(hub, alloc, node, number)
+            read_request(hub, alloc, node, number, place)
         }
-        Ok(Kind::ResponseMut | Kind::Response) => read_response(hub, alloc, node, number),
+        Ok(Kind::ResponseMut | Kind::Response) => read_response(hub, alloc, node, number, place),
         Ok(_) => unreachable!(),
         Err(reply) => Ok(reply),
     }

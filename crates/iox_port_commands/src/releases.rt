@@ -4,7 +4,7 @@ ghost use Rattle.iox_model.specs.declared.call.Call.TheVariants.{Release};
 ghost use Rattle.iox_port_commands.specs.Applying.{IsCalled};
 ghost use Rattle.iox_port_commands.specs.Telling.{tells_want};
 
-use crate::begins::{NOWHERE, begin};
+use crate::begins::begin;
 use iox_hub::{Asked, Backpressure, Hub};
 use iox_model::kind::Kind;
 use iox_model::reply::PortReply;
@@ -20,20 +20,14 @@ pub(crate) fn release<Q: Payload, QH: Words, P: Payload, PH: Words, H: Backpress
     ensures whole { IsCalled hub.old node (Release number) result hub.new }
     ensures memory { tells_want result ≡ false }
 {
-    match begin(
-        hub,
-        node,
-        number,
-        Asked::Release,
-        Kind::ActiveRequest,
-        Kind::Response,
-    ) {
+    let place = hub.likely_place(number);
+    match begin(hub, node, number, place, Asked::Release) {
         Ok(Kind::Client | Kind::Server) => {
             hub.release_port(node, number);
             PortReply::Done
         }
         Ok(_) => {
-            hub.release(node, number, NOWHERE);
+            hub.release(node, number, place);
             PortReply::Done
         }
         Err(reply) => reply,

@@ -8,7 +8,7 @@ ghost use Rattle.iox_port_commands.specs.Asking.{payload_for};
 ghost use Rattle.iox_port_commands.specs.Telling.{tells_want};
 
 use crate::answers::written;
-use crate::begins::{NOWHERE, begin};
+use crate::begins::begin;
 use crate::elements::Elements;
 use iox_hub::{Asked, Backpressure, Hub};
 use iox_model::kind::{Kind, Role};
@@ -28,15 +28,9 @@ fn write_request<Q: Payload, QH: Words, P: Payload, PH: Words, H: Backpressure, 
         (flat_map Q.Element.words values.now))) result hub.new }
     ensures memory { tells_want result ≡ false }
 {
-    match begin(
-        hub,
-        node,
-        number,
-        Asked::Write(Role::Client),
-        Kind::RequestMut,
-        Kind::RequestMutUninit,
-    ) {
-        Ok(_) => written(hub.write_request(node, number, NOWHERE, values)),
+    let place = hub.likely_place(number);
+    match begin(hub, node, number, place, Asked::Write(Role::Client)) {
+        Ok(_) => written(hub.write_request(node, number, place, values)),
         Err(reply) => reply,
     }
 }
@@ -53,15 +47,9 @@ fn write_response<Q: Payload, QH: Words, P: Payload, PH: Words, H: Backpressure,
         (flat_map P.Element.words values.now))) result hub.new }
     ensures memory { tells_want result ≡ false }
 {
-    match begin(
-        hub,
-        node,
-        number,
-        Asked::Write(Role::Server),
-        Kind::ResponseMut,
-        Kind::ResponseMutUninit,
-    ) {
-        Ok(_) => written(hub.write_response(node, number, NOWHERE, values)),
+    let place = hub.likely_place(number);
+    match begin(hub, node, number, place, Asked::Write(Role::Server)) {
+        Ok(_) => written(hub.write_response(node, number, place, values)),
         Err(reply) => reply,
     }
 }

@@ -9,8 +9,8 @@ use crate::port::Port;
 use iox_tables::steps::PipeStep;
 
 impl Port {
-    /// Whether the pipe of that rank is from this sender, which is connected, and no pipe is kept of
-    /// a sender that is gone.
+    /// Whether the pipe of that rank is from this sender, which is connected, and no pipe is kept
+    /// of a sender that is gone.
     #[inline(always)]
     pub fn is_from(&self, rank: usize, sender: u64) -> bool
         ensures { result ≡ is_from rank sender self.now }

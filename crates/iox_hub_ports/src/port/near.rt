@@ -52,6 +52,7 @@ impl Port {
     /// The same, where there may be senders that are gone. A call of its own, so that the other is
     /// short.
     #[inline(never)]
+    #[cold]
     fn on_pipe_far<S: PipeStep>(&mut self, sender: u64, step: &S) -> S::Answer
         ensures told { result ≡ on_pipe_from (S.told step.now) (S.none step.now) self.old sender }
         ensures changed { self.new ≡ with_pipe_of (S.changed step.now) self.old sender }
@@ -78,6 +79,7 @@ impl Port {
     /// The same, where there may be senders that are gone. A call of its own, so that the other is
     /// short.
     #[inline(never)]
+    #[cold]
     fn state_far(&self, sender: u64, lane: u64) -> RequestState
         ensures { result ≡ state_from self.now sender lane }
     {
@@ -106,11 +108,33 @@ impl Port {
         if self.keeps_none() {
             return self.incoming.get_next_at(sender, hint);
         }
-        self.get_next_far(sender)
+        self.get_next_other(sender)
     }
 
-    /// The same, where there may be senders that are gone.
+    /// The same, where there may be senders that are gone. What the call tells is put together
+    /// anew, so that it stays in registers where it is not called.
+    #[inline(always)]
+    fn get_next_other(&mut self, sender: u64) -> Option<Next>
+        ensures lowest { option_map (λ n. n.lane) result
+            ≡ lane_to_get_on (pipes_of self.old) sender }
+        ensures oldest { IfSome result (λ n.
+            on_lane_from (λ l. slice_get l.returned 0) None self.old sender n.lane
+            ≡ Some n.place) }
+        ensures got_back { IfSome result (λ n.
+            self.new ≡ with_lane_from without_returned self.old sender n.lane) }
+        ensures more { IfSome result (λ n.
+            n.more ≡ is_some (lane_to_get_on (pipes_of self.new) sender)) }
+        ensures number { self.new.number ≡ self.old.number }
+        ensures role { self.new.role ≡ self.old.role }
+        ensures unchanged { result ≡ None → self.new ≡ self.old }
+    {
+        let Next { lane, place, more } = self.get_next_far(sender)?;
+        Some(Next { lane, place, more })
+    }
+
+    /// The same. A call of its own, so that the others are short.
     #[inline(never)]
+    #[cold]
     fn get_next_far(&mut self, sender: u64) -> Option<Next>
         ensures lowest { option_map (λ n. n.lane) result
             ≡ lane_to_get_on (pipes_of self.old) sender }

@@ -10,9 +10,9 @@ use iox_tables::incoming::Visits;
 use iox_tables::wanted::{Labels, Wanted};
 
 impl Port {
-    /// Visits the lane of that number of each sender, where no pipe is kept of one that is gone, and
-    /// nothing waits, or the first message that waits is wanted, and the port may have one more.
-    /// Else it is another way: `None` says that nothing changed.
+    /// Visits the lane of that number of each sender, where no pipe is kept of one that is gone,
+    /// and nothing waits, or the first message that waits is wanted, and the port may have one
+    /// more. Else it is another way: `None` says that nothing changed.
     #[inline(always)]
     pub fn visit_usual<L: Labels>(
         &mut self,

@@ -39,6 +39,7 @@ impl Ports {
 
     /// The same, where it is not at the hint. A call of its own, so that the others are short.
     #[inline(never)]
+    #[cold]
     fn place_far(&self, number: u64) -> Option<usize>
         ensures first { result ≡ place_in self.now.ports number }
         ensures within { IfSome result (λ place. place < length self.now.ports) }

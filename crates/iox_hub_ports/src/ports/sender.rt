@@ -80,27 +80,8 @@ impl Ports {
     // ---- for each port in its place
 
     /// Gets back the oldest message of those that the port in that place gave back on the lowest
-    /// lane from the sender on which something is left to get back, if there is one.
-    #[inline(always)]
-    pub fn get_next_at(&mut self, at: usize, sender: u64) -> Option<Next>
-        ensures lowest { option_map (λ n. n.lane) result
-            ≡ lane_to_get_at self.old.ports at sender }
-        ensures oldest { IfSome result (λ n.
-            on_way_at (λ l. slice_get l.returned 0) None self.old.ports at sender n.lane
-            ≡ Some n.place) }
-        ensures got_back { IfSome result (λ n. self.new ≡ with_ports self.old
-            (with_lane_at without_returned self.old.ports at sender n.lane)) }
-        ensures more { IfSome result (λ n.
-            n.more ≡ is_some (lane_to_get_at self.new.ports at sender)) }
-        ensures unchanged { result ≡ None → self.new ≡ self.old }
-    {
-        if at < self.ports.len() {
-            return self.ports[at].get_next(sender);
-        }
-        None
-    }
-
-    /// The same, where a port is in that place. The pipe is looked for at the hint first.
+    /// lane from the sender on which something is left to get back, if there is one. The pipe is
+    /// looked for at the hint first.
     #[inline(always)]
     pub fn get_next_in(&mut self, at: usize, sender: u64, hint: usize) -> Option<Next>
         requires there { at < length self.old.ports }

@@ -13,9 +13,9 @@ use iox_tables::incoming::Visits;
 use iox_tables::wanted::{Labels, Wanted};
 
 impl Ports {
-    /// Visits that lane of each sender to the port of that number, where the port is at the hint, no
-    /// pipe is kept of a sender that is gone, and nothing waits, or the first message that waits is
-    /// wanted, and the port may have one more. Else it is another way: `None` says that nothing
+    /// Visits that lane of each sender to the port of that number, where the port is at the hint,
+    /// no pipe is kept of a sender that is gone, and nothing waits, or the first message that waits
+    /// is wanted, and the port may have one more. Else it is another way: `None` says that nothing
     /// changed.
     #[inline(always)]
     pub fn visit_usual<L: Labels>(

@@ -23,7 +23,8 @@ impl Incoming {
     #[inline(always)]
     pub fn on_known_pipe<S: PipeStep>(&mut self, _sender: u64, rank: usize, step: &S) -> S::Answer
         requires once { IsFirstAt self.old.pipes rank }
-        requires there { option_map_or (λ p. p.sender == _sender) (slice_get self.old.pipes rank) false ≡ true }
+        requires there { option_map_or (λ p. p.sender == _sender)
+            (slice_get self.old.pipes rank) false ≡ true }
         ensures told { result ≡ on_pipe_by (S.told step.now) (S.none step.now) self.old _sender }
         ensures changed { self.new ≡ with_pipe_by (S.changed step.now) self.old _sender }
     {

@@ -1,4 +1,4 @@
-use Rattle.iox_control_request_copies.proofs.Loaned.{calls_so, named_so, returned_so, sent_so, waits_so}
+use Rattle.iox_control_request_copies.proofs.LoanLemmas.{calls_so, named_so, returned_so, sent_so, waits_so}
 use Rattle.iox_control_request_copies.proofs.sending.lend_and_send.Goals as goal
 
 pub send_to_all-servers-requires-clause-calls : goal.send_to_all-servers-requires-clause-calls

@@ -4,53 +4,58 @@ use Rattle.iox_model.specs.declared.kind.Role.TheVariants as roles
 use Rattle.iox_hub.specs.Hubs.{HubState}
 use Rattle.iox_hub.specs.Reads.{message_in}
 use Rattle.iox_hub.proofs.KeepingLoans.{write_keeps}
-use Rattle.iox_hub.proofs.LendingWriteCalls.{call_equal, call_hub, call_left, call_of, call_whole, call_within, call_written, is_done, write_call}
-use Rattle.iox_hub.proofs.LendingWrites.{is_loan_there, loan_named}
+use Rattle.iox_hub.proofs.LendingWriteCalls.{call_equal, call_hub, call_left, call_of, call_whole, call_within, call_written, write_call}
+use Rattle.iox_hub.proofs.LendingWrites.{is_loan_there, kind_fits, length_fits, loan_named}
 use Rattle.iox_hub.proofs.hub.Hub.write_one_request.Goals as goal
 
-pub write_loan-requires-clause-loan : goal.write_loan-requires-clause-loan
-write_loan-requires-clause-loan g c =
+pub write_one-place-requires-clause-loan : goal.write_one-place-requires-clause-loan
+write_one-place-requires-clause-loan g c =
     is_loan_there roles.Client c.self.invariant c.args.node c.args.number
     (loan_named roles.Client c.self.invariant c.args.self.now c.self.view_is c.args.node c.args.number c.requires.has)
 
-pub unreachable-requires : goal.unreachable-requires
-unreachable-requires g c =
-    is_done c.write_loan.result c.in_default.not-Done
-    (write_call roles.Client c.self.invariant c.args.self.now c.self.view_is c.args.node c.args.number c.requires.has c.write_loan.ensures)
-    (subst (λ (d : HubState). (message_in d c.args.node c.args.number).elements ≡ 1) (sym c.self.view_is) c.requires.one)
+pub write_one-place-requires-clause-fits : goal.write_one-place-requires-clause-fits
+write_one-place-requires-clause-fits g c =
+    length_fits roles.Client c.self.invariant c.args.node c.args.number
+    (loan_named roles.Client c.self.invariant c.args.self.now c.self.view_is c.args.node c.args.number c.requires.has)
+    1 (subst (λ (d : HubState). (message_in d c.args.node c.args.number).elements ≡ 1) (sym c.self.view_is) c.requires.one)
+
+pub write_one-place-requires-clause-kind : goal.write_one-place-requires-clause-kind
+write_one-place-requires-clause-kind g c =
+    kind_fits roles.Client c.self.invariant c.args.node c.args.number
+    (loan_named roles.Client c.self.invariant c.args.self.now c.self.view_is c.args.node c.args.number c.requires.has)
 
 pub write_one_request_in-requires-clause-requests : goal.write_one_request_in-requires-clause-requests
 write_one_request_in-requires-clause-requests g c =
-    call_of (write_call roles.Client c.self.invariant c.args.self.now c.self.view_is c.args.node c.args.number c.requires.has c.in-Done.ensures)
+    call_of (write_call roles.Client c.self.invariant c.args.self.now c.self.view_is c.args.node c.args.number c.requires.has c.write_one-place.ensures)
 
 pub write_one_request_in-requires-clause-there : goal.write_one_request_in-requires-clause-there
 write_one_request_in-requires-clause-there g c =
-    call_within (write_call roles.Client c.self.invariant c.args.self.now c.self.view_is c.args.node c.args.number c.requires.has c.in-Done.ensures)
+    call_within (write_call roles.Client c.self.invariant c.args.self.now c.self.view_is c.args.node c.args.number c.requires.has c.write_one-place.ensures)
 
 pub write_one_request_in-requires-clause-one : goal.write_one_request_in-requires-clause-one
 write_one_request_in-requires-clause-one g c =
-    sym (call_equal (write_call roles.Client c.self.invariant c.args.self.now c.self.view_is c.args.node c.args.number c.requires.has c.in-Done.ensures))
+    sym (call_equal (write_call roles.Client c.self.invariant c.args.self.now c.self.view_is c.args.node c.args.number c.requires.has c.write_one-place.ensures))
 
 pub invariant_of-self : goal.invariant_of-self
 invariant_of-self g c =
-    call_hub (write_call roles.Client c.self.invariant c.args.self.now c.self.view_is c.args.node c.args.number c.requires.has c.in-Done.ensures) (flat_map g.Q.Element.Words.words (c.args.value ∷ [])) _ c.write_one_request_in.ensures
+    call_hub (write_call roles.Client c.self.invariant c.args.self.now c.self.view_is c.args.node c.args.number c.requires.has c.write_one-place.ensures) (flat_map g.Q.Element.Words.words (c.args.value ∷ [])) _ c.write_one_request_in.ensures
 
 pub returns-clause-left : goal.returns-clause-left
 returns-clause-left g c =
-    let call = write_call roles.Client c.self.invariant c.args.self.now c.self.view_is c.args.node c.args.number c.requires.has c.in-Done.ensures in
+    let call = write_call roles.Client c.self.invariant c.args.self.now c.self.view_is c.args.node c.args.number c.requires.has c.write_one-place.ensures in
     rw (← c.self.view_is) (call_left call (flat_map g.Q.Element.Words.words (c.args.value ∷ [])) _ c.write_one_request_in.ensures)
 
 pub returns-clause-whole : goal.returns-clause-whole
 returns-clause-whole g c =
-    let call = write_call roles.Client c.self.invariant c.args.self.now c.self.view_is c.args.node c.args.number c.requires.has c.in-Done.ensures in
+    let call = write_call roles.Client c.self.invariant c.args.self.now c.self.view_is c.args.node c.args.number c.requires.has c.write_one-place.ensures in
     rw (← c.self.view_is) (call_whole call (flat_map g.Q.Element.Words.words (c.args.value ∷ [])) _ c.write_one_request_in.ensures)
 
 pub returns-clause-has : goal.returns-clause-has
 returns-clause-has g c =
-    let call = write_call roles.Client c.self.invariant c.args.self.now c.self.view_is c.args.node c.args.number c.requires.has c.in-Done.ensures in
+    let call = write_call roles.Client c.self.invariant c.args.self.now c.self.view_is c.args.node c.args.number c.requires.has c.write_one-place.ensures in
     rw (← c.self.view_is) (call_written call (flat_map g.Q.Element.Words.words (c.args.value ∷ [])) _ c.write_one_request_in.ensures)
 
 pub returns-clause-keeps : goal.returns-clause-keeps
 returns-clause-keeps g c =
-    let call = write_call roles.Client c.self.invariant c.args.self.now c.self.view_is c.args.node c.args.number c.requires.has c.in-Done.ensures in
+    let call = write_call roles.Client c.self.invariant c.args.self.now c.self.view_is c.args.node c.args.number c.requires.has c.write_one-place.ensures in
     rw (← c.self.view_is) (write_keeps call _ _ c.write_one_request_in.ensures)
