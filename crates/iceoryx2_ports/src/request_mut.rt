@@ -198,11 +198,11 @@ impl<E: Words, QH: Words, P: Payload, PH: Words> RequestMutUninit<One<E>, QH, P,
             of,
         } = self;
         request_has_one(hub, node, number);
-        hub.write_one_request(node, number, hint, value);
+        let filled = hub.write_one_request(node, number, hint, value);
         RequestMut {
-            node,
-            number,
-            hint,
+            node: filled.node,
+            number: filled.number,
+            hint: filled.hint,
             of,
         }
     }

@@ -198,11 +198,11 @@ impl<Q: Payload, QH: Words, E: Words, PH: Words> ResponseMutUninit<Q, QH, One<E>
             of,
         } = self;
         response_has_one(hub, node, number);
-        hub.write_one_response(node, number, hint, value);
+        let filled = hub.write_one_response(node, number, hint, value);
         ResponseMut {
-            node,
-            number,
-            hint,
+            node: filled.node,
+            number: filled.number,
+            hint: filled.hint,
             of,
         }
     }

@@ -35,9 +35,8 @@ use Rattle.iox_slots.specs.Pools.{with_slot}
 use Rattle.iox_slots.specs.Slots.{let_go}
 use Rattle.iox_control.specs.Controls.{ControlState, IsControl, with_tables}
 use Rattle.iox_control_lending.specs.declared.asked.Asked.{Asked}
-use Rattle.iox_control_copies.proofs.WrittenOnce.{written_once}
 use Rattle.iox_control_responses.proofs.Lanes.{IsReady, delivers_is}
-use Rattle.iox_control_copies.specs.Answers.{IsPushed, way_of, with_copy_pushed, with_copy_sent}
+use Rattle.iox_control_copies.specs.Answers.{IsPushed, way_of, with_copy_sent}
 use Rattle.iox_control_copies.proofs.Kept.{keeps}
 
 -- what is pushed out has one holder less
@@ -125,9 +124,7 @@ module _ (c : ControlState) (order : IsControl c) (few : c.tables.calls < 2 ^ 56
     pub pushed_is : (new : ControlState) → IsPushed c y a slot new → new ≡ with_tables c (record (with_copy_sent t y k slot) { pools = pools })
     pushed_is new is =
         is.left
-        ∙ ap (λ ps. with_copy_pushed (with_tables c (record t { pools = ps })) y a slot) is.acquired.changed
-        ∙ ap (λ ps. code ps (with_lane_on (λ m. pushed m slot) lent w) (option_map_or pushed_out (lane_on lent w) None))
-        (written_once y.port.loans y.lane y.request k slot t.pools y.port.pool is.acquired.there is.acquired.free)
+        ∙ ap (λ ps. code ps (with_lane_on (λ m. pushed m slot) lent w) (option_map_or pushed_out (lane_on lent w) None)) is.takes.changed
         ∙ ap₂ (λ (ports : List PortState) (o : Option ℕ). code u.pools ports o)
         (way_agree (λ m. pushed m slot) (delivers overflow slot) lent w
         (λ m e. subst (λ (x : LaneState). pushed x slot ≡ delivers overflow slot x) (same_Some l m (sym lane_now ∙ e)) (delivers_is overflow l slot ready either))

@@ -2,7 +2,7 @@ pub mod Pushed
 pub mod Kept
 pub mod Free
 pub mod Lanes
-pub mod WrittenOnce
+pub mod Seated
 pub mod InLine
 pub mod Outcomes
 pub mod Named
@@ -11,6 +11,7 @@ pub mod Machine
 pub mod Whole
 -- of the send of a response, what crates above may cite
 pub use Rattle.iox_control_responses.proofs.Strategies
+pub use Rattle.iox_control_responses.proofs.Places
 pub use Rattle.iox_control_lending.proofs.LaneLemmas
 pub use Rattle.iox_control_lending.proofs.LendLemmas
 pub use Rattle.iox_control_lending.proofs.PortLemmas

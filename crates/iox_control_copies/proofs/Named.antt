@@ -11,7 +11,7 @@ use Rattle.iox_model.specs.Messages.{response_way}
 use Rattle.iox_tables.specs.HubStates.Tables.{HandleState, HubTables, PortState, labels_of, port_in}
 use Rattle.iox_tables.specs.HubStates.Wirings.{handle_in, numbers_of_role}
 use Rattle.iox_hub_ports.specs.declared.info.PortInfo.{PortInfo}
-use Rattle.iox_hub_ports.specs.Ports.{info_in, info_of}
+use Rattle.iox_hub_ports.specs.Ports.{info_in, info_of, place_in}
 use Rattle.iox_tables.specs.HubBooks.Hubs.{AreInOrder}
 use Rattle.iox_tables.proofs.HubLending.Owning.{number_is}
 use Rattle.iox_tables.specs.HubLoans.CopySends.{is_lender_awaited}
@@ -32,6 +32,10 @@ module _ (t : HubTables) (order : AreInOrder t) (e : Entry) (info : PortInfo) (p
       told
       ∙ ap₂ (λ (l : Label) (n : ℕ). has_number e.client (numbers_of_role Client t.ports) && names_request false l.request (state_of t (response_way e.client l.lane n))) (sym is)
       (sym (number_is t order e.port port there) ∙ ap (λ (i : PortInfo). i.number) (sym (info_is t e.port info port order there found) ∙ of))
+
+  pub place_for : (at : ℕ) → place_in t.ports e.port ≡ Some at → place_in t.ports info.number ≡ Some at
+  place_for at first =
+      ap (place_in t.ports) (ap (λ (i : PortInfo). i.number) (info_is t e.port info port order there found) ∙ number_is t order e.port port there) ∙ first
 
   pub role_for : port.role ≡ Server → info.role ≡ Server
   role_for server = ap (λ (i : PortInfo). i.role) (info_is t e.port info port order there found) ∙ server

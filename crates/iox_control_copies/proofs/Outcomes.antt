@@ -168,7 +168,7 @@ module _ (c d : ControlState) (l : Lending) (of : IsPortOf c.tables l) (order : 
           may : MayLend d.tables y place.slot
           may =
               may_lend d.tables ordered.order y there_now role place.slot
-              (slot_within d.tables y.port.number place.slot y.port ordered.order there_now pushed.acquired.there) pushed.acquired.free
+              (slot_within d.tables y.port.number place.slot y.port ordered.order there_now pushed.takes.there) pushed.takes.free
 
           its : new ≡ with_tables d (record (with_copy_sent d.tables y a.elements place.slot) { pools = pools d ordered few_now y a place.slot may role (emptied_lane m) at_now ready either_now })
           its = pushed_is d ordered few_now y a place.slot may role (emptied_lane m) at_now ready either_now new pushed

@@ -1,4 +1,4 @@
--- A copy that is written, counted and put last in line, one change after another.
+-- A copy whose loan is counted and which is put last in line, one change after another.
 use Rattle.std.specs.Prelude.{◌≡◌, ℕ, [], ◌∷◌}
 use Rattle.std.proofs.Common.{ap, ◌∙◌}
 use Rattle.iox_model.specs.declared.way.Way.{Way}
@@ -7,21 +7,15 @@ use Rattle.iox_tables.specs.HubStates.Changes.{with_lanes}
 use Rattle.iox_tables.specs.HubStates.Ends.{with_call, with_loan}
 use Rattle.iox_hub_ports.specs.declared.info.PortInfo.{PortInfo}
 use Rattle.iox_hub_ports.specs.Ports.{info_of, pushed}
-use Rattle.iox_slots.specs.Pools.{with_slot}
-use Rattle.iox_slots.specs.Slots.{written}
-use Rattle.iox_control.specs.Controls.{ControlState, with_pools, with_tables}
-use Rattle.iox_control_lending.specs.declared.asked.Asked.{Asked}
+use Rattle.iox_control.specs.Controls.{ControlState, with_tables}
 use Rattle.iox_control_lending.specs.declared.asked.Lending.{Lending}
 use Rattle.iox_control_lending.specs.Lends.{lender_of}
 use Rattle.iox_control_responses.specs.Responses.{pools_after_push}
 use Rattle.iox_control_copies.specs.Answers.{with_copy_pushed}
 
-module _ (l : Lending) (a : Asked) (slot : ℕ) where
+module _ (l : Lending) (slot : ℕ) where
   abbrev way : PortInfo → Way
   way i = record { sender = i.number; receiver = l.client; lane = l.lane }
-
-  abbrev write : PortInfo → ControlState → ControlState
-  write i c = with_pools c (with_slot (written i.loans l.lane l.request a.elements) c.tables.pools i.pool slot)
 
   abbrev lend : PortInfo → ControlState → ControlState
   lend i c = with_tables c (with_loan c.tables i.number)
@@ -32,12 +26,11 @@ module _ (l : Lending) (a : Asked) (slot : ℕ) where
   abbrev call : ControlState → ControlState
   call c = with_tables c (with_call c.tables)
 
-  pub pushed_so : (c c1 c2 c3 c4 c5 : ControlState) → c1 ≡ write l.port c → c2 ≡ lend l.port c1 → c3 ≡ push l.port c2 → c4 ≡ call c3 → c5 ≡ call c4
-      → (p : PortState) → l.port ≡ info_of p → c5 ≡ with_copy_pushed c (lender_of p l) a slot
-  pushed_so c c1 c2 c3 c4 c5 e1 e2 e3 e4 e5 p is =
-      e5
-      ∙ ap call e4
-      ∙ ap (λ d. call (call d)) e3
-      ∙ ap (λ d. call (call (push l.port d))) e2
-      ∙ ap (λ d. call (call (push l.port (lend l.port d)))) e1
-      ∙ ap (λ i. call (call (push i (lend i (write i c))))) is
+  pub pushed_so : (c c1 c2 c3 c4 : ControlState) → c1 ≡ lend l.port c → c2 ≡ push l.port c1 → c3 ≡ call c2 → c4 ≡ call c3
+      → (p : PortState) → l.port ≡ info_of p → c4 ≡ with_copy_pushed c (lender_of p l) slot
+  pushed_so c c1 c2 c3 c4 e1 e2 e3 e4 p is =
+      e4
+      ∙ ap call e3
+      ∙ ap (λ d. call (call d)) e2
+      ∙ ap (λ d. call (call (push l.port d))) e1
+      ∙ ap (λ i. call (call (push i (lend i c)))) is

@@ -16,11 +16,10 @@ use Rattle.iox_hub_delivering.specs.Deliveries.{HasHandedOver}
 use Rattle.iox_tables.specs.HubLending.Lending.{MayLend}
 use Rattle.iox_tables.specs.HubLoans.CopySends.{is_lender_awaited}
 use Rattle.iox_tables.specs.HubLoans.Lenders.{Lender}
-use Rattle.iox_tables.specs.HubLoans.Loans.{loaned_handle, with_loaned_slot}
+use Rattle.iox_tables.specs.HubLoans.Loans.{loaned_handle, loaned_slot, with_loaned_slot}
 use Rattle.iox_tables.specs.HubLoans.Slots.{with_contents}
 use Rattle.iox_hub_ports.specs.Ports.{on_way, pushed}
-use Rattle.iox_slots.specs.Pools.{Acquires, with_slot}
-use Rattle.iox_slots.specs.Slots.{written}
+use Rattle.iox_slots.specs.Pools.{Takes}
 use Rattle.iox_control.specs.Controls.{ControlState, with_tables}
 use Rattle.iox_control_lending.specs.declared.asked.Asked.{Asked}
 use Rattle.iox_control_lending.specs.declared.asked.Place.{Place}
@@ -128,21 +127,11 @@ CopyComesTo c y a fails OutOfMemory new = FindsDry c y a new
 
 -- ---- only for proofs of this crate
 
--- the response is written to that slot, whoever has it
-abbrev pub pools_written : ControlState → Lender → Asked → ℕ → List (Option PoolState)
-pools_written c y a slot =
-    with_slot (written y.port.loans y.lane y.request a.elements) c.tables.pools y.port.pool slot
-
--- it is written, its loan is counted
-abbrev pub tables_written : ControlState → Lender → Asked → ℕ → HubTables
-tables_written c y a slot =
-    with_loan (record (c.tables) { pools = pools_written c y a slot }) y.port.number
-
--- then it is put last in line, what is pushed out has one holder less, and its call and its send are
--- counted
-abbrev pub with_copy_pushed : ControlState → Lender → Asked → ℕ → ControlState
-with_copy_pushed c y a slot =
-    let t : HubTables = tables_written c y a slot in
+-- The response is in that slot, and its loan is counted. It is put last in line, what is pushed out
+-- has one holder less, and its call and its send are counted.
+abbrev pub with_copy_pushed : ControlState → Lender → ℕ → ControlState
+with_copy_pushed c y slot =
+    let t : HubTables = with_loan c.tables y.port.number in
     with_tables c
     (with_call (with_call (record (with_lanes (λ l. pushed l slot) t (way_of y ∷ [])) {
       pools = pools_after_push t (way_of y) y.port.pool;
@@ -152,9 +141,9 @@ with_copy_pushed c y a slot =
 pub record IsPushed (c : ControlState) (y : Lender) (a : Asked) (slot : ℕ) (new : ControlState)
     : Type 0 where
   pub taken : List (Option PoolState)
-  pub acquired : Acquires c.tables.pools y.port.pool slot taken
+  pub takes : Takes c.tables.pools y.port.pool slot (loaned_slot y a.elements) taken
   pub left :
-      new ≡ with_copy_pushed (with_tables c (record (c.tables) { pools = taken })) y a slot
+      new ≡ with_copy_pushed (with_tables c (record (c.tables) { pools = taken })) y slot
 
 -- what a copy comes to, and leaves, where some slot of the lender's pool is free: whether its client
 -- waits for the response, whether that may not wait there, and whether its send fails then, is told

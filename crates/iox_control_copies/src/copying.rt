@@ -17,7 +17,7 @@ use crate::answered::Answered;
 use crate::answering::answer;
 use iox_control::Control;
 use iox_control_lending::{Asked, Lending};
-use iox_control_responses::is_awaited;
+use iox_control_responses::find_awaiting;
 
 /// Lends a response to that active request, whose handle is looked for at the hint first, and sends
 /// it to its client at once. All that clients gave back to the server is got back first. Whether
@@ -47,19 +47,16 @@ pub fn copy_response(
         (reply_of_copy result)
         (state_shown (given_after_copy x q result) control.new.tables) }
 {
-    let Some(entry) = control.entry(node, number, hint) else {
-        unreachable!();
-    };
-    let Some(port) = control.ports().find(entry.port) else {
-        unreachable!();
-    };
-    let label = control.label(entry.pool, entry.slot);
+    let entry = control.known(node, number, hint);
+    let at = control.ports().known_place(entry.port, entry.at as usize);
+    let port = control.ports().known_at(at);
+    let label = control.label_of(entry.pool, entry.slot);
     let lender = Lending {
         port,
         client: entry.client,
         lane: label.lane,
         request: label.request,
     };
-    let awaited = is_awaited(control, entry);
-    answer(control, lender, asked, awaited, fails)
+    let to = find_awaiting(control, entry, label);
+    answer(control, &lender, at, asked, to, fails)
 }

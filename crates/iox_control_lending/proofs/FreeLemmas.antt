@@ -19,6 +19,7 @@ use Rattle.iox_control_lending.specs.declared.asked.Asked.{Asked}
 use Rattle.iox_control_lending.specs.declared.asked.Lending.{Lending}
 use Rattle.iox_control_lending.specs.declared.asked.Loaned.{Loaned}
 use Rattle.iox_control_lending.specs.Lends.{IsPortOf, IsTaken, LoanIsMade, lender_of, with_handed}
+use Rattle.iox_control_lending.specs.Retakes.{IsTakenFor}
 use Rattle.iox_control_lending.proofs.LaneLemmas.{has_lane}
 use Rattle.iox_control_lending.proofs.MadeLemmas.{slot_within}
 
@@ -41,50 +42,49 @@ none_free t n p order there none = step (free_count t.pools p.pool) refl
         } in
         absurd (has_lane t n k.0 p order is (ap (λ m. find (λ k. not (is_lane_taken t m k)) (range_with_len 0 p.size)) (number_is t order n p there) ∙ none))
 
-module _ (t : HubTables) (l : Lending) (of : IsPortOf t l) (elements slot : ℕ) (pools : List (Option PoolState))
-    (taken : (p : PortState) → l.port ≡ info_of p → IsTaken t (lender_of p l) elements slot pools) where
-  -- the loan has the slot
-  pub has_taken : IsTaken t (lender_of of.port l) elements slot pools
-  has_taken = taken of.port of.info
-
-  pub is_free_slot : AreInOrder t → IsFreeSlot t l.port.number of.port t.pools slot
-  is_free_slot order = record {
-    there = of.there;
-    within = slot_within t l.port.number slot of.port order of.there has_taken.takes.there;
-    free = has_taken.takes.free;
-  }
+-- a slot that the loan has was free
+pub is_free_slot : (t : HubTables) (l : Lending) (of : IsPortOf t l) (elements slot : ℕ) (pools : List (Option PoolState))
+    → IsTaken t (lender_of of.port l) elements slot pools → AreInOrder t → IsFreeSlot t l.port.number of.port t.pools slot
+is_free_slot t l of elements slot pools has order = record {
+  there = of.there;
+  within = slot_within t l.port.number slot of.port order of.there has.takes.there;
+  free = has.takes.free;
+}
 
 -- what is taken and handed out is a loan
-module _ (c d new : ControlState) (l : Lending) (of : IsPortOf c.tables l) (order : AreInOrder c.tables) (a : Asked) (slot number : ℕ)
-    (taken : (p : PortState) → l.port ≡ info_of p → IsTaken c.tables (lender_of p l) a.elements slot d.tables.pools) (left : d ≡ with_pools c d.tables.pools) where
+module _ (c d new : ControlState) (l : Lending) (a : Asked) (slot number : ℕ) (its_slot : IsTakenFor c l a.elements slot d) where
+  -- the port of the lender
+  abbrev p : PortState
+  p = its_slot.port.port
+
   -- who lends
   abbrev y : Lender
-  y = lender_of of.port l
+  y = lender_of p l
 
   -- what the loan answers
   abbrev loan : Loaned
   loan = record { number = number; pool = l.port.pool; slot = slot }
 
+  pub was_free : IsFreeSlot c.tables l.port.number p c.tables.pools slot
+  was_free = is_free_slot c.tables l its_slot.port a.elements slot d.tables.pools its_slot.taken its_slot.order.order
+
   its : number ≡ d.tables.next_number → new ≡ with_handed d y a.uninit slot → LoanIsMade c y a loan new
-  its numbered out =
-      let free : IsFreeSlot c.tables l.port.number of.port c.tables.pools slot = is_free_slot c.tables l of a.elements slot d.tables.pools taken order in
-      let has : IsTaken c.tables y a.elements slot d.tables.pools = has_taken c.tables l of a.elements slot d.tables.pools taken in
-      record {
-        number = numbered ∙ ap (λ (e : ControlState). e.tables.next_number) left;
-        pool = ap (λ (i : PortInfo). i.pool) of.info;
-        within = free.within;
-        free = free.free;
-        lane = has.lane;
-        chosen = has.chosen;
-        left =
-            out
-            ∙ ap (λ (e : ControlState). with_handed e y a.uninit slot) left
-            ∙ ap (λ pools. with_handed (with_pools c pools) y a.uninit slot) has.takes.changed;
-      }
+  its numbered out = record {
+    number = numbered ∙ ap (λ (e : ControlState). e.tables.next_number) its_slot.left;
+    pool = ap (λ (i : PortInfo). i.pool) its_slot.port.info;
+    within = was_free.within;
+    free = was_free.free;
+    lane = its_slot.taken.lane;
+    chosen = its_slot.taken.chosen;
+    left =
+        out
+        ∙ ap (λ (e : ControlState). with_handed e y a.uninit slot) its_slot.left
+        ∙ ap (λ pools. with_handed (with_pools c pools) y a.uninit slot) its_slot.taken.takes.changed;
+  }
 
   pub is_made : number ≡ d.tables.next_number
-      → ((p : PortState) → l.port ≡ info_of p → new ≡ with_handed d (lender_of p l) a.uninit slot)
-      → (p : PortState) → port_in c.tables.ports l.port.number ≡ Some p → LoanIsMade c (lender_of p l) a loan new
-  is_made numbered out p at =
-      subst (λ q. LoanIsMade c (lender_of q l) a loan new) (same_Some of.port p (sym of.there ∙ at))
-      (its numbered (out of.port of.info))
+      → ((q : PortState) → l.port ≡ info_of q → new ≡ with_handed d (lender_of q l) a.uninit slot)
+      → (q : PortState) → port_in c.tables.ports l.port.number ≡ Some q → LoanIsMade c (lender_of q l) a loan new
+  is_made numbered out q at =
+      subst (λ r. LoanIsMade c (lender_of r l) a loan new) (same_Some p q (sym its_slot.port.there ∙ at))
+      (its numbered (out p its_slot.port.info))

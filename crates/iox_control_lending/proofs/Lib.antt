@@ -9,6 +9,8 @@ pub mod FreeLemmas
 pub mod WholeLemmas
 pub mod LenderLemmas
 pub mod LendLemmas
+mod WrittenAnew
+pub mod RetakeLemmas
 pub mod PortLemmas
 pub mod FillLemmas
 pub mod GotBack

@@ -12,10 +12,10 @@ ghost use Rattle.iox_control.specs.Entries.{handle_state};
 ghost use Rattle.iox_control_lending.specs.Lends.{HasNextId, IsAskedOf, IsPortOf, Lends, given_after, lender_of, reply_of_loan};
 
 use crate::asked::{Asked, Lending, Lent};
-use crate::lend::lend_free;
+use crate::lend::{hand_taken, lend_free};
 use crate::refusals::loan_refusal;
+use crate::retaking::retake;
 use iox_control::Control;
-use iox_control_retrieving::retrieve_all_in;
 use iox_handles::Entry;
 use iox_hub_ports::info::PortInfo;
 use iox_model::kind::Role;
@@ -71,7 +71,9 @@ fn lend(control: &mut Control, lender: &Lending, hint: usize, asked: Asked) -> L
         return Lent::Refused(refusal);
     }
     let at = control.ports().known_place(lender.port.number, hint);
-    retrieve_all_in(control, &lender.port, at);
+    if let Some(slot) = retake(control, lender, at, asked.elements) {
+        return Lent::Handle(hand_taken(control, lender, at, asked, slot));
+    }
     let known = again(control, lender, at);
     match lend_free(control, &known, at, asked) {
         Some(loaned) => Lent::Handle(loaned),

@@ -7,9 +7,10 @@ ghost use Rattle.iox_tables.specs.HubStates.Tables.{PortState, port_in, slots_of
 ghost use Rattle.iox_hub_ports.specs.Ports.{info_of, place_in};
 ghost use Rattle.iox_tables.specs.HubLoans.Loans.{loaned_handle};
 ghost use Rattle.iox_tables.specs.HubLending.Keeping.{has_holder};
-ghost use Rattle.iox_control.specs.Controls.{IsControl};
+ghost use Rattle.iox_control.specs.Controls.{ControlState, IsControl};
 ghost use Rattle.iox_control.specs.Entries.{handle_state};
 ghost use Rattle.iox_control_lending.specs.Lends.{LoanIsMade, IsPortOf, lender_of, with_handed};
+ghost use Rattle.iox_control_lending.specs.Retakes.{IsTakenFor};
 
 use crate::asked::{Asked, Lending, Loaned};
 use crate::taking::take;
@@ -79,6 +80,31 @@ fn hand_out(control: &mut Control, lender: &Lending, at: usize, uninit: bool, sl
     entry.number
 }
 
+/// The loan in that slot, which was taken for it, is handed out. Its port is in that place.
+#[inline(always)]
+pub(crate) fn hand_taken(
+    control: &mut Control,
+    lender: &Lending,
+    at: usize,
+    asked: Asked,
+    slot: u64,
+) -> Loaned
+    requires taken { (c : ControlState)
+        × IsTakenFor c lender.now asked.elements slot control.old }
+    requires there { place_in control.old.tables.ports lender.now.port.number ≡ Some at }
+    ensures { (c : ControlState)
+        → IsTakenFor c lender.now asked.elements slot control.old
+        → (p : PortState) → port_in c.tables.ports lender.now.port.number ≡ Some p
+        → LoanIsMade c (lender_of p lender.now) asked result control.new }
+{
+    let number = hand_out(control, lender, at, asked.uninit, slot);
+    Loaned {
+        number,
+        pool: lender.port.pool,
+        slot,
+    }
+}
+
 /// The loan of a port in that place is made in a slot that nobody has. It is `None` where there is
 /// none, and then nothing changes.
 #[inline(always)]
@@ -102,10 +128,5 @@ pub(crate) fn lend_free(
     let Some(slot) = take(control, lender, asked.elements) else {
         return None;
     };
-    let number = hand_out(control, lender, at, asked.uninit, slot);
-    Some(Loaned {
-        number,
-        pool: lender.port.pool,
-        slot,
-    })
+    Some(hand_taken(control, lender, at, asked, slot))
 }

@@ -9,6 +9,7 @@ mod lanes;
 mod lend;
 mod lowest;
 mod refusals;
+mod retaking;
 mod taking;
 pub mod uses;
 mod writes;
@@ -19,4 +20,4 @@ pub use counts::{pendings_of, requests_on_loan, responses_on_loan, responses_to}
 pub use foretelling::{request_may_be_made, response_may_be_made};
 pub use lanes::{free_lane, is_lane_taken};
 pub use refusals::loan_refusal;
-pub use writes::{fill, write, write_whole};
+pub use writes::{fill, write, write_known, write_whole};

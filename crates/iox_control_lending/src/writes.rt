@@ -1,5 +1,5 @@
 //! Writes, and loans that are filled by who holds them.
-ghost use Rattle.std.specs.Prelude.{◌≡◌, Some, false, true};
+ghost use Rattle.std.specs.Prelude.{◌≡◌, IfSome, None, Some, false, true};
 ghost use Rattle.iox_model.specs.declared.call.Call.TheVariants.{Write};
 ghost use Rattle.iox_model.specs.Commands.{Payload};
 ghost use Rattle.iox_model.specs.Handles.{filled_kind};
@@ -95,8 +95,8 @@ pub fn write(
 }
 
 /// Fills a loan with a payload of as many whole elements as its message has, where it is of that
-/// kind once it is filled, and tells where its words lie. Its handle is looked for at the hint
-/// first.
+/// kind once it is filled, if its handle is at the hint, and tells where its words lie. `None` says
+/// that nothing changed.
 #[inline(always)]
 pub fn write_whole(
     control: &mut Control,
@@ -105,37 +105,43 @@ pub fn write_whole(
     hint: usize,
     kind: Kind,
     elements: u64,
-) -> Place
+) -> Option<Place>
     requires loan { IsLoan control.old.tables node number }
     requires order { IsControl control.old }
     requires fits { (h : HandleState) → handle_in control.old.tables.handles node number ≡ Some h
         → fits_loan control.old.tables h (Some elements) ≡ true }
     requires kind { (h : HandleState) → handle_in control.old.tables.handles node number ≡ Some h
         → filled_kind h.kind ≡ kind }
-    ensures left { (h : HandleState) → handle_in control.old.tables.handles node number ≡ Some h
-        → Writes control.old h (Some elements) (Done result) control.new }
+    ensures left { IfSome result (λ place. (h : HandleState)
+        → handle_in control.old.tables.handles node number ≡ Some h
+        → Writes control.old h (Some elements) (Done place) control.new) }
     ensures order { IsControl control.new }
-    ensures whole { (x : Given) (h : HandleState) (p : Payload)
+    ensures whole { IfSome result (λ place. (x : Given) (h : HandleState) (p : Payload)
         → handle_in control.old.tables.handles node number ≡ Some h
         → suits false (Write number p) h.kind ≡ true → p.elements ≡ Some elements
         → IsWholeCall (state_shown x control.old.tables) node (Write number p)
-        (reply_of_write (Done result))
-        (state_shown (given_written x control.old.tables h p.words (Done result))
-        control.new.tables) }
+        (reply_of_write (Done place))
+        (state_shown (given_written x control.old.tables h p.words (Done place))
+        control.new.tables)) }
+    ensures unchanged { result ≡ None → control.new ≡ control.old }
 {
-    if let Some(entry) = control.fill_near(node, number, hint, kind, elements) {
-        return Place {
-            pool: entry.pool,
-            slot: entry.slot,
-        };
-    }
-    write_far(control, node, number, hint, elements)
+    let entry = control.fill_near(node, number, hint, kind, elements)?;
+    Some(Place {
+        pool: entry.pool,
+        slot: entry.slot,
+    })
 }
 
-/// The same, where its handle is not at the hint. A call of its own, so that the other is short.
+/// The same, wherever its handle stands. A call of its own, so that the other is short.
 #[inline(never)]
 #[cold]
-fn write_far(control: &mut Control, node: u64, number: u64, hint: usize, elements: u64) -> Place
+pub fn write_known(
+    control: &mut Control,
+    node: u64,
+    number: u64,
+    hint: usize,
+    elements: u64,
+) -> Place
     requires loan { IsLoan control.old.tables node number }
     requires order { IsControl control.old }
     requires fits { (h : HandleState) → handle_in control.old.tables.handles node number ≡ Some h

@@ -17,3 +17,4 @@ pub mod StillThere
 pub mod Upped
 pub mod HeldStays
 pub mod UsualEnds
+pub mod AsReleased

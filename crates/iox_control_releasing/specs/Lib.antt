@@ -3,3 +3,4 @@ pub mod Goings
 pub mod Named
 pub mod Endings
 pub mod Ends
+pub mod Releases

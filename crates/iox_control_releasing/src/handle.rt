@@ -1,13 +1,8 @@
 //! The release of a handle.
 ghost use Rattle.std.specs.Prelude.{◌≡◌, ◌<◌, IfSome, None, Some, false, is_some, option_map, true};
 ghost use Rattle.std.specs.Option.{option_and_then, option_map_or};
-ghost use Rattle.iox_tables.specs.HubStates.States.{Given, state_shown};
-ghost use Rattle.iox_tables.specs.HubStates.Tables.{PortState, port_in, slot_at};
+ghost use Rattle.iox_tables.specs.HubStates.Tables.{port_in, slot_at};
 ghost use Rattle.iox_tables.specs.HubStates.Wirings.{handle_in};
-ghost use Rattle.iox_tables.specs.HubMaking.Disconnections.{with_released};
-ghost use Rattle.iox_model.specs.WholeCalls.{IsWholeCall};
-ghost use Rattle.iox_model.specs.declared.call.Call.TheVariants.{Release};
-ghost use Rattle.iox_model.specs.declared.reply.Reply.TheVariants.{Done};
 ghost use Rattle.iox_slots.specs.Pools.{is_idle, with_slot};
 ghost use Rattle.iox_slots.specs.Slots.{let_go};
 ghost use Rattle.iox_hub_ports.specs.InPlace.{AllApart};
@@ -15,9 +10,10 @@ ghost use Rattle.iox_hub_ports.specs.Ports.{place_in};
 ghost use Rattle.iox_control.specs.Controls.{IsControl, with_pools, with_tables};
 ghost use Rattle.iox_control.specs.Entries.{handle_state};
 ghost use Rattle.iox_control.specs.Removals.{if_still};
-ghost use Rattle.iox_control_releasing.specs.Endings.{given_up_as, given_up_with, with_ended};
+ghost use Rattle.iox_control_releasing.specs.Endings.{given_up_as, given_up_with};
 ghost use Rattle.iox_control_releasing.specs.Ends.{HasEnded};
-ghost use Rattle.iox_control_releasing.specs.Goings.{ArePoolsThere, KeptPools, NoLeftPool, StaysTidy};
+ghost use Rattle.iox_control_releasing.specs.Releases.{Releases};
+ghost use Rattle.iox_control_releasing.specs.Goings.{StaysTidy};
 
 use crate::ending::{Ended, Ending};
 use crate::leaving::leave;
@@ -89,11 +85,8 @@ fn end_removed(control: &mut Control, entry: Entry) -> bool
 }
 
 /// Ends the node's handle of that number, if it is of that kind, or a loan that was filled
-/// meanwhile. It is looked for once, at the hint first. Its port stays. It is a call of its own, so
-/// that what is usual is short.
-#[inline(never)]
-#[cold]
-fn end_far(control: &mut Control, node: u64, number: u64, kind: Kind, hint: usize) -> Option<Ended>
+/// meanwhile. It is looked for once, at the hint first. Its port stays.
+fn end(control: &mut Control, node: u64, number: u64, kind: Kind, hint: usize) -> Option<Ended>
     requires order { IsControl control.old }
     ensures told { option_map (λ r. handle_state r.entry) result
         ≡ option_and_then (if_still kind) (handle_in control.old.tables.handles node number) }
@@ -106,47 +99,9 @@ fn end_far(control: &mut Control, node: u64, number: u64, kind: Kind, hint: usiz
     Some(Ended { entry, goes })
 }
 
-/// The same, where it is not known to be usual. What the call tells is put together anew, so that
-/// it stays in registers on the usual way.
-#[inline(always)]
-fn end_other(
-    control: &mut Control,
-    node: u64,
-    number: u64,
-    kind: Kind,
-    hint: usize,
-) -> Option<Ended>
-    requires order { IsControl control.old }
-    ensures told { option_map (λ r. handle_state r.entry) result
-        ≡ option_and_then (if_still kind) (handle_in control.old.tables.handles node number) }
-    ensures ended { IfSome result (λ r. HasEnded control.old node number kind r.goes control.new
-        (handle_state r.entry)) }
-    ensures unchanged { result ≡ None → control.new ≡ control.old }
-{
-    let Ended { entry, goes } = end_far(control, node, number, kind, hint)?;
-    Some(Ended { entry, goes })
-}
-
-/// The same. What is usual is tried first.
-#[inline(always)]
-fn end(control: &mut Control, node: u64, number: u64, kind: Kind, hint: usize) -> Option<Ended>
-    requires order { IsControl control.old }
-    ensures told { option_map (λ r. handle_state r.entry) result
-        ≡ option_and_then (if_still kind) (handle_in control.old.tables.handles node number) }
-    ensures ended { IfSome result (λ r. HasEnded control.old node number kind r.goes control.new
-        (handle_state r.entry)) }
-    ensures unchanged { result ≡ None → control.new ≡ control.old }
-{
-    match end_usual(control, node, number, kind, hint) {
-        Some(entry) => Some(Ended { entry, goes: false }),
-        None => end_other(control, node, number, kind, hint),
-    }
-}
-
 /// Releases the node's handle of that number, if it is of that kind, or a loan that was filled
 /// meanwhile. It is looked for once, at the hint first. Its port goes if nothing of it is left, and
 /// its message's pool if its port is gone and nobody has a message of it.
-#[inline(always)]
 pub fn release(
     control: &mut Control,
     node: u64,
@@ -157,28 +112,33 @@ pub fn release(
     requires order { IsControl control.old }
     ensures told { option_map (λ r. handle_state r.entry) result
         ≡ option_and_then (if_still kind) (handle_in control.old.tables.handles node number) }
-    ensures unchanged { result ≡ None → control.new ≡ control.old }
-    ensures port { IfSome result (λ r. (p : PortState)
-        → port_in control.old.tables.ports r.entry.port ≡ Some p
-        → IfSome r.place (λ place. place ≡ p.pool)) }
-    ensures stay { IfSome result (λ r. r.place ≡ None → ArePoolsThere control.old.tables.ports
-        control.new.tables.pools (handle_state r.entry)) }
-    ensures left { IfSome result (λ r. control.new.tables
-        ≡ record (with_released
-        (with_ended control.old.tables (handle_state r.entry)) r.entry.port) {
-          pools = control.new.tables.pools;
-        }) }
+    ensures released { IfSome result (λ r. Releases control.old node number kind r control.new) }
     ensures order { IsControl control.new }
-    ensures pools { IfSome result (λ r.
-        KeptPools control.old.tables.pools control.new.tables.pools) }
-    ensures gone { IfSome result (λ r. NoLeftPool control.new.tables r.entry.pool) }
     ensures tidy { StaysTidy control.old.tables control.new.tables }
-    ensures whole { IfSome result (λ r. (x : Given)
-        → IsWholeCall (state_shown x control.old.tables) node (Release number) Done
-        (state_shown x control.new.tables)) }
+    ensures unchanged { result ≡ None → control.new ≡ control.old }
 {
-    let ended = end(control, node, number, kind, hint)?;
-    let (entry, goes) = (ended.entry, ended.goes);
+    let Ended { entry, goes } = end(control, node, number, kind, hint)?;
     let place = leave(control, entry.port, entry.pool, goes);
+    Some(Ending { entry, place })
+}
+
+/// The same, if that is usual: the handle, its port and its pipe stand where they are looked for
+/// first, and neither its port nor its pool goes. `None` says that nothing changed.
+#[inline(always)]
+pub fn release_usual(
+    control: &mut Control,
+    node: u64,
+    number: u64,
+    kind: Kind,
+    hint: usize,
+) -> Option<Ending>
+    requires order { IsControl control.old }
+    ensures released { IfSome result (λ r. Releases control.old node number kind r control.new) }
+    ensures order { IsControl control.new }
+    ensures tidy { StaysTidy control.old.tables control.new.tables }
+    ensures unchanged { result ≡ None → control.new ≡ control.old }
+{
+    let entry = end_usual(control, node, number, kind, hint)?;
+    let place = leave(control, entry.port, entry.pool, false);
     Some(Ending { entry, place })
 }

@@ -14,5 +14,5 @@ mod usual;
 
 pub use disconnect::{disconnect_if_unused, drop_pool};
 pub use ending::Ending;
-pub use handle::release;
+pub use handle::{release, release_usual};
 pub use port_value::release_port;

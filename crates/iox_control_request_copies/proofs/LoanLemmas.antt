@@ -35,6 +35,7 @@ use Rattle.iox_control_requests.specs.Servers.{request_ways}
 use Rattle.iox_control_requests.proofs.Emptied.{each_after, each_waits, same_ways_then}
 use Rattle.iox_control_requests.proofs.Ready.{ways_open}
 use Rattle.iox_control_request_copies.specs.Copies.{IsLentAndSent, handle_of_loan}
+use Rattle.iox_control_request_copies.specs.SentLoans.{IsSent, MayBeSent, lent_handle}
 use Rattle.iox_control_request_copies.proofs.Emptied.{each_before}
 
 module _ (c : ControlState) (node n : ℕ) (a : Asked) (l : Loaned) (new : ControlState) (order : IsControl c) (client : IsClient c.tables node n) (filled : a.uninit ≡ false)
@@ -94,9 +95,9 @@ module _ (c : ControlState) (node n : ℕ) (a : Asked) (l : Loaned) (new : Contr
 
     -- the same, by what is known about it
     abbrev pub h : HandleState
-    h = record { node = node; number = l.number; kind = RequestMut; port = n; pool = l.pool; slot = l.slot; client = n; connections = 0 }
+    h = lent_handle node n l
 
-    pub told_is : handle_of_loan p l ≡ h
+    told_is : handle_of_loan p l ≡ h
     told_is = λ i. record {
       node = client.on_node i;
       number = l.number;
@@ -108,7 +109,7 @@ module _ (c : ControlState) (node n : ℕ) (a : Asked) (l : Loaned) (new : Contr
       connections = 0;
     }
 
-    pub named_so : IsHandle new.tables node l.number h
+    named_so : IsHandle new.tables node l.number h
     named_so =
         subst (λ (t : HubTables). IsHandle t node l.number h) (sym new_is)
         (subst (λ (k : HandleState). IsHandle v node l.number k) (handle_is ∙ told_is)
@@ -116,7 +117,7 @@ module _ (c : ControlState) (node n : ℕ) (a : Asked) (l : Loaned) (new : Contr
         (subst (λ (k : ℕ). IsHandle v p.node k (loaned_handle d y false l.slot)) (sym is.made.number)
         (named d kept.0 (on_lane y is.made.lane) a.elements l.slot lends d.ports refl v.pools refl))))
 
-    pub calls_so : new.tables.calls ≤ 2 ^ 56
+    calls_so : new.tables.calls ≤ 2 ^ 56
     calls_so =
         let same : new.tables.calls ≡ d.calls + 1 = ap (λ (t : HubTables). t.calls) new_is in
         let before : d.calls ≡ c.tables.calls = ap (λ (e : ControlState). e.tables.calls) is.back.left in
@@ -149,11 +150,15 @@ module _ (c : ControlState) (node n : ℕ) (a : Asked) (l : Loaned) (new : Contr
     before = each_before (IsOpenToNew at_first new.tables l.pool l.slot) c.tables.ports ws (request_ways n c.tables.ports) opens
 
     -- nothing is left to get back
-    pub returned_so : OnEach (λ w m. m.returned ≡ []) (lane_on new.tables.ports) (request_ways n new.tables.ports)
+    returned_so : OnEach (λ w m. m.returned ≡ []) (lane_on new.tables.ports) (request_ways n new.tables.ports)
     returned_so =
         subst (λ (on : OnWays LaneState). OnEach (λ w m. m.returned ≡ []) on (request_ways n new.tables.ports)) (sym lanes_are)
         (subst (λ (us : List Way). OnEach (λ w m. m.returned ≡ []) (lane_on (with_lanes_on emptied_lane c.tables.ports ws)) us) (sym ways_are)
         (each_after (λ w m. ⊤) c.tables.ports ws (request_ways n c.tables.ports) (λ w has. subst (λ (us : List Way). has_way w us ≡ true) (sym its_ways) has) before))
+
+    -- so it may be sent
+    pub may_be_sent : MayBeSent new h
+    may_be_sent = record { order = ordered; calls = calls_so; named = named_so; filled = refl; returned = returned_so }
 
     -- no more waited than may
     pub waits_so : OnEach (λ w m. IsSound m) (lane_on new.tables.ports) (request_ways n new.tables.ports)
@@ -164,17 +169,18 @@ module _ (c : ControlState) (node n : ℕ) (a : Asked) (l : Loaned) (new : Contr
         (subst (λ (us : List Way). OnEach (λ w m. IsSound m) (lane_on new.tables.ports) us) ways_are sound))
 
     -- what is left once it is sent
-    pub sent_so : (overflow : Bool) (count : ℕ) (last : ControlState) → count ≡ length (ways_of new.tables h overflow)
-        → last ≡ with_tables new (record (with_request_sent new.tables h overflow) { pools = last.tables.pools })
-        → HasDelivered overflow l.slot (lane_on new.tables.ports) (ways_of new.tables h overflow) new.tables.pools last.tables.pools
-        → (q : PortState) → port_in c.tables.ports n ≡ Some q → IsLentAndSent c q a overflow l count last
-    sent_so overflow count last counts left delivered q at =
-        subst (λ r. IsLentAndSent c r a overflow l count last) (same_Some p q (sym client.there ∙ at))
+    pub sent_so : (overflow : Bool) (servers : ℕ) (last : ControlState) → IsSent new h overflow servers last
+        → (q : PortState) → port_in c.tables.ports n ≡ Some q → IsLentAndSent c q a overflow l servers last
+    sent_so overflow servers last sent q at =
+        subst (λ r. IsLentAndSent c r a overflow l servers last) (same_Some p q (sym client.there ∙ at))
         (record {
           loaned = new;
           lent = is;
-          count = counts ∙ ap (λ (k : HandleState). length (ways_of new.tables k overflow)) (sym told_is);
-          left = left ∙ ap (λ (k : HandleState). with_tables new (record (with_request_sent new.tables k overflow) { pools = last.tables.pools })) (sym told_is);
+          count = sent.count ∙ ap (λ (k : HandleState). length (ways_of new.tables k overflow)) (sym told_is);
+          left =
+              sent.left
+              ∙ ap (λ (k : HandleState). with_tables new (record (with_request_sent new.tables k overflow) { pools = last.tables.pools })) (sym told_is);
           delivered =
-              subst (λ (k : HandleState). HasDelivered overflow l.slot (lane_on new.tables.ports) (ways_of new.tables k overflow) new.tables.pools last.tables.pools) (sym told_is) delivered;
+              subst (λ (k : HandleState). HasDelivered overflow l.slot (lane_on new.tables.ports) (ways_of new.tables k overflow) new.tables.pools last.tables.pools)
+              (sym told_is) sent.delivered;
         })

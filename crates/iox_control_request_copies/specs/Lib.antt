@@ -1,4 +1,6 @@
 pub mod Copies
+-- only for proofs of this crate
+pub mod SentLoans
 -- what clauses cite of the other sends, for the crates above
 pub use Rattle.iox_control_copies.specs.Responded
 pub use Rattle.iox_control_copies.specs.Responses

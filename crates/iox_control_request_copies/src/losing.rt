@@ -10,7 +10,9 @@ use iox_control_copies::{Asked, Lending, loan_refusal};
 use iox_control_requests::retrieve_all;
 
 /// Counts the loan of a copy that the client cannot send. Where no loan would be made for it, that
-/// is said, and nothing is counted.
+/// is said, and nothing is counted. A call of its own, so that the other way is short.
+#[cold]
+#[inline(never)]
 pub fn lose(control: &mut Control, client: u64, asked: Asked) -> Option<Copied>
     requires there { (p : PortState) × (port_in control.old.tables.ports client ≡ Some p) }
     requires order { IsControl control.old }

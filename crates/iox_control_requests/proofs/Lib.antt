@@ -10,6 +10,7 @@ pub mod Opened
 pub mod Turned
 pub mod Pushing
 pub mod OneServer
+pub mod OnlySent
 pub mod Emptied
 pub mod UsualWay
 pub mod Whole

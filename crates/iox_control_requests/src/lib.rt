@@ -23,6 +23,6 @@ pub use iox_control_retrieving::retrieve_all;
 pub use offering::offer_request;
 pub use requested::Requested;
 pub use sending::send_request;
-pub use sends::send_to_all;
+pub use sends::{send_to_all, send_to_only};
 pub use servers::is_refused;
 pub use usual::send_request_usual;

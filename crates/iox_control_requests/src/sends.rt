@@ -24,7 +24,7 @@ ghost use Rattle.iox_control_requests.specs.Deliveries.{CanTake};
 ghost use Rattle.iox_control_requests.specs.Requests.{ways_of, with_request_sent};
 ghost use Rattle.iox_control_requests.specs.Servers.{request_ways};
 
-use crate::alone::push_to_only;
+use crate::alone::{lane_is_sound, push_alone};
 use crate::deliveries::deliver_to_all;
 use crate::pushes::push_to_all;
 use iox_control::Control;
@@ -144,23 +144,16 @@ fn become_pending_of_one(control: &mut Control, entry: Entry, hint: usize)
     control.count_call();
 }
 
-/// Sends a client's loaned request, whose message has that label, to the only server, which is
-/// in that place, once the client got all back. Nothing is pushed out, and the pipe of that rank is
-/// from the client. The handle is looked for at the hint first.
+/// Sends a client's loaned request to the only server, which is in that place, once the client got
+/// all back. Nothing is pushed out, and the pipe of that rank is from the client. The handle is
+/// looked for at the hint first. It turns before anything else changes: so it is known to stand
+/// where it was found, and need not be looked for again.
 #[inline(always)]
-pub fn send_to_only(
-    control: &mut Control,
-    place: usize,
-    entry: Entry,
-    label: Label,
-    rank: usize,
-    hint: usize,
-)
+pub fn send_to_only(control: &mut Control, place: usize, entry: Entry, rank: usize, hint: usize)
     requires order { IsControl control.old }
     requires calls { control.old.tables.calls ≤ 2 ^ 56 }
     requires named { IsHandle control.old.tables entry.node entry.number (handle_state entry) }
     requires kind { is_request_loan entry.kind ≡ true }
-    requires label { label ≡ labels_of control.old.tables.pools entry.pool entry.slot }
     requires returned { OnEach (λ w l. l.returned ≡ []) (lane_on control.old.tables.ports)
         (request_ways entry.port control.old.tables.ports) }
     requires only { places_of Server control.old.tables.ports ≡ place ∷ [] }
@@ -182,6 +175,7 @@ pub fn send_to_only(
         control.old.tables.pools control.new.tables.pools }
     ensures order { IsControl control.new }
 {
-    push_to_only(control, place, entry, label, rank);
+    lane_is_sound(control, place, entry.port);
     become_pending_of_one(control, entry, hint);
+    push_alone(control, place, entry, rank);
 }

@@ -54,8 +54,7 @@ fn attempt_alone(control: &mut Control, place: usize, entry: Entry, rank: usize,
     ensures messages { bare_pools control.old.tables.pools ≡ bare_pools control.new.tables.pools }
     ensures order { IsControl control.new }
 {
-    let label = control.label_of(entry.pool, entry.slot);
-    send_to_only(control, place, entry, label, rank, hint);
+    send_to_only(control, place, entry, rank, hint);
 }
 
 /// Sends this loaned request to the only server on the usual way, and says to how many it was

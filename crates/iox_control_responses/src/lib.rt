@@ -14,8 +14,9 @@ mod usual;
 
 pub use awaited::is_awaited;
 pub use failing::fails_when_full;
-pub use iox_control_retrieving::retrieve_all;
+pub use iox_control_retrieving::{retrieve_all, retrieve_all_in};
 pub use offering::offer_response;
 pub use responded::Responded;
 pub use sending::send_response;
+pub use targets::{Target, find_awaiting};
 pub use usual::send_response_usual;

@@ -16,11 +16,11 @@ use iox_model::way::Way;
 
 /// Where a response goes.
 #[derive(Clone, Copy, Debug, PartialEq, Eq)]
-pub(crate) struct Target {
+pub struct Target {
     /// The place of the client.
-    pub(crate) place: usize,
+    pub place: usize,
     /// Where the pipe from the server likely stands there. A wrong rank is only slower.
-    pub(crate) rank: usize,
+    pub rank: usize,
 }
 
 /// Where a client likely stands: where the first of all does.
@@ -35,7 +35,7 @@ pub(crate) fn likely_client(ports: &Ports) -> usize {
 /// Where the response goes whose handle and label these are, if its client waits for it. The client
 /// and the server are each looked for once.
 #[inline(always)]
-pub(crate) fn find_awaiting(control: &mut Control, entry: Entry, label: Label) -> Option<Target>
+pub fn find_awaiting(control: &mut Control, entry: Entry, label: Label) -> Option<Target>
     requires order { IsControl control.old }
     requires server { is_some (port_in control.old.tables.ports entry.port) ≡ true }
     requires label { label ≡ labels_of control.old.tables.pools entry.pool entry.slot }

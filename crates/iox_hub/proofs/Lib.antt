@@ -22,6 +22,7 @@ pub mod Suits
 pub mod ReleasingFits
 pub mod ReleasingWords
 pub mod ReleasedWords
+pub mod ReleasedHubs
 pub mod SendingFits
 pub mod SendingNames
 pub mod SendingHubs

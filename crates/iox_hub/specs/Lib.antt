@@ -12,6 +12,8 @@ pub mod Lending
 pub mod Growing
 pub mod Keeping
 pub mod SendCalls
+pub mod WriteCalls
+pub mod ReleaseCalls
 pub mod Listings
 pub mod Cleaning
 pub mod Fillings

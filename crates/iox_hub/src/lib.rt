@@ -63,3 +63,4 @@ pub use options::Options;
 pub use overrides::{PreallocatedRequestsOverride, PreallocatedResponseOverride};
 pub use settings::default_settings;
 pub use shape::{MessageShape, Part};
+pub use writing::Filled;

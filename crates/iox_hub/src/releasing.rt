@@ -12,13 +12,14 @@ ghost use Rattle.iox_control_releasing.specs.Goings.{StaysTidy};
 ghost use Rattle.iox_hub.specs.Hubs.{state_of_hub, with_control};
 ghost use Rattle.iox_hub.specs.Keeping.{KeepsOthers};
 ghost use Rattle.iox_hub.specs.Reads.{HasOf};
+ghost use Rattle.iox_hub.specs.ReleaseCalls.{ReleasesHandle};
 ghost use Rattle.iox_hub.specs.Releases.{StillHas};
 ghost use Rattle.iox_hub.specs.Sending.{HasNothing, is_handle, with_words_left};
 
 use crate::all_words::AllWords;
 use crate::hub::Hub;
 use iox_backpressure::Backpressure;
-use iox_control_releasing::Ending;
+use iox_control_releasing::{Ending, release, release_port, release_usual};
 use iox_model::kind::Kind;
 use iox_store::Payload;
 use iox_words::Words;
@@ -108,13 +109,37 @@ impl<Q: Payload, QH: Words, P: Payload, PH: Words, H: Backpressure> Hub<Q, QH, P
         ensures tidy { IsTrue result
             → StaysTidy self.old.control.tables self.new.control.tables }
     {
-        let Some(ending) = iox_control_releasing::release(
-            &mut self.control,
-            node,
-            number,
-            kind,
-            hint,
-        ) else {
+        if self.release_usual(node, number, kind, hint) {
+            return true;
+        }
+        self.release_far(node, number, kind, hint)
+    }
+
+    /// The same, if that is usual: neither a port nor a pool goes. Else it answers `false`, and
+    /// nothing changes.
+    #[inline(always)]
+    fn release_usual(&mut self, node: u64, number: u64, kind: Kind, hint: usize) -> bool
+        requires { is_handle kind ≡ true }
+        ensures released { IsTrue result → ReleasesHandle self.old node number kind self.new }
+        ensures unchanged { OnFalse result (self.new ≡ self.old) }
+    {
+        let Some(ending) = release_usual(&mut self.control, node, number, kind, hint) else {
+            return false;
+        };
+        self.drop_both(ending);
+        true
+    }
+
+    /// The same on any way. A call of its own, so that the other is short.
+    #[inline(never)]
+    #[cold]
+    fn release_far(&mut self, node: u64, number: u64, kind: Kind, hint: usize) -> bool
+        requires { is_handle kind ≡ true }
+        ensures told { IsTrue result ↔ StillHas self.old node number kind }
+        ensures released { IsTrue result → ReleasesHandle self.old node number kind self.new }
+        ensures unchanged { OnFalse result (self.new ≡ self.old) }
+    {
+        let Some(ending) = release(&mut self.control, node, number, kind, hint) else {
             return false;
         };
         self.drop_both(ending);
@@ -135,7 +160,7 @@ impl<Q: Payload, QH: Words, P: Payload, PH: Words, H: Backpressure> Hub<Q, QH, P
         let Some(info) = self.control.ports().find(port) else {
             unreachable!();
         };
-        iox_control_releasing::release_port(&mut self.control, node, port);
+        release_port(&mut self.control, node, port);
         self.drop_words(info.pool);
     }
 }

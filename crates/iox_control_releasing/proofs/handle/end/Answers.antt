@@ -1,35 +1,43 @@
-use Rattle.std.specs.Prelude.{IfSome, false}
-use Rattle.std.specs.Option.{option_and_then}
+use Rattle.std.specs.Prelude.{◌≡◌, ◌<◌, false, is_some, refl, true}
+use Rattle.std.specs.Option.{option_map_or}
 use Rattle.std.proofs.Common.{ap, subst, sym, ◌∙◌}
-use Rattle.iox_tables.specs.HubStates.Wirings.{handle_in}
-use Rattle.iox_control.specs.Controls.{ControlState, IsControl}
+use Rattle.iox_tables.specs.HubStates.Tables.{port_in, slot_at}
+use Rattle.iox_hub_ports.specs.InPlace.{AllApart}
+use Rattle.iox_control.specs.Controls.{ControlState}
 use Rattle.iox_control.specs.Entries.{handle_state}
-use Rattle.iox_control.specs.Removals.{if_still}
-use Rattle.iox_control_releasing.specs.Ends.{HasEnded}
-use Rattle.iox_control_releasing.proofs.UsualEnds.{found_as}
+use Rattle.iox_control.proofs.HeldLemmas.{handle_holds}
+use Rattle.iox_control.proofs.InPlaceLemmas.{all_apart}
+use Rattle.iox_control_releasing.specs.Ends.{with_given_up}
+use Rattle.iox_control_releasing.proofs.StillThere.{handle_has_port}
+use Rattle.iox_control_releasing.proofs.Upped.{found_itself}
+use Rattle.iox_control_releasing.proofs.UsualEnds.{is_of_kind, no_left}
 use Rattle.iox_control_releasing.proofs.handle.end.Goals as goal
 
-pub returns-in-Some-clause-told : goal.returns-in-Some-clause-told
-returns-in-Some-clause-told c =
-    let so = subst (λ o. IfSome o (λ e. HasEnded c.args.control.now c.args.node c.args.number c.args.kind false c.end_usual.new.control (handle_state e))) c.in-Some.is c.end_usual.ensures.ended in
-    found_as c.args.kind _ c.in-Some.entry so.found so.kind
+pub end_removed-goes-requires-clause-taken : goal.end_removed-goes-requires-clause-taken
+end_removed-goes-requires-clause-taken c =
+    subst (λ (d : ControlState). 0 < (slot_at d.tables.pools c.in_ok-entry.entry.pool c.in_ok-entry.entry.slot).holders) (sym (c.in_ok-entry.ensures.dropped refl))
+    (handle_holds c.args.control.now.tables c.requires.order.order c.args.node c.args.number (handle_state c.in_ok-entry.entry)
+    (sym (found_itself c.args.kind _ c.in_ok-entry.entry c.in_ok-entry.ensures.found)))
 
-pub returns-in-Some-clause-ended : goal.returns-in-Some-clause-ended
-returns-in-Some-clause-ended c =
-    subst (λ o. IfSome o (λ e. HasEnded c.args.control.now c.args.node c.args.number c.args.kind false c.end_usual.new.control (handle_state e))) c.in-Some.is c.end_usual.ensures.ended
+pub end_removed-goes-requires-clause-port : goal.end_removed-goes-requires-clause-port
+end_removed-goes-requires-clause-port c =
+    subst (λ (d : ControlState). is_some (port_in d.tables.ports c.in_ok-entry.entry.port) ≡ true) (sym (c.in_ok-entry.ensures.dropped refl))
+    (handle_has_port c.args.control.now.tables c.requires.order.order c.args.node c.args.number (handle_state c.in_ok-entry.entry)
+    (sym (found_itself c.args.kind _ c.in_ok-entry.entry c.in_ok-entry.ensures.found)))
 
-pub end_other-requires : goal.end_other-requires
-end_other-requires c = record { order = subst (λ (d : ControlState). IsControl d) (sym (c.end_usual.ensures.unchanged c.in-None.is)) c.requires.order }
+pub end_removed-goes-requires-clause-apart : goal.end_removed-goes-requires-clause-apart
+end_removed-goes-requires-clause-apart c =
+    subst (λ (d : ControlState). AllApart d.tables.ports) (sym (c.in_ok-entry.ensures.dropped refl)) (all_apart c.args.control.now c.requires.order)
 
-pub returns-in-None-clause-told : goal.returns-in-None-clause-told
-returns-in-None-clause-told c =
-    c.end_other.ensures.told
-    ∙ ap (λ (d : ControlState). option_and_then (if_still c.args.kind) (handle_in d.tables.handles c.args.node c.args.number)) (c.end_usual.ensures.unchanged c.in-None.is)
-
-pub returns-in-None-clause-ended : goal.returns-in-None-clause-ended
-returns-in-None-clause-ended c =
-    subst (λ (d : ControlState). IfSome c.end_other.result (λ r. HasEnded d c.args.node c.args.number c.args.kind r.goes c.end_other.new.control (handle_state r.entry)))
-    (c.end_usual.ensures.unchanged c.in-None.is) c.end_other.ensures.ended
-
-pub returns-in-None-clause-unchanged : goal.returns-in-None-clause-unchanged
-returns-in-None-clause-unchanged c none = c.end_other.ensures.unchanged none ∙ c.end_usual.ensures.unchanged c.in-None.is
+pub returns-clause-ended : goal.returns-clause-ended
+returns-clause-ended c = record {
+  found = found_itself c.args.kind _ c.in_ok-entry.entry c.in_ok-entry.ensures.found;
+  kind = is_of_kind c.args.kind _ c.in_ok-entry.entry c.in_ok-entry.entry (found_itself c.args.kind _ c.in_ok-entry.entry c.in_ok-entry.ensures.found) c.in_ok-entry.ensures.found;
+  ended = record {
+    left = c.end_removed-goes.ensures.left ∙ ap (λ (d : ControlState). with_given_up d (handle_state c.in_ok-entry.entry)) (c.in_ok-entry.ensures.dropped refl);
+    stays = λ none. no_left c.end_removed-goes.new.control.tables c.in_ok-entry.entry.pool (c.end_removed-goes.ensures.busy none);
+    held = λ none.
+        subst (λ (d : ControlState). option_map_or (λ p. p.held) (port_in d.tables.ports c.in_ok-entry.entry.port) false ≡ true)
+        (c.in_ok-entry.ensures.dropped refl) (c.end_removed-goes.ensures.held none);
+  };
+}

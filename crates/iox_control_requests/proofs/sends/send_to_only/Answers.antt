@@ -1,49 +1,74 @@
-use Rattle.std.proofs.Common.{ap, subst, sym, true, ◌^◌, ◌≤◌, ◌∙◌}
-use Rattle.iox_tables.specs.HubStates.Wirings.{handle_in}
-use Rattle.iox_tables.specs.HubStates.Ways.{lane_on}
-use Rattle.iox_hub_delivering.specs.Deliveries.{HasDelivered}
+use Rattle.std.specs.Prelude.{◌≡◌, ◌-◌, ◌<◌, ◌^◌, None, Some, false, length, slice_get, true}
+use Rattle.std.proofs.Common.{subst, sym}
+use Rattle.iox_model.specs.Messages.{request_way}
+use Rattle.iox_tables.specs.HubStates.Tables.{PortState, slot_at}
+use Rattle.iox_hub_ports.specs.InPlace.{AllApart, in_place}
+use Rattle.iox_hub_ports.specs.Known.{is_from}
+use Rattle.iox_hub_ports.specs.Ports.{on_way, pushed_out}
 use Rattle.iox_control.specs.Controls.{ControlState, IsControl}
 use Rattle.iox_control.specs.Entries.{handle_state}
-use Rattle.iox_control_requests.specs.Requests.{ways_of}
-use Rattle.iox_control_requests.proofs.Opened.{sent_is, sent_keeps}
-use Rattle.iox_control_requests.proofs.Ready.{can_take_all}
+use Rattle.iox_control.proofs.InPlaceLemmas.{all_apart}
+use Rattle.iox_control_requests.proofs.OnlySent.{counts_one, handed_only, is_sound, loan_holds, may_hold, sent_only}
+use Rattle.iox_control_requests.proofs.Opened.{sent_keeps}
 use Rattle.iox_control_requests.proofs.sends.send_to_only.Goals as goal
 
-pub push_to_only-requires-clause-lanes : goal.push_to_only-requires-clause-lanes
-push_to_only-requires-clause-lanes c =
-    can_take_all c.args.control.now.tables c.args.entry.node c.args.entry.number (handle_state c.args.entry) c.requires.order.order c.requires.named c.requires.kind
-    c.requires.order.counted c.requires.order.buffers.requests c.requires.returned
-
 pub become_pending_of_one-requires-clause-there : goal.become_pending_of_one-requires-clause-there
-become_pending_of_one-requires-clause-there c =
-    ap (λ (d : ControlState). handle_in d.tables.handles c.args.entry.node c.args.entry.number) c.push_to_only.ensures.left ∙ c.requires.named.there
+become_pending_of_one-requires-clause-there c = c.requires.named.there
 
-pub become_pending_of_one-requires-clause-calls : goal.become_pending_of_one-requires-clause-calls
-become_pending_of_one-requires-clause-calls c =
-    subst (λ (d : ControlState). d.tables.calls ≤ 2 ^ 56) (sym c.push_to_only.ensures.left) c.requires.calls
+pub push_alone-requires-clause-there : goal.push_alone-requires-clause-there
+push_alone-requires-clause-there c = subst (λ (d : ControlState). c.args.place < length d.tables.ports) (sym c.become_pending_of_one.ensures) c.requires.there
+
+pub push_alone-requires-clause-apart : goal.push_alone-requires-clause-apart
+push_alone-requires-clause-apart c =
+    subst (λ (d : ControlState). AllApart d.tables.ports) (sym c.become_pending_of_one.ensures) (all_apart c.args.control.now c.requires.order)
+
+pub push_alone-requires-clause-taken : goal.push_alone-requires-clause-taken
+push_alone-requires-clause-taken c =
+    subst (λ (d : ControlState). 0 < (slot_at d.tables.pools c.args.entry.pool c.args.entry.slot).holders) (sym c.become_pending_of_one.ensures)
+    (loan_holds c.args.control.now c.args.entry.node c.args.entry.number (handle_state c.args.entry) c.args.place c.requires.order c.requires.named c.requires.kind
+    c.requires.returned c.requires.only)
+
+pub push_alone-requires-clause-fits : goal.push_alone-requires-clause-fits
+push_alone-requires-clause-fits c =
+    subst (λ (d : ControlState). (slot_at d.tables.pools c.args.entry.pool c.args.entry.slot).holders < 2 ^ 64 - 1) (sym c.become_pending_of_one.ensures)
+    (may_hold c.args.control.now c.args.entry.node c.args.entry.number (handle_state c.args.entry) c.args.place c.requires.order c.requires.named c.requires.kind
+    c.requires.returned c.requires.only)
+
+pub push_alone-requires-clause-from : goal.push_alone-requires-clause-from
+push_alone-requires-clause-from c =
+    subst (λ (d : ControlState). in_place (is_from c.args.rank c.args.entry.port) false d.tables.ports c.args.place ≡ true)
+    (sym c.become_pending_of_one.ensures) c.requires.from
+
+pub push_alone-requires-clause-none : goal.push_alone-requires-clause-none
+push_alone-requires-clause-none c =
+    subst
+    (λ (d : ControlState).
+    (p : PortState) → slice_get d.tables.ports c.args.place ≡ Some p
+    → on_way pushed_out None d.tables.ports (request_way c.args.entry.port p.number) ≡ None)
+    (sym c.become_pending_of_one.ensures) c.requires.none
 
 pub returns-clause-sound : goal.returns-clause-sound
-returns-clause-sound c = c.push_to_only.ensures.sound
+returns-clause-sound c =
+    is_sound c.args.control.now c.args.entry.node c.args.entry.number (handle_state c.args.entry) c.args.place c.requires.order c.requires.named c.requires.kind
+    c.requires.returned c.requires.only c.lane_is_sound.ensures
 
 pub returns-clause-count : goal.returns-clause-count
-returns-clause-count c = c.push_to_only.ensures.count
+returns-clause-count c =
+    counts_one c.args.control.now c.args.entry.node c.args.entry.number (handle_state c.args.entry) c.args.place c.requires.order c.requires.named c.requires.kind
+    c.requires.returned c.requires.only
 
 pub returns-clause-left : goal.returns-clause-left
 returns-clause-left c =
-    (sent_is c.args.control.now (handle_state c.args.entry) true c.push_to_only.new.control c.become_pending_of_one.new.control
-    1 c.push_to_only.ensures.left c.push_to_only.ensures.count c.become_pending_of_one.ensures).0
+    sent_only c.args.control.now c.args.entry.node c.args.entry.number (handle_state c.args.entry) c.args.place c.requires.order c.requires.named c.requires.kind
+    c.requires.returned c.requires.only c.lane_is_sound.ensures c.become_pending_of_one.new.control c.push_alone.new.control c.become_pending_of_one.ensures c.push_alone.ensures
 
 pub returns-clause-holders : goal.returns-clause-holders
 returns-clause-holders c =
-    subst
-    (HasDelivered true c.args.entry.slot (lane_on c.args.control.now.tables.ports) (ways_of c.args.control.now.tables (handle_state c.args.entry) true)
-    c.args.control.now.tables.pools)
-    (sym (sent_is c.args.control.now (handle_state c.args.entry) true c.push_to_only.new.control c.become_pending_of_one.new.control
-    1 c.push_to_only.ensures.left c.push_to_only.ensures.count c.become_pending_of_one.ensures).1)
-    c.push_to_only.ensures.holders
+    handed_only c.args.control.now c.args.entry.node c.args.entry.number (handle_state c.args.entry) c.args.place c.requires.order c.requires.named c.requires.kind
+    c.requires.returned c.requires.only c.lane_is_sound.ensures c.become_pending_of_one.new.control c.push_alone.new.control c.become_pending_of_one.ensures c.push_alone.ensures
 
 pub returns-clause-order : goal.returns-clause-order
 returns-clause-order c =
     subst IsControl (sym (returns-clause-left c))
     (sent_keeps c.args.control.now (handle_state c.args.entry) true c.args.entry.node c.args.entry.number c.requires.order c.requires.calls c.requires.named
-    c.requires.kind c.become_pending_of_one.new.control.tables.pools (returns-clause-holders c))
+    c.requires.kind c.push_alone.new.control.tables.pools (returns-clause-holders c))

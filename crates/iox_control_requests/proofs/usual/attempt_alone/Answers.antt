@@ -1,13 +1,8 @@
 use Rattle.std.proofs.Common.{refl, true}
 use Rattle.iox_control.specs.Entries.{handle_state}
-use Rattle.iox_control.proofs.HeldLemmas.{handle_has_slot}
 use Rattle.iox_control_requests.proofs.Emptied.{calls_then, counts_then, nothing_returned, sent_then, waits_then}
 use Rattle.iox_control_requests.proofs.UsualWay.{is_back, none_out}
 use Rattle.iox_control_requests.proofs.usual.attempt_alone.Goals as goal
-
-pub label_of-label-requires : goal.label_of-label-requires
-label_of-label-requires c =
-    handle_has_slot c.args.control.now.tables c.requires.order.order c.args.entry.node c.args.entry.number (handle_state c.args.entry) c.requires.named.there
 
 pub send_to_only-requires-clause-calls : goal.send_to_only-requires-clause-calls
 send_to_only-requires-clause-calls c =

@@ -1,4 +1,6 @@
-use Rattle.std.specs.Prelude.{◌∷◌, [], flat_map, refl}
+use Rattle.iceoryx2_ports.specs.Asking.{AnswersAs}
+use Rattle.std.proofs.Common.{subst, sym}
+use Rattle.std.specs.Prelude.{◌∷◌, ℕ, [], flat_map, refl}
 use Rattle.iox_model.specs.declared.kind.Role.TheVariants as roles
 use Rattle.iox_model.specs.declared.reply.Reply.TheVariants.{Done}
 use Rattle.iox_hub_laws.specs.Lending.{payload_of}
@@ -14,35 +16,37 @@ use Rattle.iceoryx2_ports.proofs.response_mut.ResponseMutUninit+Q+QH+One+E+PH.wr
 
 pub returns-clause-comes : goal.returns-clause-comes
 returns-clause-comes g c =
-    write_brings_nothing c.args.hub.now c.write_one_response.new.self c.args.self.node c.args.self.number
+    write_brings_nothing c.args.hub.now c.write_one_response-filled.new.self c.args.self.node c.args.self.number
     (payload_of roles.Server 1 (flat_map g.E.Words.words (c.args.value ∷ []))) Done
-    c.write_one_response.ensures.whole
+    c.write_one_response-filled.ensures.whole
 
 pub returns-clause-asks : goal.returns-clause-asks
 returns-clause-asks g c =
-    loan_asks_as_always c.args.hub.now c.write_one_response.new.self c.args.self.node
+    loan_asks_as_always c.args.hub.now c.write_one_response-filled.new.self c.args.self.node
     (Write c.args.self.number (payload_of roles.Server 1 (flat_map g.E.Words.words (c.args.value ∷ [])))) Done
-    refl c.write_one_response.ensures.whole ResponseMutUninit refl c.requires.has
+    refl c.write_one_response-filled.ensures.whole ResponseMutUninit refl c.requires.has
 
 pub returns-clause-room : goal.returns-clause-room
 returns-clause-room g c =
-    keeps_room c.args.hub.now c.write_one_response.new.self c.args.self.node
+    keeps_room c.args.hub.now c.write_one_response-filled.new.self c.args.self.node
     (Write c.args.self.number (payload_of roles.Server 1 (flat_map g.E.Words.words (c.args.value ∷ [])))) Done
-    refl c.write_one_response.ensures.whole
+    refl c.write_one_response-filled.ensures.whole
 
 pub returns-clause-answers : goal.returns-clause-answers
 returns-clause-answers g c =
-    write_answers_as c.args.hub.now c.write_one_response.new.self c.args.self.node c.args.self.number
+    subst (λ (n : ℕ). AnswersAs c.args.hub.now c.args.self.node c.args.self.number c.write_one_response-filled.new.self n c.write_one_response-filled.result.number) (sym c.write_one_response-filled.ensures.node)
+    (subst (λ (m : ℕ). AnswersAs c.args.hub.now c.args.self.node c.args.self.number c.write_one_response-filled.new.self c.args.self.node m) (sym c.write_one_response-filled.ensures.number)
+    (write_answers_as c.args.hub.now c.write_one_response-filled.new.self c.args.self.node c.args.self.number
     (payload_of roles.Server 1 (flat_map g.E.Words.words (c.args.value ∷ []))) Done
-    c.write_one_response.ensures.whole ResponseMutUninit refl c.requires.has
+    c.write_one_response-filled.ensures.whole ResponseMutUninit refl c.requires.has))
 
 pub returns-clause-requests : goal.returns-clause-requests
 returns-clause-requests g c =
-    write_keeps_requests c.args.hub.now c.write_one_response.new.self c.args.self.node c.args.self.number
+    write_keeps_requests c.args.hub.now c.write_one_response-filled.new.self c.args.self.node c.args.self.number
     (payload_of roles.Server 1 (flat_map g.E.Words.words (c.args.value ∷ []))) Done
-    c.write_one_response.ensures.whole ResponseMutUninit refl c.requires.has
+    c.write_one_response-filled.ensures.whole ResponseMutUninit refl c.requires.has
 
 pub returns-clause-shapes : goal.returns-clause-shapes
 returns-clause-shapes g c =
-    same_shapes c.args.hub.now c.write_one_response.new.self c.args.self.node (Write c.args.self.number (payload_of roles.Server 1 (flat_map g.E.Words.words (c.args.value ∷ [])))) Done
-    c.write_one_response.ensures.whole
+    same_shapes c.args.hub.now c.write_one_response-filled.new.self c.args.self.node (Write c.args.self.number (payload_of roles.Server 1 (flat_map g.E.Words.words (c.args.value ∷ [])))) Done
+    c.write_one_response-filled.ensures.whole

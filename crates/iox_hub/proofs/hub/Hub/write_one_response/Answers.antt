@@ -1,61 +1,39 @@
-use Rattle.std.specs.Prelude.{◌≡◌, ◌∷◌, [], flat_map}
-use Rattle.std.proofs.Common.{subst, sym}
+use Rattle.std.specs.Prelude.{◌∷◌, [], flat_map}
+use Rattle.std.proofs.Common.{subst}
+use Rattle.iox_model.specs.declared.kind.Kind.TheVariants.{ResponseMut}
 use Rattle.iox_model.specs.declared.kind.Role.TheVariants as roles
 use Rattle.iox_hub.specs.Hubs.{HubState}
-use Rattle.iox_hub.specs.Reads.{message_in}
-use Rattle.iox_hub.proofs.KeepingLoans.{write_keeps}
-use Rattle.iox_hub.proofs.LendingWriteCalls.{call_equal, call_hub, call_left, call_of, call_whole, call_within, call_written, write_call}
-use Rattle.iox_hub.proofs.LendingWrites.{is_loan_there, kind_fits, length_fits, loan_named}
+use Rattle.iox_hub.specs.WriteCalls.{WritesOne}
 use Rattle.iox_hub.proofs.hub.Hub.write_one_response.Goals as goal
 
-pub write_one-place-requires-clause-loan : goal.write_one-place-requires-clause-loan
-write_one-place-requires-clause-loan g c =
-    is_loan_there roles.Server c.self.invariant c.args.node c.args.number
-    (loan_named roles.Server c.self.invariant c.args.self.now c.self.view_is c.args.node c.args.number c.requires.has)
+pub returns-in-Some-clause-left : goal.returns-in-Some-clause-left
+returns-in-Some-clause-left g c = c.in-Some.ensures.written.left
 
-pub write_one-place-requires-clause-fits : goal.write_one-place-requires-clause-fits
-write_one-place-requires-clause-fits g c =
-    length_fits roles.Server c.self.invariant c.args.node c.args.number
-    (loan_named roles.Server c.self.invariant c.args.self.now c.self.view_is c.args.node c.args.number c.requires.has)
-    1 (subst (λ (d : HubState). (message_in d c.args.node c.args.number).elements ≡ 1) (sym c.self.view_is) c.requires.one)
+pub returns-in-Some-clause-whole : goal.returns-in-Some-clause-whole
+returns-in-Some-clause-whole g c = c.in-Some.ensures.written.whole
 
-pub write_one-place-requires-clause-kind : goal.write_one-place-requires-clause-kind
-write_one-place-requires-clause-kind g c =
-    kind_fits roles.Server c.self.invariant c.args.node c.args.number
-    (loan_named roles.Server c.self.invariant c.args.self.now c.self.view_is c.args.node c.args.number c.requires.has)
+pub returns-in-Some-clause-has : goal.returns-in-Some-clause-has
+returns-in-Some-clause-has g c = c.in-Some.ensures.written.has
 
-pub write_one_response_in-requires-clause-responses : goal.write_one_response_in-requires-clause-responses
-write_one_response_in-requires-clause-responses g c =
-    call_of (write_call roles.Server c.self.invariant c.args.self.now c.self.view_is c.args.node c.args.number c.requires.has c.write_one-place.ensures)
-
-pub write_one_response_in-requires-clause-there : goal.write_one_response_in-requires-clause-there
-write_one_response_in-requires-clause-there g c =
-    call_within (write_call roles.Server c.self.invariant c.args.self.now c.self.view_is c.args.node c.args.number c.requires.has c.write_one-place.ensures)
-
-pub write_one_response_in-requires-clause-one : goal.write_one_response_in-requires-clause-one
-write_one_response_in-requires-clause-one g c =
-    sym (call_equal (write_call roles.Server c.self.invariant c.args.self.now c.self.view_is c.args.node c.args.number c.requires.has c.write_one-place.ensures))
-
-pub invariant_of-self : goal.invariant_of-self
-invariant_of-self g c =
-    call_hub (write_call roles.Server c.self.invariant c.args.self.now c.self.view_is c.args.node c.args.number c.requires.has c.write_one-place.ensures) (flat_map g.P.Element.Words.words (c.args.value ∷ [])) _ c.write_one_response_in.ensures
+pub returns-in-Some-clause-keeps : goal.returns-in-Some-clause-keeps
+returns-in-Some-clause-keeps g c = c.in-Some.ensures.written.keeps
 
 pub returns-clause-left : goal.returns-clause-left
 returns-clause-left g c =
-    let call = write_call roles.Server c.self.invariant c.args.self.now c.self.view_is c.args.node c.args.number c.requires.has c.write_one-place.ensures in
-    rw (← c.self.view_is) (call_left call (flat_map g.P.Element.Words.words (c.args.value ∷ [])) _ c.write_one_response_in.ensures)
+    (subst (λ (d : HubState). WritesOne d c.args.node c.args.number roles.Server ResponseMut (flat_map g.P.Element.Words.words (c.args.value ∷ [])) c.write_response_far-node.result.place c.write_response_far-node.new.self)
+    (c.write_response_usual.ensures.unchanged c.in_default.is) c.write_response_far-node.ensures.written).left
 
 pub returns-clause-whole : goal.returns-clause-whole
 returns-clause-whole g c =
-    let call = write_call roles.Server c.self.invariant c.args.self.now c.self.view_is c.args.node c.args.number c.requires.has c.write_one-place.ensures in
-    rw (← c.self.view_is) (call_whole call (flat_map g.P.Element.Words.words (c.args.value ∷ [])) _ c.write_one_response_in.ensures)
+    (subst (λ (d : HubState). WritesOne d c.args.node c.args.number roles.Server ResponseMut (flat_map g.P.Element.Words.words (c.args.value ∷ [])) c.write_response_far-node.result.place c.write_response_far-node.new.self)
+    (c.write_response_usual.ensures.unchanged c.in_default.is) c.write_response_far-node.ensures.written).whole
 
 pub returns-clause-has : goal.returns-clause-has
 returns-clause-has g c =
-    let call = write_call roles.Server c.self.invariant c.args.self.now c.self.view_is c.args.node c.args.number c.requires.has c.write_one-place.ensures in
-    rw (← c.self.view_is) (call_written call (flat_map g.P.Element.Words.words (c.args.value ∷ [])) _ c.write_one_response_in.ensures)
+    (subst (λ (d : HubState). WritesOne d c.args.node c.args.number roles.Server ResponseMut (flat_map g.P.Element.Words.words (c.args.value ∷ [])) c.write_response_far-node.result.place c.write_response_far-node.new.self)
+    (c.write_response_usual.ensures.unchanged c.in_default.is) c.write_response_far-node.ensures.written).has
 
 pub returns-clause-keeps : goal.returns-clause-keeps
 returns-clause-keeps g c =
-    let call = write_call roles.Server c.self.invariant c.args.self.now c.self.view_is c.args.node c.args.number c.requires.has c.write_one-place.ensures in
-    rw (← c.self.view_is) (write_keeps call _ _ c.write_one_response_in.ensures)
+    (subst (λ (d : HubState). WritesOne d c.args.node c.args.number roles.Server ResponseMut (flat_map g.P.Element.Words.words (c.args.value ∷ [])) c.write_response_far-node.result.place c.write_response_far-node.new.self)
+    (c.write_response_usual.ensures.unchanged c.in_default.is) c.write_response_far-node.ensures.written).keeps

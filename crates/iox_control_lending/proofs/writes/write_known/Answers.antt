@@ -1,6 +1,6 @@
 use Rattle.std.proofs.Common.{Some}
 use Rattle.iox_control_lending.proofs.FitLemmas.{never_misfit}
-use Rattle.iox_control_lending.proofs.writes.write_far.Goals as goal
+use Rattle.iox_control_lending.proofs.writes.write_known.Goals as goal
 
 pub unreachable-requires : goal.unreachable-requires
 unreachable-requires c =
