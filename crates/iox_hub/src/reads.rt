@@ -107,6 +107,7 @@ impl<Q: Payload, QH: Words, P: Payload, PH: Words, H: Backpressure> Hub<Q, QH, P
     }
 
     /// The user header of the request that the handle has.
+    #[inline(always)]
     pub fn request_header(&self, node: u64, number: u64, hint: usize) -> &QH
         requires has { HasOf has_request self.now node number }
         ensures words { QH.words result.now ≡ (message_in self.now node number).user }
@@ -152,6 +153,7 @@ impl<Q: Payload, QH: Words, P: Payload, PH: Words, H: Backpressure> Hub<Q, QH, P
     }
 
     /// The user header of the response that the handle has.
+    #[inline(always)]
     pub fn response_header(&self, node: u64, number: u64, hint: usize) -> &PH
         requires has { HasOf has_response self.now node number }
         ensures words { PH.words result.now ≡ (message_in self.now node number).user }

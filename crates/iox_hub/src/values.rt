@@ -1,5 +1,5 @@
 //! Which values nodes have.
-ghost use Rattle.std.specs.Prelude.{◌≡◌, ◌↔◌, ◌==◌, ◌&&◌, IsTrue, Some, true};
+ghost use Rattle.std.specs.Prelude.{◌≡◌, ◌↔◌, ◌==◌, ◌&&◌, IfSome, IsTrue, Some, true};
 ghost use Rattle.iox_tables.specs.HubLoans.Questions.{kind_in, kind_of_role};
 ghost use Rattle.iox_hub.specs.Hubs.{HasValue};
 ghost use Rattle.iox_hub.specs.Sending.{is_handle};
@@ -68,14 +68,45 @@ impl<Q: Payload, QH: Words, P: Payload, PH: Words, H: Backpressure> Hub<Q, QH, P
         }
     }
 
-    /// Where the handle or the port of that number is likely: it may be looked for there first.
+    /// The kind of the node's handle or port of that number, if it has one that is not released and
+    /// stands where one of that number is likely. With it comes that place, which calls take as a
+    /// hint. `None` tells nothing: [`Hub::kind`] says whether there is one. A wrong place is only
+    /// slower.
     #[inline(always)]
-    pub fn likely_place(&self, number: u64) -> usize {
+    pub fn likely(&self, node: u64, number: u64) -> Option<(Kind, usize)>
+        ensures { IfSome result (λ found. HasValue self.now node number found.0) }
+    {
         let place = self.control.likely_handle(number);
-        if self.control.handles().near(number, place).is_some() {
-            return place;
+        if let Some(entry) = self.control.near(node, number, place) {
+            return Some((entry.kind, place));
         }
-        self.control.likely_place(number, place)
+        let place = number as usize;
+        if self.control.ports().is_near(number, place) {
+            return self.likely_port(node, number, place);
+        }
+        self.likely_port_far(node, number)
+    }
+
+    /// The same, of a port, if it is at the hint.
+    #[inline(always)]
+    fn likely_port(&self, node: u64, number: u64, hint: usize) -> Option<(Kind, usize)>
+        ensures { IfSome result (λ found. HasValue self.now node number found.0) }
+    {
+        let port = self.control.ports().near(number, hint)?;
+        if !is_held_by(port, node) {
+            return None;
+        }
+        Some((kind_of(port.role), hint))
+    }
+
+    /// The same, where no port stands in the place of its number. A call of its own, so that the
+    /// others are short.
+    #[inline(never)]
+    #[cold]
+    fn likely_port_far(&self, node: u64, number: u64) -> Option<(Kind, usize)>
+        ensures { IfSome result (λ found. HasValue self.now node number found.0) }
+    {
+        self.likely_port(node, number, self.place_of(number))
     }
 
     /// Where the handle that came last is: it may be looked for there first.

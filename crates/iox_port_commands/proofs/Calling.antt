@@ -5,7 +5,7 @@ use Rattle.std.proofs.Common.{sym, subst}
 use Rattle.iox_model.specs.declared.reply.PortReply as the_reply
 use Rattle.iox_model.specs.declared.reply.Refusal.TheVariants as refusals
 use Rattle.iox_model.specs.declared.reply.Reply.TheVariants as replies
-use Rattle.iox_model.specs.Commands.{Call, HubCommand, PortReply, Reply, Use, answer_of}
+use Rattle.iox_model.specs.Commands.{Call, HubCommand, PortReply, Reply, Use, answer_of, number_of}
 use Rattle.iox_model.specs.Makings.{IsHubCommand}
 use Rattle.iox_model.specs.Settings.{Shape}
 use Rattle.iox_model.specs.WholeCalls.{IsWholeCall}
@@ -42,6 +42,13 @@ pub called : {C Z : Type 0} (old new : HubState) (node : ℕ) (call : Call) (rep
     → IsCalled old node call reply new
 called old new node call reply r is whole x =
     said (reply_told reply) r (λ q. IsWholeCall (state_of_hub x old) node call q (state_of_hub x new)) is (whole x)
+
+-- a call that is not begun, as each of that number that asks the same
+pub refused : {C Z A : Type 0} {number : ℕ} {asks : Call → A} {asked : A} (h : HubState) (node : ℕ) (call : Call) (reply : the_reply.PortReply (Vec ℕ Z) C) (r : Reply)
+    → number_of call ≡ number → asks call ≡ asked → IsTheReply reply r
+    → ((x : Given) (k : Call) → number_of k ≡ number → asks k ≡ asked → IsWholeCall (state_of_hub x h) node k r (state_of_hub x h))
+    → IsCalled h node call reply h
+refused h node call reply r named asked is whole = called h h node call reply r is (λ x. whole x call named asked)
 
 -- ---- calls that may find no memory
 

@@ -12,7 +12,7 @@ ghost use Rattle.iox_port_commands.specs.Asking.{payload_for};
 ghost use Rattle.iox_port_commands.specs.Memory.{GrowsIfLent};
 ghost use Rattle.iox_port_commands.specs.Telling.{tells_want};
 
-use crate::answers::{answered, copied};
+use crate::answers::{answered, copied, not_begun};
 use crate::begins::begin;
 use crate::elements::Elements;
 use iox_hub::{Asked, Backpressure, Hub};
@@ -42,11 +42,10 @@ pub fn copy_request<Q: Payload, QH: Words, P: Payload, PH: Words, H: Backpressur
     ensures unchanged { OnErr result (hub.new ≡ hub.old) }
 {
     hub.is_in_order();
-    let place = hub.likely_place(number);
-    match begin(hub, node, number, place, Asked::SendCopy(Role::Client)) {
-        Ok(Kind::Client) => copied(hub.copy_request(node, number, values)),
+    match begin(hub, node, number, Asked::SendCopy(Role::Client)) {
+        Ok((Kind::Client, _)) => copied(hub.copy_request(node, number, values)),
         Ok(_) => unreachable!(),
-        Err(reply) => Ok(reply),
+        Err(reason) => Ok(not_begun(reason)),
     }
 }
 
@@ -70,11 +69,12 @@ pub fn copy_response<Q: Payload, QH: Words, P: Payload, PH: Words, H: Backpressu
     ensures unchanged { OnErr result (hub.new ≡ hub.old) }
 {
     hub.is_in_order();
-    let place = hub.likely_place(number);
-    match begin(hub, node, number, place, Asked::SendCopy(Role::Server)) {
-        Ok(Kind::ActiveRequest) => answered(hub.copy_response(node, number, place, values)),
+    match begin(hub, node, number, Asked::SendCopy(Role::Server)) {
+        Ok((Kind::ActiveRequest, place)) => {
+            answered(hub.copy_response(node, number, place, values))
+        }
         Ok(_) => unreachable!(),
-        Err(reply) => Ok(reply),
+        Err(reason) => Ok(not_begun(reason)),
     }
 }
 

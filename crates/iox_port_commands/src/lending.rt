@@ -5,7 +5,7 @@ ghost use Rattle.iox_model.specs.Commands.{Use};
 ghost use Rattle.iox_port_commands.specs.Applying.{HaveDefaults, IsCalled, LacksMemory, MustGrowIn};
 ghost use Rattle.iox_port_commands.specs.Telling.{tells_want};
 
-use crate::answers::lent;
+use crate::answers::{lent, not_begun};
 use crate::begins::begin;
 use iox_hub::{Asked, Backpressure, Hub};
 use iox_model::kind::Kind;
@@ -33,11 +33,12 @@ pub(crate) fn loan<Q: Payload, QH: Words, P: Payload, PH: Words, H: Backpressure
 {
     hub.is_in_order();
     let count = elements as usize;
-    let place = hub.likely_place(number);
-    match begin(hub, node, number, place, Asked::Loan) {
-        Ok(Kind::Client) => lent(hub.lend_request(node, number, place, count, false)),
-        Ok(Kind::ActiveRequest) => lent(hub.lend_response(node, number, place, count, false)),
+    match begin(hub, node, number, Asked::Loan) {
+        Ok((Kind::Client, place)) => lent(hub.lend_request(node, number, place, count, false)),
+        Ok((Kind::ActiveRequest, place)) => {
+            lent(hub.lend_response(node, number, place, count, false))
+        }
         Ok(_) => unreachable!(),
-        Err(reply) => Ok(reply),
+        Err(reason) => Ok(not_begun(reason)),
     }
 }

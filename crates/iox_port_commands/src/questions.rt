@@ -4,6 +4,7 @@ ghost use Rattle.iox_model.specs.declared.call.Call.TheVariants.{HasHint, HasReq
 ghost use Rattle.iox_port_commands.specs.Applying.{IsCalled};
 ghost use Rattle.iox_port_commands.specs.Telling.{tells_want};
 
+use crate::answers::not_begun;
 use crate::begins::begin;
 use iox_hub::{Asked, Backpressure, Hub};
 use iox_model::kind::Kind;
@@ -20,10 +21,9 @@ pub(crate) fn is_connected<Q: Payload, QH: Words, P: Payload, PH: Words, H: Back
     ensures whole { IsCalled hub.now node (IsConnected number) result hub.now }
     ensures memory { tells_want result ≡ false }
 {
-    let place = hub.likely_place(number);
-    match begin(hub, node, number, place, Asked::IsConnected) {
-        Ok(_) => PortReply::Answer(hub.is_connected(node, number, place)),
-        Err(reply) => reply,
+    match begin(hub, node, number, Asked::IsConnected) {
+        Ok((_, place)) => PortReply::Answer(hub.is_connected(node, number, place)),
+        Err(reason) => not_begun(reason),
     }
 }
 
@@ -37,14 +37,13 @@ pub(crate) fn set_hint<Q: Payload, QH: Words, P: Payload, PH: Words, H: Backpres
     ensures whole { IsCalled hub.old node (SetHint number) result hub.new }
     ensures memory { tells_want result ≡ false }
 {
-    let place = hub.likely_place(number);
-    match begin(hub, node, number, place, Asked::SetHint) {
-        Ok(Kind::PendingResponse) => {
+    match begin(hub, node, number, Asked::SetHint) {
+        Ok((Kind::PendingResponse, place)) => {
             hub.set_hint(node, number, place);
             PortReply::Done
         }
         Ok(_) => unreachable!(),
-        Err(reply) => reply,
+        Err(reason) => not_begun(reason),
     }
 }
 
@@ -57,11 +56,10 @@ pub(crate) fn has_hint<Q: Payload, QH: Words, P: Payload, PH: Words, H: Backpres
     ensures whole { IsCalled hub.now node (HasHint number) result hub.now }
     ensures memory { tells_want result ≡ false }
 {
-    let place = hub.likely_place(number);
-    match begin(hub, node, number, place, Asked::HasHint) {
-        Ok(Kind::ActiveRequest) => PortReply::Answer(hub.has_hint(node, number, place)),
+    match begin(hub, node, number, Asked::HasHint) {
+        Ok((Kind::ActiveRequest, place)) => PortReply::Answer(hub.has_hint(node, number, place)),
         Ok(_) => unreachable!(),
-        Err(reply) => reply,
+        Err(reason) => not_begun(reason),
     }
 }
 
@@ -74,11 +72,10 @@ pub(crate) fn has_requests<Q: Payload, QH: Words, P: Payload, PH: Words, H: Back
     ensures whole { IsCalled hub.now node (HasRequests number) result hub.now }
     ensures memory { tells_want result ≡ false }
 {
-    let place = hub.likely_place(number);
-    match begin(hub, node, number, place, Asked::HasRequests) {
-        Ok(Kind::Server) => PortReply::Answer(hub.has_requests(node, number)),
+    match begin(hub, node, number, Asked::HasRequests) {
+        Ok((Kind::Server, _)) => PortReply::Answer(hub.has_requests(node, number)),
         Ok(_) => unreachable!(),
-        Err(reply) => reply,
+        Err(reason) => not_begun(reason),
     }
 }
 
@@ -91,10 +88,11 @@ pub(crate) fn has_response<Q: Payload, QH: Words, P: Payload, PH: Words, H: Back
     ensures whole { IsCalled hub.now node (HasResponse number) result hub.now }
     ensures memory { tells_want result ≡ false }
 {
-    let place = hub.likely_place(number);
-    match begin(hub, node, number, place, Asked::HasResponse) {
-        Ok(Kind::PendingResponse) => { PortReply::Answer(hub.has_response(node, number, place)) }
+    match begin(hub, node, number, Asked::HasResponse) {
+        Ok((Kind::PendingResponse, place)) => {
+            PortReply::Answer(hub.has_response(node, number, place))
+        }
         Ok(_) => unreachable!(),
-        Err(reply) => reply,
+        Err(reason) => not_begun(reason),
     }
 }

@@ -6,6 +6,7 @@ ghost use Rattle.iox_hub.specs.Reads.{HasOf, has_request, has_response};
 ghost use Rattle.iox_port_commands.specs.Applying.{IsCalled, LacksMemory};
 ghost use Rattle.iox_port_commands.specs.Telling.{tells_want};
 
+use crate::answers::not_begun;
 use crate::begins::begin;
 use crate::word_lists::words_of;
 use iox_hub::{Asked, Backpressure, Hub};
@@ -72,13 +73,14 @@ pub fn read<Q: Payload, QH: Words, P: Payload, PH: Words, H: Backpressure, C>(
     ensures memory { IfOk result (λ reply. tells_want reply ≡ false) }
     ensures wanting { OnErr result (LacksMemory hub.now node (Use (Read number)) hub.now) }
 {
-    let place = hub.likely_place(number);
-    match begin(hub, node, number, place, Asked::Read) {
-        Ok(Kind::RequestMut | Kind::PendingResponse | Kind::ActiveRequest) => {
+    match begin(hub, node, number, Asked::Read) {
+        Ok((Kind::RequestMut | Kind::PendingResponse | Kind::ActiveRequest, place)) => {
             read_request(hub, alloc, node, number, place)
         }
-        Ok(Kind::ResponseMut | Kind::Response) => read_response(hub, alloc, node, number, place),
+        Ok((Kind::ResponseMut | Kind::Response, place)) => {
+            read_response(hub, alloc, node, number, place)
+        }
         Ok(_) => unreachable!(),
-        Err(reply) => Ok(reply),
+        Err(reason) => Ok(not_begun(reason)),
     }
 }

@@ -4,7 +4,7 @@ ghost use Rattle.iox_model.specs.declared.call.Call.TheVariants.{Receive};
 ghost use Rattle.iox_port_commands.specs.Applying.{IsCalled};
 ghost use Rattle.iox_port_commands.specs.Telling.{tells_want};
 
-use crate::answers::received;
+use crate::answers::{not_begun, received};
 use crate::begins::begin;
 use iox_hub::{Asked, Backpressure, Hub};
 use iox_model::kind::Kind;
@@ -22,11 +22,10 @@ pub fn receive<Q: Payload, QH: Words, P: Payload, PH: Words, H: Backpressure, C>
     ensures whole { IsCalled hub.old node (Receive number) result hub.new }
     ensures memory { tells_want result ≡ false }
 {
-    let place = hub.likely_place(number);
-    match begin(hub, node, number, place, Asked::Receive) {
-        Ok(Kind::Server) => received(hub.receive_request(node, number, place)),
-        Ok(Kind::PendingResponse) => received(hub.receive_response(node, number, place)),
+    match begin(hub, node, number, Asked::Receive) {
+        Ok((Kind::Server, place)) => received(hub.receive_request(node, number, place)),
+        Ok((Kind::PendingResponse, place)) => received(hub.receive_response(node, number, place)),
         Ok(_) => unreachable!(),
-        Err(reply) => reply,
+        Err(reason) => not_begun(reason),
     }
 }

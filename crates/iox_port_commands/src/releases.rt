@@ -4,6 +4,7 @@ ghost use Rattle.iox_model.specs.declared.call.Call.TheVariants.{Release};
 ghost use Rattle.iox_port_commands.specs.Applying.{IsCalled};
 ghost use Rattle.iox_port_commands.specs.Telling.{tells_want};
 
+use crate::answers::not_begun;
 use crate::begins::begin;
 use iox_hub::{Asked, Backpressure, Hub};
 use iox_model::kind::Kind;
@@ -20,16 +21,15 @@ pub(crate) fn release<Q: Payload, QH: Words, P: Payload, PH: Words, H: Backpress
     ensures whole { IsCalled hub.old node (Release number) result hub.new }
     ensures memory { tells_want result ≡ false }
 {
-    let place = hub.likely_place(number);
-    match begin(hub, node, number, place, Asked::Release) {
-        Ok(Kind::Client | Kind::Server) => {
+    match begin(hub, node, number, Asked::Release) {
+        Ok((Kind::Client | Kind::Server, _)) => {
             hub.release_port(node, number);
             PortReply::Done
         }
-        Ok(_) => {
+        Ok((_, place)) => {
             hub.release(node, number, place);
             PortReply::Done
         }
-        Err(reply) => reply,
+        Err(reason) => not_begun(reason),
     }
 }

@@ -4,7 +4,7 @@ ghost use Rattle.iox_model.specs.declared.call.Call.TheVariants.{Send};
 ghost use Rattle.iox_port_commands.specs.Applying.{IsCalled};
 ghost use Rattle.iox_port_commands.specs.Telling.{tells_want};
 
-use crate::answers::{requested, responded};
+use crate::answers::{not_begun, requested, responded};
 use crate::begins::begin;
 use iox_hub::{Asked, Backpressure, Hub};
 use iox_model::kind::Kind;
@@ -21,11 +21,10 @@ pub(crate) fn send<Q: Payload, QH: Words, P: Payload, PH: Words, H: Backpressure
     ensures whole { IsCalled hub.old node (Send number) result hub.new }
     ensures memory { tells_want result ≡ false }
 {
-    let place = hub.likely_place(number);
-    match begin(hub, node, number, place, Asked::Send) {
-        Ok(Kind::RequestMut) => requested(hub.send_request(node, number, place)),
-        Ok(Kind::ResponseMut) => responded(hub.send_response(node, number, place)),
+    match begin(hub, node, number, Asked::Send) {
+        Ok((Kind::RequestMut, place)) => requested(hub.send_request(node, number, place)),
+        Ok((Kind::ResponseMut, place)) => responded(hub.send_response(node, number, place)),
         Ok(_) => unreachable!(),
-        Err(reply) => reply,
+        Err(reason) => not_begun(reason),
     }
 }

@@ -5,6 +5,7 @@ use iox_words::Words;
 use std::alloc::{AllocError, Global};
 
 /// Adds the words of a value behind the others.
+#[inline(always)]
 fn push_words<T: Words>(list: &mut Vec<u64>, value: T) -> Result<(), AllocError>
     ensures { OnOk result (list.new.items ≡ list.old.items ++ T.words value) }
 {
@@ -16,6 +17,7 @@ fn push_words<T: Words>(list: &mut Vec<u64>, value: T) -> Result<(), AllocError>
 }
 
 /// The words of a user header, and those of elements behind them.
+#[inline(always)]
 pub(crate) fn words_of<H: Words, E: Words>(
     alloc: Global,
     header: &H,

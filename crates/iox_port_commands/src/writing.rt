@@ -7,7 +7,7 @@ ghost use Rattle.iox_port_commands.specs.Applying.{IsCalled};
 ghost use Rattle.iox_port_commands.specs.Asking.{payload_for};
 ghost use Rattle.iox_port_commands.specs.Telling.{tells_want};
 
-use crate::answers::written;
+use crate::answers::{not_begun, written};
 use crate::begins::begin;
 use crate::elements::Elements;
 use iox_hub::{Asked, Backpressure, Hub};
@@ -28,10 +28,9 @@ fn write_request<Q: Payload, QH: Words, P: Payload, PH: Words, H: Backpressure, 
         (flat_map Q.Element.words values.now))) result hub.new }
     ensures memory { tells_want result ≡ false }
 {
-    let place = hub.likely_place(number);
-    match begin(hub, node, number, place, Asked::Write(Role::Client)) {
-        Ok(_) => written(hub.write_request(node, number, place, values)),
-        Err(reply) => reply,
+    match begin(hub, node, number, Asked::Write(Role::Client)) {
+        Ok((_, place)) => written(hub.write_request(node, number, place, values)),
+        Err(reason) => not_begun(reason),
     }
 }
 
@@ -47,10 +46,9 @@ fn write_response<Q: Payload, QH: Words, P: Payload, PH: Words, H: Backpressure,
         (flat_map P.Element.words values.now))) result hub.new }
     ensures memory { tells_want result ≡ false }
 {
-    let place = hub.likely_place(number);
-    match begin(hub, node, number, place, Asked::Write(Role::Server)) {
-        Ok(_) => written(hub.write_response(node, number, place, values)),
-        Err(reply) => reply,
+    match begin(hub, node, number, Asked::Write(Role::Server)) {
+        Ok((_, place)) => written(hub.write_response(node, number, place, values)),
+        Err(reason) => not_begun(reason),
     }
 }
 
