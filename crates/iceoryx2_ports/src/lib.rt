@@ -1,5 +1,7 @@
-//! Clients and servers: the typed ports of a hub, and the handles of their messages. Each call is
-//! one whole call of the machine that copies messages.
+//! Clients and servers: the typed ports of a hub, and the handles of their messages. Each call of a
+//! port or a handle is one whole call of the machine that copies messages, and each making is one
+//! command of it. A release is one whole call, unless a command let the value go before: then
+//! nothing changes. A filling writes to a loan what its holder says, and changes nothing else.
 #![tactic(auto)]
 
 mod active_request;

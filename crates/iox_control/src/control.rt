@@ -35,8 +35,8 @@ use std::marker::Model;
 pub struct Control {
     pub(crate) settings: Settings,
     pub(crate) calls: u64,
-    // Not beside the other count that each new handle raises: two additions of one are shorter than
-    // one of both, as a compiler makes it.
+    // It stands between the two counts that each new handle raises. Side by side, a compiler adds to
+    // both at once, which takes longer.
     pub(crate) ports_made: u64,
     pub(crate) next_number: u64,
     pub(crate) ports: Ports,

@@ -92,8 +92,8 @@ impl Control {
     }
 
     /// Fills the node's loan of that number, which it has, whose message has so many elements, and
-    /// which is of that kind once it is filled, if its handle is at the hint, and tells that as it
-    /// is now. `None` says that nothing changed.
+    /// which is of that kind once it is filled, if its handle is at the hint. It tells the handle as
+    /// it is now. `None` says that nothing changed.
     #[inline(always)]
     pub fn fill_near(
         &mut self,

@@ -49,16 +49,6 @@ impl Control {
         self.ports.deliver(way, slot)
     }
 
-    /// The same, but where as many wait as may, the oldest is pushed out first: it is its sender's
-    /// again.
-    pub fn push(&mut self, way: Way, slot: u64) -> Option<u64>
-        ensures oldest { result ≡ on_way pushed_out None self.old.tables.ports way }
-        ensures pushed { self.new
-            ≡ with_tables self.old (with_lanes (λ l. pushed l slot) self.old.tables (way ∷ [])) }
-    {
-        self.ports.push(way, slot)
-    }
-
     // ---- for each port in its place
 
     /// How often the port in that place gave the slot back on the lane from the sender, so that it

@@ -7,7 +7,7 @@ ghost use Rattle.iox_handles.specs.Least.{least};
 ghost use Rattle.iox_hub_ports.specs.HubStates.Ends.{with_changed};
 ghost use Rattle.iox_hub_ports.specs.HubStates.Tables.{pool_at, slot_at};
 ghost use Rattle.iox_hub_ports.specs.HubStates.Wirings.{handle_in};
-ghost use Rattle.iox_slots.specs.Pools.{Acquires, Takes, free_count, has_slot, is_idle, is_taken_at, with_slot};
+ghost use Rattle.iox_slots.specs.Pools.{Takes, free_count, has_slot, is_idle, is_taken_at, with_slot};
 ghost use Rattle.iox_slots.specs.Slots.{let_go, taken, written};
 ghost use Rattle.iox_control.specs.Controls.{with_handle_dropped, with_pools, with_tables};
 ghost use Rattle.iox_control.specs.Entries.{handle_state};
@@ -17,18 +17,6 @@ use iox_handles::{Entry, Numbered};
 
 impl Control {
     // ---- slots
-
-    /// One has a slot that nobody had, and this is its number. It is `None` exactly if there is
-    /// none, and then nothing changes.
-    pub fn acquire(&mut self, pool: usize) -> Option<u64>
-        ensures acquired { IfSome result (λ k.
-            Acquires self.old.tables.pools pool k self.new.tables.pools) }
-        ensures left { self.new ≡ with_pools self.old self.new.tables.pools }
-        ensures full { result ≡ None ↔ free_count self.old.tables.pools pool ≡ 0 }
-        ensures unchanged { result ≡ None → self.new ≡ self.old }
-    {
-        self.pools.acquire(pool)
-    }
 
     /// One has a slot that nobody had, of a pool that is there, with that message, and this is its
     /// number. It is `None` exactly if there is none, and then nothing changes.

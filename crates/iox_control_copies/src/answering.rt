@@ -14,10 +14,9 @@ ghost use Rattle.iox_control_copies.specs.Answers.{CopyComesTo, AnswersThen, way
 use crate::answered::Answered;
 use crate::lining::put_in_line;
 use crate::losing::lose;
-use crate::shutting::is_shut;
 use iox_control::Control;
 use iox_control_lending::{Asked, Lending, loan_refusal};
-use iox_control_responses::{Target, retrieve_all_in};
+use iox_control_responses::{Target, is_shut, retrieve_all_in};
 use iox_model::way::Way;
 
 /// Copies for that lender, whose port is in that place, where some slot of its pool is free: it is

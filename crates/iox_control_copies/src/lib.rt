@@ -6,7 +6,6 @@ mod answering;
 mod copying;
 mod lining;
 mod losing;
-mod shutting;
 pub mod uses;
 
 pub use answered::Answered;

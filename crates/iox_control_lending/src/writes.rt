@@ -94,9 +94,9 @@ pub fn write(
     })
 }
 
-/// Fills a loan with a payload of as many whole elements as its message has, where it is of that
-/// kind once it is filled, if its handle is at the hint, and tells where its words lie. `None` says
-/// that nothing changed.
+/// Fills a loan, which is of that kind once it is filled, with a payload of as many whole elements
+/// as its message has, if its handle is at the hint. It tells where its words lie. `None` says that
+/// nothing changed.
 #[inline(always)]
 pub fn write_whole(
     control: &mut Control,

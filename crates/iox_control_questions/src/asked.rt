@@ -82,7 +82,7 @@ fn is_either(kind: Kind, one: Kind, other: Kind) -> bool
     is_same_kind(kind, one) || is_same_kind(kind, other)
 }
 
-/// Whether that may be asked of a port or handle of the kind.
+/// Whether that may be asked of a port or handle of the kind, whatever its number.
 #[inline]
 pub fn may_be_asked(asked: Asked, kind: Kind) -> bool
     ensures { result ≡ suits false (call_of 0 asked) kind }

@@ -1,7 +1,6 @@
 //! The send of a response.
 #![tactic(auto)]
 
-mod awaited;
 mod failing;
 mod handing;
 mod near;
@@ -12,10 +11,9 @@ mod targets;
 pub mod uses;
 mod usual;
 
-pub use awaited::is_awaited;
 pub use failing::fails_when_full;
 pub use iox_control_retrieving::{retrieve_all, retrieve_all_in};
-pub use offering::offer_response;
+pub use offering::{is_shut, offer_response};
 pub use responded::Responded;
 pub use sending::send_response;
 pub use targets::{Target, find_awaiting};

@@ -34,7 +34,8 @@ fn lane_is_sound(control: &Control, way: Way)
 }
 
 /// Whether a response may not wait on the way: as many wait as may, and none of them is pushed out.
-fn is_shut(control: &Control, way: Way) -> bool
+#[inline(always)]
+pub fn is_shut(control: &Control, way: Way) -> bool
     ensures shut { result ≡ (on_way is_full true control.now.tables.ports way
         && not control.now.tables.settings.response_overflow) }
     ensures sound { (l : LaneState) → lane_on control.now.tables.ports way ≡ Some l → IsSound l }

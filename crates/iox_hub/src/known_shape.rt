@@ -77,7 +77,8 @@ impl<E: Words, H: Words> KnownShape<E, H> {
         }
     }
 
-    /// Whether so many elements are few: then one look tells that their message can be addressed.
+    /// Whether so many elements are few: then one look tells that their message can be addressed. It
+    /// only chooses the faster way.
     #[inline(always)]
     pub(crate) fn is_few(&self, elements: u64) -> bool {
         elements < self.below

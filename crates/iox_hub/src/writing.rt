@@ -39,8 +39,8 @@ fn write_loan(control: &mut Control, node: u64, number: u64, hint: usize, count:
     write(control, node, number, hint, Some(count as u64))
 }
 
-/// The one element of the node's loan is written, if its handle is at the hint: it is of that kind
-/// then. `None` says that nothing changed.
+/// The node's loan of one element is filled in the tables, if its handle is at the hint. It is of
+/// that kind then. `None` says that nothing changed.
 #[inline(always)]
 fn write_one(
     control: &mut Control,

@@ -82,7 +82,3 @@ lowest_at ports i s p apart h e =
     let at : slice_get ports i ≡ Some p = get_in ports i p h e in
     ap (λ o. lane_to_get_on (option_map_or pipes_of o []) s) (sym (first_at ports i p apart at))
     ∙ ap (λ o. option_map_or (λ (q : PortState). lane_to_get_on (option_map_or pipes_of (port_in ports q.number) []) s) o None) (sym at)
-
-pub lowest_past : (ports : List PortState) (i s : ℕ) → length ports ≤ i → None ≡ lane_to_get_at ports i s
-lowest_past ports i s h =
-    ap (λ o. option_map_or (λ (q : PortState). lane_to_get_on (option_map_or pipes_of (port_in ports q.number) []) s) o None) (sym (none_at ports i h))

@@ -44,8 +44,8 @@ impl Table {
         None
     }
 
-    /// Where the handle of that number is likely: there the last came of those of which the numbers
-    /// have its remainder.
+    /// Where the handle of that number likely is: where the last handle came whose number has the
+    /// same remainder. A wrong place is only slower.
     #[inline(always)]
     pub fn likely_place(&self, number: u64) -> usize {
         self.likely[remainder(number)]
