@@ -168,8 +168,9 @@ fn end_pending(control: &mut Control, node: u64, number: u64, hint: usize) -> Op
 }
 
 /// Ends the node's loan of that number, which is of that kind or filled meanwhile, if that is
-/// usual. Its message is of its port's pool, so that stays with its port.
-#[inline(always)]
+/// usual. Its message is of its port's pool, so that stays with its port. A call of its own, so
+/// that the other ways stay short enough to be inlined.
+#[inline(never)]
 fn end_loan(control: &mut Control, node: u64, number: u64, kind: Kind, hint: usize) -> Option<Entry>
     requires order { IsControl control.old }
     requires loan { is_loan kind ≡ true }
