@@ -148,8 +148,8 @@ impl<Q: Payload, QH: Words, P: Payload, PH: Words, H: Backpressure> Hub<Q, QH, P
         }
     }
 
-    /// The same, where it is not known at once that the message has room. What the call tells is put together anew, so that it
-    /// stays in registers where it is not called.
+    /// The same, where it is not known at once that the message has room. What the call tells is put
+    /// together anew, so that it stays in registers where it is not called.
     #[inline(always)]
     fn lend_request_other(&mut self, node: u64, client: u64, elements: usize, uninit: bool) -> Lent
         requires has { HasValue self.old node client Client }
