@@ -88,7 +88,7 @@ def section():
 
 def text_of(name):
     """All that the crate says: code, statements, proofs and edits."""
-    files = [it for part in ("src", "specs", "proofs", "must-fail", "wrong-bodies") for it in (TOP / "crates" / name / part).rglob("*.*")]
+    files = [it for part in ("src", "specs", "proofs", "must-fail", "promises", "wrong-bodies") for it in (TOP / "crates" / name / part).rglob("*.*")]
     return "\n".join(it.read_text() for it in files if it.suffix in (".rt", ".antt", ".edit"))
 
 

@@ -5,7 +5,8 @@
     tools/promises.py --check    says what is wrong; exit 1 if anything is
 
 Each name in the table, between two *, is an edit of a crate: its file's name with spaces for underscores. It stands in the
-crate's folder must-fail/ or wrong-bodies/. Of each row, one at least stands in must-fail/. No crate has an edit in both.
+crate's folder must-fail/, promises/ or wrong-bodies/. Of each row, one at least stands in must-fail/ or promises/, which the
+gate always tries. No crate has an edit in two of them.
 """
 import pathlib
 import re
@@ -13,12 +14,14 @@ import sys
 
 TOP = pathlib.Path(__file__).resolve().parent.parent
 PAGE = TOP / "docs" / "WRONG_BODIES.md"
+# The folders whose edits the gate always tries.
+ALWAYS = ("must-fail", "promises")
 
 
 def standing():
     """Returns, by name, the folders in which an edit stands, as 'iox_run/must-fail'."""
     found = {}
-    for folder in ("must-fail", "wrong-bodies"):
+    for folder in (*ALWAYS, "wrong-bodies"):
         for file in sorted(TOP.glob(f"crates/*/{folder}/*.edit")):
             name = file.stem.replace("_", " ")
             found.setdefault(name, []).append(f"{file.parent.parent.name}/{folder}")
@@ -36,11 +39,11 @@ def faults():
     found, wrong = standing(), []
     for promise, names in rows():
         wrong += [f"'{it}' is no edit of a crate ({promise})" for it in names if it not in found]
-        if not any(at.endswith("/must-fail") for it in names for at in found.get(it, [])):
-            wrong.append(f"no edit of must-fail/ stands for the promise: {promise}")
+        if not any(at.partition("/")[2] in ALWAYS for it in names for at in found.get(it, [])):
+            wrong.append(f"no edit of must-fail/ or promises/ stands for the promise: {promise}")
     for name, folders in found.items():
         crates = [it.partition("/")[0] for it in folders]
-        wrong += [f"'{name}' stands in both folders of {it}" for it in sorted({*crates}) if crates.count(it) > 1]
+        wrong += [f"'{name}' stands in two folders of {it}" for it in sorted({*crates}) if crates.count(it) > 1]
     return wrong if rows() else [f"{PAGE.name} has no table of promises"]
 
 

@@ -316,7 +316,7 @@ def in_label(before, behind):
 
 
 def edit(tree, path, text):
-    """An edit of a must-fail or wrong-bodies folder: its code is turned as that of the file that it names."""
+    """An edit of a must-fail, promises or wrong-bodies folder: its code is turned as that of the file that it names."""
     crate = path.rsplit("/", 2)[0]
     out, at = [], None
     for piece in re.split(r"(?m)^(?=file: )", text):

@@ -5,8 +5,8 @@ usage: wrong_bodies.py [--must-fail | --dir FOLDER] [--jobs N] [--minutes N] [--
        wrong_bodies.py --self-test
 
 Run it at the top of the checkout. For each crate that is named, or else for each that has any, it takes the edits
-crates/CRATE/FOLDER/*.edit (FOLDER: wrong-bodies if left out), written as for rt must-fail. With --must-fail it takes those of
-crates/CRATE/must-fail, whose weak refusals rt must-fail does not tell. The prover must refuse each, and a goal of a contract
+crates/CRATE/FOLDER/*.edit (FOLDER: wrong-bodies if left out; the gate tries promises, too), written as for rt must-fail. With --must-fail
+it takes those of crates/CRATE/must-fail, whose weak refusals rt must-fail does not tell. The prover must refuse each, and a goal of a contract
 must fall. One line is printed for each edit, and last 'N passed, M failed':
 
   CRATE/EDIT: refused FUNCTION: GOAL    passed: the function's own GOAL is open
