@@ -58,6 +58,8 @@ mod stops_of_refused_sends;
 #[cfg(test)]
 mod stops_of_releases;
 #[cfg(test)]
+mod stops_of_sends;
+#[cfg(test)]
 mod stops_on_other_wires;
 #[cfg(test)]
 mod stops_on_returns;
