@@ -50,6 +50,8 @@ abbrev pub IsSideReady : {A : Type 0} → {width : ℕ} → CellSite → CellSid
 IsSideReady site (Pusher pushes) = IsPusherReady site pushes
 IsSideReady site (Popper pops) = IsPopperReady site pops
 
+-- ---- proofs that a ghost field of the code needs
+
 -- two proofs that such a word is in memory are equal
 IsWordInMemory-prop : (site : CellSite) (cell word : ℕ) → IsProp (IsWordInMemory site cell word)
 IsWordInMemory-prop site cell word = ×_prop le_prop le_prop
