@@ -13,7 +13,7 @@ use Rattle.iox_wire.proofs.Recorded.{events_by}
 use Rattle.iox_wire.proofs.Stepping as stepping
 use Rattle.iox_wire.proofs.Stepping.{goes_on, is_over, nothing_replied}
 use Rattle.iox_wire.proofs.WireSteps.{there}
-use Rattle.iox_wire.proofs.wire.Wire.make_step.Goals as goal
+use Rattle.iox_wire.proofs.wire.Wire.any_step.Goals as goal
 
 -- ---- numbers
 
