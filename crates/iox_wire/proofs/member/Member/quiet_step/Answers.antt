@@ -17,26 +17,26 @@ quiet_step-requires-clause-within c =
       subst (λ (k : NodeView). IsWithin 0 (length c.args.words.now.items) (access_in c.requires.may.0 k)) (sym same) c.requires.may.1.within,
     )
 
-pub returns-in_ok-seen-clause-seen : goal.returns-in_ok-seen-clause-seen
-returns-in_ok-seen-clause-seen c p may =
+pub returns-clause-seen : goal.returns-clause-seen
+returns-clause-seen c p may =
     let same : c.self.inside.node ≡ c.args.self.now.node = ap (λ (m : WireNode). m.node) c.self.view_is in
     (c.in_ok-seen.ensures.quiet p (subst (IsAimed p) (sym same) may.aimed)).finds
     ∙ ap (λ (k : NodeView). seen_at (access_in p k) c.args.words.now.items) same
 
-pub returns-in_ok-seen-clause-words : goal.returns-in_ok-seen-clause-words
-returns-in_ok-seen-clause-words c p may =
+pub returns-clause-words : goal.returns-clause-words
+returns-clause-words c p may =
     let same : c.self.inside.node ≡ c.args.self.now.node = ap (λ (m : WireNode). m.node) c.self.view_is in
     (c.in_ok-seen.ensures.quiet p (subst (IsAimed p) (sym same) may.aimed)).leaves
     ∙ ap (λ (k : NodeView). words_after (access_in p k) c.args.words.now.items) same
 
-pub returns-in_ok-seen-clause-event : goal.returns-in_ok-seen-clause-event
-returns-in_ok-seen-clause-event c p aim =
+pub returns-clause-event : goal.returns-clause-event
+returns-clause-event c p aim =
     let same : c.self.inside.node ≡ c.args.self.now.node = ap (λ (m : WireNode). m.node) c.self.view_is in
     sym ((c.in_ok-seen.ensures.quiet p (subst (IsAimed p) (sym same) aim)).event)
     ∙ ap (λ (k : NodeView). slot_event p (seat_in k).local c.in_ok-seen.seen) same
 
-pub returns-in_ok-seen-clause-made : goal.returns-in_ok-seen-clause-made
-returns-in_ok-seen-clause-made c p words may saw =
+pub returns-clause-made : goal.returns-clause-made
+returns-clause-made c p words may saw =
     has_gone_on p c.self.inside.node c.args.self.now.node (ap (λ (m : WireNode). m.node) c.self.view_is) words may c.in_ok-seen.seen saw
     c.quiet_step.new.self None (λ q aim. (c.in_ok-seen.ensures.quiet q aim).goes) (λ q aim. (c.in_ok-seen.ensures.quiet q aim).tells_none)
     tt c.in_ok-seen.ensures.ready c.in_ok-seen.ensures.aimed c.in_ok-seen.ensures.room c.in_ok-seen.ensures.call

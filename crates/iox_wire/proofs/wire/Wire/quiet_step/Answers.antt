@@ -3,6 +3,7 @@ use Rattle.std.proofs.Common.{◌≡◌, ℕ, ◌+◌, ◌-◌, ◌<◌, ◌≤�
 use Rattle.iox_steps.specs.declared.access.Progress.TheVariants.{Going}
 use Rattle.iox_wire_weaves.specs.Steps.{MakesOneAccess, step_refusal}
 use Rattle.iox_wire_weaves.specs.Wires.{Shows, WireData, WireNode, node_at}
+use Rattle.iox_wire.specs.Kept.{IsShown, StandInOrder}
 use Rattle.iox_wire.proofs.InOrder.{in_order_still}
 use Rattle.iox_wire.proofs.Places.{unchanged_there}
 use Rattle.iox_wire.proofs.Recorded.{events_by}
@@ -30,6 +31,19 @@ quiet_step-requires-clause-few c =
     let goes : step_refusal w c.args.node ≡ None = ap (λ (v : WireData). step_refusal v c.args.node) c.self.view_is ∙ c.requires.goes in
     stepping.few w c.args.node c.args.place c.index_mut-member.result.now c.index_mut-member.result.now first c.index_mut-member.ensures.value c.index_mut-member.ensures.value c.self.invariant.1 goes
 
+-- it is as it was
+pub invariant_of-self : goal.invariant_of-self
+invariant_of-self c =
+    let nodes : slice_set c.self.inside.members.items c.args.place c.quiet_step.new.self ≡ c.self.inside.members.items =
+    unchanged_there c.self.inside.members.items c.args.place c.index_mut-member.result.now c.quiet_step.new.self c.index_mut-member.ensures.value (c.quiet_step.ensures.unchanged c.in_default.is) in
+    let words : c.quiet_step.new.words.items ≡ c.self.inside.words.items = ap (λ v. v.items) (c.quiet_step.ensures.words_unchanged c.in_default.is) in (
+      c.self.invariant.0,
+      subst (λ (ws : List ℕ). IsShown (record { plan = c.self.inside.places; terms = c.self.inside.terms; words = ws; nodes = slice_set c.self.inside.members.items c.args.place c.quiet_step.new.self; replies = c.self.inside.replies.finished; events = events_by c.self.inside.events.items; room = c.self.inside.room })) (sym words)
+          (subst (λ (ns : List WireNode). IsShown (record { plan = c.self.inside.places; terms = c.self.inside.terms; words = c.self.inside.words.items; nodes = ns; replies = c.self.inside.replies.finished; events = events_by c.self.inside.events.items; room = c.self.inside.room })) (sym nodes) c.self.invariant.1),
+      c.self.invariant.2,
+      subst (StandInOrder c.self.inside.in_order) (sym nodes) c.self.invariant.3,
+    )
+
 pub invariant_of-self-2 : goal.invariant_of-self-2
 invariant_of-self-2 c = (
   c.self.invariant.0,
@@ -39,12 +53,12 @@ invariant_of-self-2 c = (
       stepping.shown_now w c.args.node c.args.place c.index_mut-member.result.now c.index_mut-member.result.now first c.index_mut-member.ensures.value c.index_mut-member.ensures.value c.self.invariant.1 goes
       c.in-Some.field-0 c.quiet_step.new.words.items None c.in-Some.ensures.seen c.in-Some.ensures.words (λ q aimed. c.in-Some.ensures.event q aimed)
       None c.quiet_step.new.self c.quiet_step.new.self c.in-Some.ensures.made c.in-Some.ensures.number c.in-Some.ensures.lives c.in-Some.ensures.call c.in-Some.ensures.rooms (goes_on c.quiet_step.new.self)
-    w.replies w.events _ (sym (append-nil w.events)) (nothing_replied w.replies c.quiet_step.new.self.number c.quiet_step.new.self c.quiet_step.new.self.node.seat.words (length w.events)),
+      w.replies w.events _ (sym (append-nil w.events)) (nothing_replied w.replies c.quiet_step.new.self.number c.quiet_step.new.self c.quiet_step.new.self.node.seat.words (length w.events)),
   let fit = c.self.invariant.2 in record {
-        replies = fewer c.self.inside.room c.self.inside.replies.room fit.replies;
-        longest = fit.longest;
-        events = less_room (vec_len c.self.inside.events) c.self.inside.room (vec_capacity c.self.inside.events) fit.events;
-      },
+    replies = fewer c.self.inside.room c.self.inside.replies.room fit.replies;
+    longest = fit.longest;
+    events = less_room (vec_len c.self.inside.events) c.self.inside.room (vec_capacity c.self.inside.events) fit.events;
+  },
   in_order_still c.self.inside.in_order c.self.inside.members.items c.args.place c.index_mut-member.result.now c.quiet_step.new.self c.index_mut-member.ensures.value
       c.in-Some.ensures.number c.self.invariant.3,
 )
