@@ -12,9 +12,9 @@ import re
 import sys
 
 WIRES = ["each limit is 1, one server", "a service's first limits, two servers"]
-# The most instructions that a step of ours may take, of an exchange's steps on average, on each of these wires. On 30
-# November 2026 it took 173.1 and 174.8. Lower them with what makes a step faster; who raises them says why.
-MOST = [176, 177]
+# The most instructions that a step of ours may take, of an exchange's steps on average, on each of these wires. On 1
+# December 2026 it took 149.6 and 154.3. Lower them with what makes a step faster; who raises them says why.
+MOST = [152, 157]
 CALLS = {
     "copies_request": "copy of a request",
     "receives_request": "receive of it",

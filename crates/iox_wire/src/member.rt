@@ -5,6 +5,7 @@ ghost use Rattle.std.specs.Option.{option_map_or};
 mod begin;
 mod count;
 mod over;
+mod quiet;
 
 use crate::stored_call::StoredCall;
 use iox_model::event::Event;

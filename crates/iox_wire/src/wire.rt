@@ -63,6 +63,8 @@ impl Model for Wire {
 
 impl Wire {
     ghost use Rattle.std.specs.Prelude.{◌≡◌, ◌+◌, ◌<◌, ◌≤◌, IfErr, IfOk, IfSome, IsOk, None, OnErr};
+    ghost use Rattle.std.specs.Bool.{OnFalse, OnTrue};
+    ghost use Rattle.iox_steps.specs.declared.access.Progress.TheVariants.{Going};
     ghost use Rattle.std.specs.Prelude.{OnOk, Some, length, max, position, ◌==◌, map};
     ghost use Rattle.iox_model.specs.States.{State};
     ghost use Rattle.iox_sets.specs.Refusals.{IsRefusal};
@@ -238,6 +240,47 @@ impl Wire {
     /// One access of a node that stands there and may make a step, which finds room.
     #[inline(always)]
     fn make_step(&mut self, node: u64, place: usize) -> Progress<NodeReply>
+        requires there { position (λ x. x.number == node) self.old.nodes ≡ Some place }
+        requires within { place < length self.old.nodes }
+        requires goes { step_refusal self.old node ≡ None }
+        requires room { 0 < self.old.room }
+        ensures one_access { MakesItsAccess self.old node self.new }
+        ensures weave { StepIsWoven self.old node result self.new }
+        ensures own { IsOwnAnswer self.old node result }
+        ensures read { KeepsRead self.old node result self.new }
+        ensures room { self.new.room + 1 ≡ self.old.room }
+    {
+        if self.quiet_step(node, place) {
+            return Progress::Going;
+        }
+        self.any_step(node, place)
+    }
+
+    /// The same, if that access is no moment, and the call goes on behind it: the usual way of a
+    /// step. `false` says that nothing changed.
+    #[inline(always)]
+    fn quiet_step(&mut self, node: u64, place: usize) -> bool
+        requires there { position (λ x. x.number == node) self.old.nodes ≡ Some place }
+        requires within { place < length self.old.nodes }
+        requires goes { step_refusal self.old node ≡ None }
+        requires room { 0 < self.old.room }
+        ensures one_access { OnTrue result (MakesItsAccess self.old node self.new) }
+        ensures weave { OnTrue result (StepIsWoven self.old node Going self.new) }
+        ensures read { OnTrue result (KeepsRead self.old node Going self.new) }
+        ensures room { OnTrue result (self.new.room + 1 ≡ self.old.room) }
+        ensures unchanged { OnFalse result (self.new ≡ self.old) }
+    {
+        let member = &mut self.members[place];
+        let Some(_) = member.quiet_step(&mut self.words) else {
+            return false;
+        };
+        self.room = self.room - 1;
+        true
+    }
+
+    /// The same, whatever that access is.
+    #[inline(always)]
+    fn any_step(&mut self, node: u64, place: usize) -> Progress<NodeReply>
         requires there { position (λ x. x.number == node) self.old.nodes ≡ Some place }
         requires within { place < length self.old.nodes }
         requires goes { step_refusal self.old node ≡ None }

@@ -11,3 +11,4 @@ pub mod CountLemmas
 pub mod BeginCounts
 pub mod EndCounts
 pub mod EventLemmas
+pub mod QuietLemmas

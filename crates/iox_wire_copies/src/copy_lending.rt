@@ -5,6 +5,7 @@ mod begin;
 mod event;
 mod lend;
 mod place;
+mod quiet;
 mod respond;
 mod store;
 

@@ -4,6 +4,7 @@ ghost use Rattle.std.specs.Prelude.{◌≡◌};
 mod begin;
 mod event;
 mod place;
+mod quiet;
 mod send;
 
 use crate::at::{CopierAt, CopyReply};

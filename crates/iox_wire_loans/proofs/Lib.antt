@@ -2,3 +2,4 @@ pub mod RefusalLemmas
 pub mod LoanLemmas
 pub mod EmptyLemmas
 pub mod BeginLemmas
+pub mod QuietLemmas

@@ -4,6 +4,7 @@ ghost use Rattle.std.specs.Prelude.{◌≡◌};
 mod begin;
 mod empty;
 mod event;
+mod quiet;
 mod store;
 
 use crate::at::{LendAt, LendReply};

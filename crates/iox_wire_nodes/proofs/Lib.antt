@@ -13,3 +13,4 @@ pub use Rattle.iox_wire_begins.proofs.Layouts
 pub use Rattle.iox_wire_begins.proofs.OwnedPlaces
 pub use Rattle.iox_wire_begins.proofs.Planned
 pub use Rattle.iox_wire_begins.proofs.Steps
+pub mod QuietLemmas

@@ -12,6 +12,7 @@ mod lend;
 mod look;
 mod name;
 mod place;
+mod quiet;
 mod receive;
 mod receive_response;
 mod refuse;

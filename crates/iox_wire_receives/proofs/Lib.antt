@@ -1,3 +1,4 @@
 pub mod PlaceLemmas
 pub mod VisitLemmas
 pub mod LoadLemmas
+pub mod QuietLemmas

@@ -52,7 +52,7 @@ stale_next p x v w slot header left waiting seen forgot whole client fits is =
 
 -- ---- the questions
 
-length_more : (xs : List ℕ) (y : ℕ) → length (xs ++ y ∷ []) ≡ length xs + 1
+pub length_more : (xs : List ℕ) (y : ℕ) → length (xs ++ y ∷ []) ≡ length xs + 1
 length_more [] y = refl
 length_more (x ∷ xs) y = let e : length (xs ++ y ∷ []) ≡ length xs + 1 = length_more xs y in omega (arith, e)
 

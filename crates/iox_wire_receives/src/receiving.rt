@@ -5,6 +5,7 @@ mod event;
 mod give;
 mod load;
 mod pop;
+mod quiet;
 mod take;
 mod visit;
 

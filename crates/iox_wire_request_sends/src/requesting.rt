@@ -8,6 +8,7 @@ mod event;
 mod finish;
 mod look;
 mod place;
+mod quiet;
 mod visit;
 
 use crate::at::{RequestAt, RequestReply};

@@ -13,6 +13,8 @@ pub mod Seats
 pub mod Aims
 -- the event of its next access
 pub mod SlotEvents
+-- a step without one, after which the call goes on
+pub mod QuietSteps
 -- what a call leaves there that is kept beside the seat
 pub mod Keeps
 pub mod Lends

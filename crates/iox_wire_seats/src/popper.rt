@@ -3,6 +3,7 @@ ghost use Rattle.std.specs.Prelude.{◌≡◌};
 ghost use Rattle.iox_steps.specs.Pops.{is_taken, take_access, waiting_event};
 
 mod event;
+mod quiet;
 
 use iox_steps::{Access, QueueEvent, QueueKind, Site};
 use std::marker::Model;

@@ -4,6 +4,7 @@ ghost use Rattle.iox_steps.specs.Pushes.{is_refused, room_event};
 ghost use Rattle.iox_steps.specs.Sites.{last_position};
 
 mod event;
+mod quiet;
 
 use iox_steps::{Access, QueueEvent, QueueKind, Site};
 use std::marker::Model;

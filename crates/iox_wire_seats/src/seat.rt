@@ -9,6 +9,7 @@ mod event;
 mod hint;
 mod keep;
 mod lend;
+mod quiet;
 mod read;
 mod release;
 mod seek;

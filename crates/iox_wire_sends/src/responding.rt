@@ -8,6 +8,7 @@ mod event;
 mod finish;
 mod look;
 mod place;
+mod quiet;
 
 use crate::at::{RespondAt, RespondReply};
 use crate::terms::ResponseTerms;

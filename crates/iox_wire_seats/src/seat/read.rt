@@ -7,7 +7,7 @@ use crate::message_places::MessagePlaces;
 use iox_wire_locals::Entry;
 
 impl StoredSeat {
-    ghost use Rattle.std.specs.Prelude.{◌≡◌, ◌+◌, ◌<◌, ◌≤◌, ◌^◌};
+    ghost use Rattle.std.specs.Prelude.{◌≡◌, ◌+◌, ◌<◌, ◌≤◌, ◌^◌, None, length};
     ghost use Rattle.iox_wire_locals.specs.Tables.{Setting};
     ghost use Rattle.iox_wire_locals.specs.Begins.{reads};
     ghost use Rattle.iox_wire_seats.specs.Aims.{Answers, AreInMemory, GoesOn, IsAimed, IsReading};
@@ -43,6 +43,7 @@ impl StoredSeat {
         requires accesses { self.old.seat.accesses + 1 < 2 ^ 64 }
         ensures next { GoesOn self.old seen self.new }
         ensures over { Answers self.old seen result self.new }
+        ensures goes { length self.old.words + 1 < self.old.count → result ≡ None }
         ensures aimed { StaysAimed self.old self.new }
         ensures accesses { self.new.seat.accesses ≡ self.old.seat.accesses + 1 }
         ensures room { KeepsRoom self.old self.new }
