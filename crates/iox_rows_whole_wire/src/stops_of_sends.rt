@@ -118,7 +118,7 @@ const SERVER_PUSHES_A_RESPONSE_OUT_BY_ITS_LOAN: Stop<'static> = Stop {
 };
 
 /// The client has no free slot: the server has the one message, and the other waits for it.
-const DRY: [Act; 6] = [
+const DRY: [Act; 7] = [
     Act::Whole(0, Ask::Loan(0), 10, Told::Handle(2)),
     Act::Whole(0, Ask::WriteTwo(2, Role::Client, [8, 9]), 2, Told::Done),
     Act::Whole(0, Ask::Send(2), 9, Told::Sent(1)),
@@ -130,6 +130,7 @@ const DRY: [Act; 6] = [
         21,
         Told::Handle(3),
     ),
+    Act::Whole(0, Ask::Loan(0), 2, Told::OutOfMemory),
 ];
 
 /// The server reads both requests.
@@ -165,6 +166,54 @@ const CLIENT_COPIES_INTO_A_DRY_POOL: Stop<'static> = Stop {
     counts: &[],
 };
 
+/// The server has no free slot: the client has the one message, and the other waits for it.
+const SERVER_IS_DRY: [Act; 6] = [
+    Act::Whole(
+        0,
+        Ask::CopyTwo(0, Role::Client, [1, 2]),
+        21,
+        Told::Handle(2),
+    ),
+    Act::Whole(1, Ask::Receive(1), 11, Told::Handle(2)),
+    Act::Whole(1, Ask::CopyTwo(2, Role::Server, [3, 4]), 23, Told::Done),
+    Act::Whole(0, Ask::Receive(2), 10, Told::Handle(3)),
+    Act::Whole(1, Ask::CopyTwo(2, Role::Server, [7, 8]), 23, Told::Done),
+    Act::Whole(1, Ask::Loan(2), 4, Told::OutOfMemory),
+];
+
+/// The client reads both responses.
+const CLIENT_READS_BOTH: [Act; 5] = [
+    Act::Keeps(1, 2),
+    Act::Whole(0, Ask::Read(3), 4, Told::Four(6, 7, 3, 4)),
+    Act::Whole(0, Ask::Release(3), 4, Told::Done),
+    Act::Whole(0, Ask::Receive(2), 10, Told::Handle(4)),
+    Act::Whole(0, Ask::Read(4), 4, Told::Four(6, 7, 7, 8)),
+];
+
+const SERVER_LOANS_OF_A_DRY_POOL: Stop<'static> = Stop {
+    name: "server_loans_of_a_dry_pool",
+    on: On::Wide,
+    before: &SERVER_IS_DRY,
+    node: 1,
+    ask: Ask::Loan(2),
+    steps: 4,
+    after: &[(0, &CLIENT_READS_BOTH)],
+    between: NOTHING_BETWEEN,
+    counts: &[],
+};
+
+const SERVER_COPIES_INTO_A_DRY_POOL: Stop<'static> = Stop {
+    name: "server_copies_into_a_dry_pool",
+    on: On::Wide,
+    before: &SERVER_IS_DRY,
+    node: 1,
+    ask: Ask::CopyTwo(2, Role::Server, [9, 9]),
+    steps: 4,
+    after: &[(0, &CLIENT_READS_BOTH)],
+    between: NOTHING_BETWEEN,
+    counts: &[],
+};
+
 #[test]
 fn node_stops_in_sends(rt: HostRuntime) -> Result<(), Fail> {
     const STOPS: &[Stop<'static>] = &[
@@ -172,6 +221,8 @@ fn node_stops_in_sends(rt: HostRuntime) -> Result<(), Fail> {
         SERVER_PUSHES_A_RESPONSE_OUT_BY_ITS_LOAN,
         CLIENT_LOANS_OF_A_DRY_POOL,
         CLIENT_COPIES_INTO_A_DRY_POOL,
+        SERVER_LOANS_OF_A_DRY_POOL,
+        SERVER_COPIES_INTO_A_DRY_POOL,
     ];
     stop_all(&rt, STOPS)
 }

@@ -63,7 +63,7 @@ pub record PopsQuietly (site : Site) (old : Popping) (words : List ℕ) (seen : 
   pub place : new ≡ popping_after site old seen
   pub quiet : PopIsQuiet site old seen
 
--- An access of a push, which goes on.
+-- An access of a push that puts nothing in and pushes nothing out.
 pub record PushesQuietly (site : Site) (old : Pushing) (words : List ℕ) (seen : ℕ) (new : Pushing)
     (left : List ℕ) : Type 0 where
   pub finds : seen ≡ seen_at (pushing_access site old) words
