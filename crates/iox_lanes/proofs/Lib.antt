@@ -1,5 +1,7 @@
 pub mod CallerLemmas
 pub mod Bits
+pub mod Words
+pub mod Marked
 pub mod InCells
 pub mod Lone
 pub mod OneLane

@@ -1,14 +1,14 @@
 -- On which lanes something is left to get back.
-use Rattle.std.proofs.Common.{◌≡◌, ◌≢◌, ◌<◌, ◌≤◌, ◌+◌, ◌-◌, ◌^◌, ℕ, zero, suc, true, false, cond, List, [], ◌∷◌, ◌++◌, drop, length, get_or, replicate, slice_set, take, Some, None, Option, w64, refl, sym, ap, subst, ◌∙◌, inl, inr, arith, length-take-le}
+use Rattle.std.proofs.Common.{◌≡◌, ◌≢◌, ◌<◌, ◌≤◌, ◌+◌, ◌-◌, ℕ, zero, suc, true, false, cond, List, [], ◌∷◌, ◌++◌, drop, length, get_or, replicate, slice_get, slice_set, take, Some, None, Option, refl, sym, ap, subst, ◌∙◌, inl, inr, arith, length-take-le, true≢false}
 use Rattle.std.proofs.lemmas.Bool.{cases_eq, cases_lt, false≢true}
-use Rattle.std.proofs.lemmas.Nat.Bits.{bit_at-suc, bit_at-trailing_zeros, bit_at-zero, bit_at_lowest}
-use Rattle.std.proofs.lemmas.Option.{none-some, same_Some}
-use Rattle.std.specs.Int.{bit_at, trailing_zeros}
-use Rattle.std.specs.Prelude.{Bool, if◌then◌else◌, is_some, not}
+use Rattle.std.specs.Option.{option_map_or}
+use Rattle.std.proofs.lemmas.List.{length-replicate, length-set}
+use Rattle.std.proofs.lemmas.Option.{none-some, same_Some, slice_get_within}
+use Rattle.std.specs.Prelude.{Bool, if◌then◌else◌, IfSome, is_some, not}
 use Rattle.std.specs.List.{position_from}
 use Rattle.iox_model.specs.Maps.{is_empty}
 use Rattle.iox_lanes.specs.Lanes.{LaneState, delivered, empty_lane, has_returned, has_room, is_at_limit, is_full, is_taken, offered, released, with_returned, without_oldest, without_returned, without_taken}
-use Rattle.iox_lanes.specs.Marks.{AreMarked, NoneToGetBelow, bit_of, has_returned_at, mark_of}
+use Rattle.iox_lanes.specs.Marks.{AreMarked, HasNone, MarksState, has_mark, has_returned_at, room_of}
 use Rattle.iox_lanes.specs.Pipes.{PipeState, lane_to_get, with_lane}
 use Rattle.iox_lanes.specs.PipeSteps.{pushed}
 use Rattle.iox_lanes.specs.Searches.{LabelsByPlace, before_wanted, first_wanted, searched, visited, visited_on, wanted_on, with_found}
@@ -43,6 +43,14 @@ none_past [] k h = refl
 none_past (x ∷ xs) zero h = absurd (omega (arith, h))
 none_past (x ∷ xs) (suc k) h = none_past xs k (omega (arith, h))
 
+-- a lane on which something is left is there
+pub lane_there : (lanes : List LaneState) (k : ℕ) → has_returned_at lanes k ≡ true → k < length lanes
+lane_there lanes k has = over (slice_get lanes k) refl has
+  where
+    over : (o : Option LaneState) → slice_get lanes k ≡ o → option_map_or has_returned o false ≡ true → k < length lanes
+    over None at e = absurd (true≢false (sym e))
+    over (Some l) at e = slice_get_within lanes k l at
+
 before_at : (n : ℕ) (lanes : List LaneState) (k : ℕ) → k < n → has_returned_at (take n lanes) k ≡ has_returned_at lanes k
 before_at zero lanes k h = absurd (omega (arith, h))
 before_at (suc n) [] k h = refl
@@ -57,88 +65,55 @@ behind_at (suc n) (x ∷ xs) (suc k) h = behind_at n xs k (omega (arith, h))
 
 -- ---- the marks
 
-no_bit : (b : Bool) → bit_of b ≡ 0 → b ≡ false
-no_bit true h = absurd (omega (arith, h))
-no_bit false h = refl
-
-is_bit : (b : Bool) → bit_of b ≡ 1 → b ≡ true
-is_bit true h = refl
-is_bit false h = absurd (omega (arith, h))
-
 -- where the change of a lane leaves something to get back, or leaves nothing, as before, all marks stay
-pub still_marked : (marks : ℕ) (lanes : List LaneState) (i : ℕ) (l l' : LaneState) → AreMarked marks lanes → l ≡ get_or lanes i l
+pub still_marked : (marks : MarksState) (lanes : List LaneState) (i : ℕ) (l l' : LaneState) → AreMarked marks lanes → l ≡ get_or lanes i l
     → has_returned l' ≡ has_returned l → AreMarked marks (slice_set lanes i l')
 still_marked marks lanes i l l' m e f = record {
-  one = λ k b. m.one k b ∙ ap bit_of (sym (same_at lanes i k l l' e f));
-  rest = λ z k b. same_at lanes i k l l' e f ∙ m.rest z k b;
+  one = λ k. m.one k ∙ sym (same_at lanes i k l l' e f);
+  room = let size = length-set lanes i l' in let room = m.room in omega (arith, size, room);
 }
 
--- where it leaves something, its mark is there
-pub marked_more : (marks marks' : ℕ) (lanes : List LaneState) (i : ℕ) (l' : LaneState) → AreMarked marks lanes → i < length lanes
-    → has_returned l' ≡ true → bit_at marks' (mark_of i) ≡ 1 → ((k : ℕ) → k ≢ mark_of i → bit_at marks' k ≡ bit_at marks k)
-    → AreMarked marks' (slice_set lanes i l')
-marked_more marks marks' lanes i l' m h has here others = record {
-  one = λ k b. elim (cases_eq k i) [
-    | inl is ↦
-        let at : mark_of i ≡ k = omega (arith, is, b) in
-        ap (λ (j : ℕ). bit_at marks' j) (sym at) ∙ here
-        ∙ ap bit_of (sym (ap (λ (j : ℕ). has_returned_at (slice_set lanes i l') j) is ∙ here_at lanes i l' h ∙ has))
-    | inr differs ↦
-        others k (λ e. differs (omega (arith, e, b))) ∙ m.one k b ∙ ap bit_of (sym (other_at lanes i k l' differs))
+-- else the mark of that lane alone changes, and says what is left there
+pub marked_at : (marks marks' : MarksState) (lanes : List LaneState) (i : ℕ) (l' : LaneState) (b : Bool) → AreMarked marks lanes
+    → i < length lanes → has_returned l' ≡ b → has_mark marks' i ≡ b → ((k : ℕ) → k ≢ i → has_mark marks' k ≡ has_mark marks k)
+    → room_of marks' ≡ room_of marks → AreMarked marks' (slice_set lanes i l')
+marked_at marks marks' lanes i l' b m h is here others same = record {
+  one = λ k. elim (cases_eq k i) [
+    | inl at ↦
+        ap (λ (j : ℕ). has_mark marks' j) at ∙ here ∙ sym is ∙ sym (here_at lanes i l' h)
+        ∙ ap (λ (j : ℕ). has_returned_at (slice_set lanes i l') j) (sym at)
+    | inr differs ↦ others k differs ∙ m.one k ∙ sym (other_at lanes i k l' differs)
   ];
-  rest = λ z k b. elim (cases_lt i 63) [
-    | inl below ↦
-        other_at lanes i k l' (λ e. omega (arith, e, below, b))
-        ∙ m.rest (sym (others 63 (λ e. omega (arith, e, below))) ∙ z) k b
-    | inr past ↦
-        let at : mark_of i ≡ 63 = omega (arith, past) in
-        let e : ◌≡◌ {A = ℕ} 0 1 = sym z ∙ ap (λ (j : ℕ). bit_at marks' j) (sym at) ∙ here in
-        absurd (omega (arith, e))
-  ];
+  room = let size = length-set lanes i l' in let room = m.room in omega (arith, size, room, same);
 }
 
--- where it leaves nothing, its mark is not there
-pub marked_less : (marks marks' : ℕ) (lanes : List LaneState) (i : ℕ) (l' : LaneState) → AreMarked marks lanes → i < length lanes
-    → has_returned l' ≡ false → (i < 63 → bit_at marks' i ≡ 0) → ((k : ℕ) → k < 63 → k ≢ i → bit_at marks' k ≡ bit_at marks k)
-    → bit_at marks' 63 ≡ bit_at marks 63 → AreMarked marks' (slice_set lanes i l')
-marked_less marks marks' lanes i l' m h none here others last =
-    let now : has_returned_at (slice_set lanes i l') i ≡ false = here_at lanes i l' h ∙ none in
-    record {
-      one = λ k b. elim (cases_eq k i) [
-        | inl is ↦
-            ap (λ (j : ℕ). bit_at marks' j) is ∙ here (omega (arith, is, b))
-            ∙ ap bit_of (sym (ap (λ (j : ℕ). has_returned_at (slice_set lanes i l') j) is ∙ now))
-        | inr differs ↦ others k b differs ∙ m.one k b ∙ ap bit_of (sym (other_at lanes i k l' differs))
-      ];
-      rest = λ z k b. elim (cases_eq k i) [
-        | inl is ↦ ap (λ (j : ℕ). has_returned_at (slice_set lanes i l') j) is ∙ now
-        | inr differs ↦ other_at lanes i k l' differs ∙ m.rest (sym last ∙ z) k b
-      ];
-    }
+-- marks that are set where they were stay right
+pub same_marked : (marks marks' : MarksState) (lanes : List LaneState) → AreMarked marks lanes
+    → ((k : ℕ) → has_mark marks' k ≡ has_mark marks k) → room_of marks' ≡ room_of marks → AreMarked marks' lanes
+same_marked marks marks' lanes m all same = record {
+  one = λ k. all k ∙ m.one k;
+  room = let room = m.room in omega (arith, room, same);
+}
 
-but_last : (marks marks' : ℕ) (lanes : List LaneState) (n : ℕ) → AreMarked marks lanes → n ≡ length lanes - 1
-    → (n < 63 → bit_at marks' n ≡ 0) → ((k : ℕ) → k < 63 → k ≢ n → bit_at marks' k ≡ bit_at marks k)
-    → bit_at marks' 63 ≡ bit_at marks 63 → AreMarked marks' (take n lanes)
-but_last marks marks' lanes n m at here others last = record {
-  one = λ k b. elim (cases_lt k n) [
-    | inl below ↦ others k b (λ e. omega (arith, e, below)) ∙ m.one k b ∙ ap bit_of (sym (before_at n lanes k below))
+but_last : (marks marks' : MarksState) (lanes : List LaneState) (n : ℕ) → AreMarked marks lanes → n ≡ length lanes - 1
+    → has_mark marks' n ≡ false → ((k : ℕ) → k ≢ n → has_mark marks' k ≡ has_mark marks k)
+    → room_of marks' ≡ room_of marks → AreMarked marks' (take n lanes)
+but_last marks marks' lanes n m at here others same = record {
+  one = λ k. elim (cases_lt k n) [
+    | inl below ↦ others k (λ e. omega (arith, e, below)) ∙ m.one k ∙ sym (before_at n lanes k below)
     | inr past ↦ elim (cases_eq k n) [
-      | inl is ↦ ap (λ (j : ℕ). bit_at marks' j) is ∙ here (omega (arith, is, b)) ∙ ap bit_of (sym (behind_at n lanes k past))
+      | inl is ↦ ap (λ (j : ℕ). has_mark marks' j) is ∙ here ∙ sym (behind_at n lanes k past)
       | inr differs ↦
-          others k b differs ∙ m.one k b
-          ∙ ap bit_of (none_past lanes k (omega (arith, at, past, differs)) ∙ sym (behind_at n lanes k past))
+          others k differs ∙ m.one k ∙ none_past lanes k (omega (arith, at, past, differs)) ∙ sym (behind_at n lanes k past)
     ]
   ];
-  rest = λ z k b. elim (cases_lt k n) [
-    | inl below ↦ before_at n lanes k below ∙ m.rest (sym last ∙ z) k b
-    | inr past ↦ behind_at n lanes k past
-  ];
+  room = let room = m.room in let size = length-take-le n lanes (omega (arith, at)) in omega (arith, room, same, size, at);
 }
 
 -- where the last lane goes, its mark does
-pub marked_but_last : (marks marks' : ℕ) (lanes left : List LaneState) (n : ℕ) → AreMarked marks lanes → left ≡ take (length lanes - 1) lanes
-    → n ≡ length left → (n < 63 → bit_at marks' n ≡ 0) → ((k : ℕ) → k < 63 → k ≢ n → bit_at marks' k ≡ bit_at marks k)
-    → bit_at marks' 63 ≡ bit_at marks 63 → AreMarked marks' left
+pub marked_but_last : (marks marks' : MarksState) (lanes left : List LaneState) (n : ℕ) → AreMarked marks lanes
+    → left ≡ take (length lanes - 1) lanes → n ≡ length left → has_mark marks' n ≡ false
+    → ((k : ℕ) → k ≢ n → has_mark marks' k ≡ has_mark marks k) → room_of marks' ≡ room_of marks → AreMarked marks' left
 marked_but_last marks marks' lanes left n m is many here others last =
     let size : length left ≡ length lanes - 1 =
     ap (λ (ls : List LaneState). length ls) is ∙ length-take-le (length lanes - 1) lanes (omega arith) in
@@ -146,16 +121,14 @@ marked_but_last marks marks' lanes left n m is many here others last =
     let same : take n lanes ≡ left = ap (λ (k : ℕ). take k lanes) at ∙ sym is in
     subst (λ (ls : List LaneState). AreMarked marks' ls) same (but_last marks marks' lanes n m at here others last)
 
--- where nothing is left on any lane, no mark is there
-pub marked_none : (lanes : List LaneState) → ((k : ℕ) → has_returned_at lanes k ≡ false) → AreMarked 0 lanes
-marked_none lanes none = record {
-  one = λ k b. bit_at-zero k ∙ ap bit_of (sym (none k));
-  rest = λ z k b. none k;
+-- on new lanes nothing is left
+pub new_marked : (marks : MarksState) (lanes : List LaneState) (n pool buffer limit : ℕ)
+    → lanes ≡ replicate n (empty_lane pool buffer limit) → HasNone marks → n ≤ room_of marks → AreMarked marks lanes
+new_marked marks lanes n pool buffer limit is unset room = record {
+  one = λ k. unset k ∙ sym (ap (λ (ls : List LaneState). has_returned_at ls k) is ∙ none n k);
+  room = let size : length lanes ≡ n = ap (λ (ls : List LaneState). length ls) is ∙ length-replicate n (empty_lane pool buffer limit) in
+      omega (arith, size, room);
 }
-
--- nor on new lanes
-pub new_marked : (lanes : List LaneState) (n pool buffer limit : ℕ) → lanes ≡ replicate n (empty_lane pool buffer limit) → AreMarked 0 lanes
-new_marked lanes n pool buffer limit is = marked_none lanes (λ k. ap (λ (ls : List LaneState). has_returned_at ls k) is ∙ none n k)
   where
     none : (n k : ℕ) → has_returned_at (replicate n (empty_lane pool buffer limit)) k ≡ false
     none zero k = refl
@@ -170,7 +143,7 @@ none_from (x ∷ xs) n none =
     ap (λ b. cond b (Some n) (position_from has_returned (n + 1) xs)) (none 0)
     ∙ none_from xs (n + 1) (λ k. none (suc k))
 
-first_from : (lanes : List LaneState) (n i : ℕ) → NoneToGetBelow i lanes → has_returned_at lanes i ≡ true
+first_from : (lanes : List LaneState) (n i : ℕ) → ((k : ℕ) → k < i → has_returned_at lanes k ≡ false) → has_returned_at lanes i ≡ true
     → position_from has_returned n lanes ≡ Some (i + n)
 first_from [] n i none h = absurd (false≢true h)
 first_from (x ∷ xs) n zero none h = ap (λ b. cond b (Some n) (position_from has_returned (n + 1) xs)) h ∙ ap (λ (k : ℕ). Some k) (omega arith)
@@ -179,46 +152,21 @@ first_from (x ∷ xs) n (suc i) none h =
     ∙ first_from xs (n + 1) i (λ k b. none (suc k) (omega (arith, b))) h
     ∙ ap (λ (k : ℕ). Some k) (omega arith)
 
-pub first_to_get : (lanes : List LaneState) (i : ℕ) → NoneToGetBelow i lanes → has_returned_at lanes i ≡ true
+pub first_to_get : (lanes : List LaneState) (i : ℕ) → ((k : ℕ) → k < i → has_returned_at lanes k ≡ false) → has_returned_at lanes i ≡ true
     → position_from has_returned 0 lanes ≡ Some i
 first_to_get lanes i none h = first_from lanes 0 i none h ∙ ap (λ (k : ℕ). Some k) (omega arith)
 
--- where no mark is there, nothing is left
-pub none_marked : (marks : ℕ) (lanes : List LaneState) → AreMarked marks lanes → marks ≡ 0 → position_from has_returned 0 lanes ≡ None
-none_marked marks lanes m is = none_from lanes 0 none
-  where
-    no_mark : (k : ℕ) → bit_at marks k ≡ 0
-    no_mark k = ap (λ (n : ℕ). bit_at n k) is ∙ bit_at-zero k
+-- where no mark is set, nothing is left
+pub none_marked : (marks : MarksState) (lanes : List LaneState) → AreMarked marks lanes → HasNone marks → position_from has_returned 0 lanes ≡ None
+none_marked marks lanes m none = none_from lanes 0 (λ k. sym (m.one k) ∙ none k)
 
-    none : (k : ℕ) → has_returned_at lanes k ≡ false
-    none k = elim (cases_lt k 63) [
-      | inl below ↦ no_bit (has_returned_at lanes k) (sym (m.one k below) ∙ no_mark k)
-      | inr past ↦ m.rest (no_mark 63) k past
-    ]
-
-module _ (marks : ℕ) (lanes : List LaneState) (m : AreMarked marks lanes) (some : 0 < marks) (fits : marks < 2 ^ 64) where
-  -- below the lane of the lowest mark nothing is left
-  pub none_below_mark : NoneToGetBelow (trailing_zeros w64 marks) lanes
-  none_below_mark k b =
-      let lowest = bit_at-trailing_zeros w64 marks some fits in
-      no_bit (has_returned_at lanes k) (sym (m.one k (omega (arith, lowest.0, b))) ∙ lowest.2 k b)
-
-  -- on it something is
-  pub lowest_mark : trailing_zeros w64 marks < 63 → position_from has_returned 0 lanes ≡ Some (trailing_zeros w64 marks)
-  lowest_mark b =
-      let lowest = bit_at-trailing_zeros w64 marks some fits in
-      first_to_get lanes (trailing_zeros w64 marks) none_below_mark
-      (is_bit (has_returned_at lanes (trailing_zeros w64 marks)) (sym (m.one (trailing_zeros w64 marks) b) ∙ lowest.1))
-
--- where nothing is left below a number past the last lane, nothing is
-pub none_at_all : (lanes : List LaneState) (n : ℕ) → NoneToGetBelow n lanes → length lanes ≤ n → (k : ℕ) → has_returned_at lanes k ≡ false
-none_at_all lanes n none h k = elim (cases_lt k n) [
-  | inl below ↦ none k below
-  | inr past ↦ none_past lanes k (omega (arith, h, past))
-]
-
-pub none_to_get : (lanes : List LaneState) (n : ℕ) → NoneToGetBelow n lanes → length lanes ≤ n → position_from has_returned 0 lanes ≡ None
-none_to_get lanes n none h = none_from lanes 0 (none_at_all lanes n none h)
+-- else the lowest mark is that of the lowest lane
+pub lowest_marked : (marks : MarksState) (lanes : List LaneState) (o : Option ℕ) → AreMarked marks lanes
+    → IfSome o (λ lane. has_mark marks lane ≡ true) → IfSome o (λ lane. (k : ℕ) → k < lane → has_mark marks k ≡ false)
+    → (o ≡ None → HasNone marks) → o ≡ position_from has_returned 0 lanes
+lowest_marked marks lanes None m here below none = sym (none_marked marks lanes m (none refl))
+lowest_marked marks lanes (Some lane) m here below none =
+    sym (first_to_get lanes lane (λ k b. sym (m.one k) ∙ below k b) (sym (m.one lane) ∙ here))
 
 -- ---- what is left on a lane after a delivery
 
@@ -297,31 +245,22 @@ returned_at (x ∷ xs) n i e = step (has_returned x) refl e (returned_at xs (n +
 
 -- ---- on the first lane alone
 
-one_alone : (k : ℕ) → bit_at 1 (suc k) ≡ 0
-one_alone k = bit_at-suc 1 k ∙ bit_at-zero k
+-- the first mark is set: the first lane is the lowest
+pub first_marked : (marks : MarksState) (lanes : List LaneState) → AreMarked marks lanes → has_mark marks 0 ≡ true
+    → position_from has_returned 0 lanes ≡ Some 0
+first_marked marks lanes m first = first_to_get lanes 0 (λ k b. absurd (omega (arith, b))) (sym (m.one 0) ∙ first)
 
--- the first mark alone: the first lane is the lowest
-pub first_marked : (marks : ℕ) (lanes : List LaneState) → AreMarked marks lanes → marks ≡ 1 → position_from has_returned 0 lanes ≡ Some 0
-first_marked marks lanes m is =
-    first_to_get lanes 0 (λ k b. absurd (omega (arith, b)))
-    (is_bit (has_returned_at lanes 0) (sym (m.one 0 (omega arith)) ∙ ap (λ (n : ℕ). bit_at n 0) is ∙ bit_at_lowest 1))
-
--- then only that lane tells, after a change of it, whether something is left
-pub first_alone : (sender : ℕ) (lanes : List LaneState) (states : List RequestState) (f : LaneState → LaneState) (marks : ℕ)
-    → AreMarked marks lanes → marks ≡ 1
+-- where no other is, only that lane tells, after a change of it, whether something is left
+pub first_alone : (sender : ℕ) (lanes : List LaneState) (states : List RequestState) (f : LaneState → LaneState) (marks : MarksState)
+    → AreMarked marks lanes → ((k : ℕ) → 0 < k → has_mark marks k ≡ false)
     → is_some (lane_to_get (with_lane f (record { sender = sender; lanes = lanes; states = states }) 0))
     ≡ has_returned_at (with_lane f (record { sender = sender; lanes = lanes; states = states }) 0).lanes 0
-first_alone sender [] states f marks m is = refl
-first_alone sender (x ∷ xs) states f marks m is = over (has_returned (f x)) refl
+first_alone sender [] states f marks m alone = refl
+first_alone sender (x ∷ xs) states f marks m alone = over (has_returned (f x)) refl
   where
     none : has_returned (f x) ≡ false → (k : ℕ) → has_returned_at (f x ∷ xs) k ≡ false
     none e zero = e
-    none e (suc k) = elim (cases_lt (suc k) 63) [
-      | inl below ↦
-          no_bit (has_returned_at (x ∷ xs) (suc k))
-          (sym (m.one (suc k) below) ∙ ap (λ (n : ℕ). bit_at n (suc k)) is ∙ one_alone k)
-      | inr past ↦ m.rest (ap (λ (n : ℕ). bit_at n 63) is ∙ one_alone 62) (suc k) past
-    ]
+    none e (suc k) = sym (m.one (suc k)) ∙ alone (suc k) (omega arith)
 
     over : (b : Bool) → has_returned (f x) ≡ b → is_some (position_from has_returned 0 (f x ∷ xs)) ≡ has_returned (f x)
     over true e = ap (λ (b : Bool). is_some (cond b (Some 0) (position_from has_returned 1 xs))) e ∙ sym e

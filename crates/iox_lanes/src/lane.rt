@@ -237,7 +237,15 @@ impl Lane {
         ensures oldest { Some result ≡ slice_get self.old.returned 0 }
         ensures got_back { self.new ≡ without_returned self.old }
     {
-        self.returned.take_first()
+        self.returned.take_next()
+    }
+
+    /// Whether just one message that was given back is left to get back.
+    #[inline(always)]
+    pub(crate) fn has_one_returned(&self) -> bool
+        ensures { result ≡ (length self.now.returned == 1) }
+    {
+        self.returned.len() == 1
     }
 
     // ---- its receiver

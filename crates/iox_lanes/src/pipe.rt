@@ -10,7 +10,7 @@ mod getting;
 mod usual;
 
 use crate::lane::Lane;
-use crate::marks::{with_mark, without_mark};
+use crate::marks::Marks;
 use crate::search::{LaneVisit, visit_lane};
 use crate::states::{after_hint, is_named, state_of};
 use crate::wanted::{Labels, Wanted};
@@ -29,6 +29,17 @@ pub struct Next {
     pub more: bool,
 }
 
+/// What is left to get back, as far as it tells which way is short.
+#[derive(Clone, Copy, Debug, PartialEq, Eq, Drop)]
+pub enum Left {
+    /// Nothing.
+    Nothing,
+    /// One message, on the first lane.
+    One,
+    /// It may be anything.
+    Other,
+}
+
 /// All lanes from one port to its receiver. Beside the lane of requests from a client stand the
 /// states of the requests that it has open here.
 ///
@@ -40,7 +51,9 @@ pub struct Pipe {
     lanes: Vec<Lane>,
     states: Vec<RequestState>,
     // on which lanes something is left to get back
-    marks: u64,
+    marks: Marks,
+    // A pipe has 128 bytes with these, so that its place in a list is a shift.
+    spare: [u64; 3],
 }
 
 impl Model for Pipe {
@@ -102,7 +115,8 @@ impl Pipe {
             sender,
             lanes: new_lanes(alloc, lanes, pool, buffer, limit)?,
             states: vec![in alloc; RequestState::Closed; states]?,
-            marks: 0,
+            marks: Marks::new(alloc, lanes)?,
+            spare: [0; 3],
         })
     }
 
@@ -230,7 +244,7 @@ impl Pipe {
         if l.has_returned() {
             return oldest;
         }
-        self.marks = without_mark(self.marks, lane);
+        self.marks.remove(lane);
         oldest
     }
 
@@ -249,13 +263,14 @@ impl Pipe {
         let l = &mut self.lanes[lane];
         let visit = visit_lane(l, wanted, labels, &self.states);
         if l.has_returned() {
-            self.marks = with_mark(self.marks, lane);
+            self.marks.insert(lane);
             return visit;
         }
         visit
     }
 
     /// Gives a message of that lane back that the receiver has, and says whether it had it.
+    #[inline]
     pub fn release(&mut self, lane: usize, place: u64) -> bool
         ensures taken { result ≡ on_lane (λ l. is_taken l place) false self.old lane }
         ensures released { self.new ≡ with_lane (λ l. released l place) self.old lane }
@@ -264,7 +279,7 @@ impl Pipe {
             return false;
         }
         if self.lanes[lane].release(place) {
-            self.marks = with_mark(self.marks, lane);
+            self.marks.insert(lane);
             return true;
         }
         false
@@ -279,7 +294,7 @@ impl Pipe {
             ≡ record (self.old) { lanes = take (length self.old.lanes - 1) self.old.lanes } }
     {
         let last = take_last(&mut self.lanes);
-        self.marks = without_mark(self.marks, self.lanes.len());
+        self.marks.remove(self.lanes.len());
         last
     }
 

@@ -1,4 +1,5 @@
 //! What no clause says, and each function once.
 mod expired;
 mod lanes;
+mod marks;
 mod visits;

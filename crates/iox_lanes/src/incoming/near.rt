@@ -8,7 +8,7 @@ ghost use Rattle.iox_lanes.specs.Searches.{state_on};
 ghost use Rattle.iox_lanes.specs.Incomings.{IsFirstAt, on_pipe_by, with_pipe_by};
 
 use crate::incoming::Incoming;
-use crate::pipe::Next;
+use crate::pipe::{Left, Next};
 use iox_model::way::RequestState;
 
 impl Incoming {
@@ -23,6 +23,16 @@ impl Incoming {
             Some(rank) => self.pipes[rank].state(lane),
             None => RequestState::Closed,
         }
+    }
+
+    /// What is left to get back by this sender, whose pipe is looked for at the hint alone. Any
+    /// answer is right: it tells which way is short.
+    #[inline(always)]
+    pub fn left_at(&self, sender: u64, hint: usize) -> Left {
+        if self.is_from(hint, sender) {
+            return self.pipes[hint].left();
+        }
+        Left::Other
     }
 
     /// Gets back the oldest message of those that were given back on the lowest lane from this

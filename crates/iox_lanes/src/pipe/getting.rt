@@ -5,8 +5,7 @@ ghost use Rattle.iox_lanes.specs.Lanes.{without_returned};
 ghost use Rattle.iox_lanes.specs.Marks.{has_returned_at};
 ghost use Rattle.iox_lanes.specs.Pipes.{lane_to_get, on_lane, with_lane};
 
-use crate::marks::{FIRST, MOST, next_to_get, without_mark};
-use crate::pipe::{Next, Pipe};
+use crate::pipe::{Left, Next, Pipe};
 
 impl Pipe {
     /// Gets back the oldest message of those that were given back on that lane, and says whether
@@ -24,7 +23,7 @@ impl Pipe {
         if l.has_returned() {
             return (place, true);
         }
-        self.marks = without_mark(self.marks, lane);
+        self.marks.remove(lane);
         (place, false)
     }
 
@@ -34,19 +33,21 @@ impl Pipe {
         ensures lowest { result ≡ lane_to_get self.old }
         ensures unchanged { self.new ≡ self.old }
     {
-        if self.marks == 0 {
-            return None;
+        self.marks.first()
+    }
+
+    /// What is left to get back. Any answer is right: it tells which way is short.
+    #[inline(always)]
+    pub fn left(&self) -> Left {
+        if self.marks.has_none() {
+            return Left::Nothing;
         }
-        let mark = self.marks.trailing_zeros() as usize;
-        if mark < MOST {
-            return Some(mark);
+        if self.marks.has_first_alone() {
+            if self.lanes[0].has_one_returned() {
+                return Left::One;
+            }
         }
-        let lane = next_to_get(&self.lanes, MOST, self.lanes.len());
-        if lane < self.lanes.len() {
-            return Some(lane);
-        }
-        self.marks = 0;
-        None
+        Left::Other
     }
 
     /// Gets back the oldest message of those that were given back on the lowest lane on which
@@ -62,7 +63,7 @@ impl Pipe {
         ensures more { IfSome result (λ n. n.more ≡ is_some (lane_to_get self.new)) }
         ensures unchanged { result ≡ None → self.new ≡ self.old }
     {
-        if self.marks == FIRST {
+        if self.marks.has_first_alone() {
             let (place, more) = self.get_one_back(0);
             return Some(Next {
                 lane: 0,
@@ -70,7 +71,7 @@ impl Pipe {
                 more,
             });
         }
-        if self.marks == 0 {
+        if self.marks.has_none() {
             return None;
         }
         self.get_next_other()

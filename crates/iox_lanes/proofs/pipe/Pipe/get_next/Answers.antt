@@ -1,4 +1,4 @@
-use Rattle.std.proofs.Common.{ap, sym, ◌∙◌}
+use Rattle.std.proofs.Common.{ap, refl, sym, ◌∙◌}
 use Rattle.std.specs.Prelude.{is_some}
 use Rattle.iox_lanes.specs.Lanes.{without_returned}
 use Rattle.iox_lanes.specs.Marks.{has_returned_at}
@@ -10,25 +10,25 @@ pub get_one_back-place-requires : goal.get_one_back-place-requires
 get_one_back-place-requires c = record {
   some = rw (← c.self.view_is)
       (lowest_has (record { sender = c.self.inside.sender; lanes = c.self.inside.lanes.items; states = c.self.inside.states.items }) 0
-      (first_marked c.self.inside.marks c.self.inside.lanes.items c.self.invariant c.if-self-eq-FIRST.true));
+      (first_marked c.self.inside.marks c.self.inside.lanes.items c.self.invariant (c.if-has_first_alone.ensures.first refl)));
 }
 
-pub returns-then-self-eq-FIRST-clause-lowest : goal.returns-then-self-eq-FIRST-clause-lowest
-returns-then-self-eq-FIRST-clause-lowest c =
+pub returns-then-has_first_alone-clause-lowest : goal.returns-then-has_first_alone-clause-lowest
+returns-then-has_first_alone-clause-lowest c =
     rw (← c.self.view_is)
-    (sym (first_marked c.self.inside.marks c.self.inside.lanes.items c.self.invariant c.if-self-eq-FIRST.true))
+    (sym (first_marked c.self.inside.marks c.self.inside.lanes.items c.self.invariant (c.if-has_first_alone.ensures.first refl)))
 
-pub returns-then-self-eq-FIRST-clause-more : goal.returns-then-self-eq-FIRST-clause-more
-returns-then-self-eq-FIRST-clause-more c =
+pub returns-then-has_first_alone-clause-more : goal.returns-then-has_first_alone-clause-more
+returns-then-has_first_alone-clause-more c =
     let back = c.get_one_back-place.ensures.got_back in
     let only = first_alone c.self.inside.sender c.self.inside.lanes.items c.self.inside.states.items without_returned
-    c.self.inside.marks c.self.invariant c.if-self-eq-FIRST.true in
+    c.self.inside.marks c.self.invariant (c.if-has_first_alone.ensures.alone refl) in
     c.get_one_back-place.ensures.more
     ∙ ap (λ (p : PipeState). has_returned_at p.lanes 0) back
     ∙ rw (← c.self.view_is) (sym only)
     ∙ ap (λ (p : PipeState). is_some (lane_to_get p)) (sym back)
 
-pub returns-then-self-eq0-clause-lowest : goal.returns-then-self-eq0-clause-lowest
-returns-then-self-eq0-clause-lowest c =
+pub returns-then-has_none-clause-lowest : goal.returns-then-has_none-clause-lowest
+returns-then-has_none-clause-lowest c =
     rw (← c.self.view_is)
-    (sym (none_marked c.self.inside.marks c.self.inside.lanes.items c.self.invariant c.if-self-eq0.true))
+    (sym (none_marked c.self.inside.marks c.self.inside.lanes.items c.self.invariant (c.if-has_none.ensures refl)))

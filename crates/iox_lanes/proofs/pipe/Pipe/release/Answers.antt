@@ -1,16 +1,16 @@
-use Rattle.std.proofs.Common.{false, sym, ap, ◌∙◌, arith}
+use Rattle.std.proofs.Common.{true, false, sym, ap, ◌∙◌, arith}
 use Rattle.iox_lanes.specs.Lanes.{LaneState, has_returned, is_taken, released}
 use Rattle.iox_lanes.specs.Pipes.{PipeState}
 use Rattle.iox_lanes.proofs.OneLane.{on_lane_at, with_lane_at}
-use Rattle.iox_lanes.proofs.Returns.{marked_more, released_some}
+use Rattle.iox_lanes.proofs.Returns.{marked_at, released_some}
 use Rattle.iox_lanes.proofs.pipe.Pipe.release.Goals as goal
 
 pub invariant_of-self : goal.invariant_of-self
 invariant_of-self c =
-    marked_more c.self.inside.marks c.with_mark-self-inside.result c.self.inside.lanes.items c.args.lane c.release.new.self
+    marked_at c.self.inside.marks c.insert.new.self c.self.inside.lanes.items c.args.lane c.release.new.self true
     c.self.invariant (omega (arith, c.if-len-lane.false, c.len.ensures))
     (ap has_returned c.release.ensures.released ∙ released_some c.index_mut.result.now c.args.place (sym c.if-release.ensures.taken))
-    c.with_mark-self-inside.ensures.here c.with_mark-self-inside.ensures.others
+    c.insert.ensures.here c.insert.ensures.others c.insert.ensures.room
 
 pub returns-then-release-clause-taken : goal.returns-then-release-clause-taken
 returns-then-release-clause-taken c =

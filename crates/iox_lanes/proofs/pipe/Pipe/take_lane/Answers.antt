@@ -4,6 +4,6 @@ use Rattle.iox_lanes.proofs.pipe.Pipe.take_lane.Goals as goal
 
 pub invariant_of-self : goal.invariant_of-self
 invariant_of-self c =
-    marked_but_last c.self.inside.marks c.without_mark-self-inside.result c.self.inside.lanes.items c.take_last-last.new.lanes.items c.len.result
+    marked_but_last c.self.inside.marks c.remove.new.self c.self.inside.lanes.items c.take_last-last.new.lanes.items c.len.result
     c.self.invariant c.take_last-last.ensures.left (c.len.ensures ∙ c.take_last-last.new.lanes.ok.0)
-    c.without_mark-self-inside.ensures.here c.without_mark-self-inside.ensures.others c.without_mark-self-inside.ensures.rest
+    c.remove.ensures.here c.remove.ensures.others c.remove.ensures.room

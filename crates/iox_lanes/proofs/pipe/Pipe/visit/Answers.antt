@@ -1,14 +1,14 @@
-use Rattle.std.proofs.Common.{sym, arith}
+use Rattle.std.proofs.Common.{true, sym, arith}
 use Rattle.iox_lanes.specs.Pipes.{PipeState}
 use Rattle.iox_lanes.proofs.OneLane.{visit_at, visited_at}
-use Rattle.iox_lanes.proofs.Returns.{marked_more, still_marked, visited_same}
+use Rattle.iox_lanes.proofs.Returns.{marked_at, still_marked, visited_same}
 use Rattle.iox_lanes.proofs.pipe.Pipe.visit.Goals as goal
 
 pub invariant_of-self : goal.invariant_of-self
 invariant_of-self g c =
-    marked_more c.self.inside.marks c.with_mark-self-inside.result c.self.inside.lanes.items c.args.lane c.visit_lane-visit.new.lane
+    marked_at c.self.inside.marks c.insert.new.self c.self.inside.lanes.items c.args.lane c.visit_lane-visit.new.lane true
     c.self.invariant (omega (arith, c.if-len-lane.false, c.len.ensures)) (sym c.if-has_returned.ensures)
-    c.with_mark-self-inside.ensures.here c.with_mark-self-inside.ensures.others
+    c.insert.ensures.here c.insert.ensures.others c.insert.ensures.room
 
 pub returns-then-has_returned-clause-visit : goal.returns-then-has_returned-clause-visit
 returns-then-has_returned-clause-visit g c =

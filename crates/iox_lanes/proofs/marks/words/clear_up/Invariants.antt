@@ -1,0 +1,16 @@
+use Rattle.std.proofs.Common.{◌≡◌, ◌≤◌, ℕ}
+use Rattle.iox_lanes.specs.Marks.{TellBut, TellsOfWord, is_marked}
+use Rattle.iox_lanes.proofs.marks.words.clear_up.Given as goal
+
+-- all is told but of the word to which it came
+abbrev pub invariant-loop-at : goal.invariant-loop-at
+invariant-loop-at l = record {
+  within : l.at ≤ l.from;
+  tells : (marks : ℕ) → l.from ≤ marks → TellBut l.initial.words marks l.from
+      → TellsOfWord l.initial.words l.from
+      → TellBut l.words marks l.at × TellsOfWord l.words l.at;
+  others : (k : ℕ) → l.from ≤ k → is_marked l.words k ≡ is_marked l.initial.words k;
+}
+
+abbrev pub decreases-loop-at : goal.decreases-loop-at
+decreases-loop-at l = l.at
