@@ -24,11 +24,11 @@ use Rattle.iox_hub_ports.specs.declared.info.PortInfo.{PortInfo}
 use Rattle.iox_hub_ports.specs.Ports.{info_at, info_in, info_of, on_way_at}
 use Rattle.iox_hub_ports.proofs.Seats.{first_at}
 use Rattle.iox_control.specs.Controls.{ControlState, IsControl}
-use Rattle.iox_control_retrieving.specs.Retrieving.{ways_to}
+use Rattle.iox_control_retrieving.specs.Retrieving.{first_ways, ways_to}
 use Rattle.iox_control_retrieving.proofs.AtPlaces.{IsInPlace, told_there}
 use Rattle.iox_control_retrieving.proofs.Infos.{pool_is}
 use Rattle.iox_control_retrieving.proofs.Lanes.{first_lanes, lane_way, none_alike, ways_are, width}
-use Rattle.iox_control_retrieving.proofs.Places.{first_ways, ways_by_place}
+use Rattle.iox_control_retrieving.proofs.Places.{ways_by_place}
 use Rattle.iox_control_lending.specs.declared.asked.Asked.{Asked}
 use Rattle.iox_control_lending.specs.declared.asked.Loaned.{Loaned}
 use Rattle.iox_control_lending.specs.Lends.{HasFreeThen, IsLoaned, MayBeMade}

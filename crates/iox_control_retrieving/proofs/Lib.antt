@@ -8,3 +8,5 @@ pub mod Infos
 pub mod Lanes
 pub mod FromPort
 pub mod Places
+pub mod Later
+pub mod InRole

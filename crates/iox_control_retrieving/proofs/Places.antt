@@ -1,5 +1,5 @@
 -- The ways of a port, by the places and by the numbers of the ports that it sends to; and the walk over these places.
-use Rattle.std.specs.Prelude.{◌≡◌, ℕ, ◌+◌, ◌≤◌, ◌<◌, zero, suc, Bool, true, false, ◌||◌, if◌then◌else◌, List, [], ◌∷◌, ◌++◌, length, map, flat_map, filter, Some, None, slice_get, refl}
+use Rattle.std.specs.Prelude.{◌≡◌, ℕ, ◌+◌, ◌≤◌, ◌<◌, zero, suc, Bool, true, false, ◌||◌, if◌then◌else◌, List, [], ◌∷◌, ◌++◌, length, map, flat_map, filter, Some, slice_get, refl}
 use Rattle.std.specs.List.{range_with_len}
 use Rattle.std.specs.Option.{option_map}
 use Rattle.std.proofs.Common.{sym, ap, subst, ◌∙◌, arith, true≢false}
@@ -25,37 +25,31 @@ use Rattle.iox_tables.specs.HubLoans.Lenders.{ways_by, ways_to_client}
 use Rattle.iox_tables.proofs.HubKeeping.Ordered.{names_apart}
 use Rattle.iox_tables.proofs.HubLending.Back.{ways_apart}
 use Rattle.iox_control.specs.Controls.{ControlState, IsControl}
-use Rattle.iox_control_retrieving.specs.Retrieving.{GetsBack, IsOther, ways_to}
+use Rattle.iox_control_retrieving.specs.Retrieving.{GetsBack, IsOther, first_ways, ways_at, ways_before, ways_to}
 use Rattle.iox_control_retrieving.proofs.Infos.{as_many, infos_of, infos_stay, same_info, same_numbers, same_places, same_size}
 use Rattle.iox_control_retrieving.proofs.Together.{gets_both, gets_nothing}
 
 -- ---- the ways of the first in a list
 
 module _ {A : Type 0} (f : A → List Way) where
-  -- the ways of the first so many
-  abbrev pub first_ways : List A → ℕ → List Way
-  first_ways [] i = []
-  first_ways (x ∷ xs) zero = []
-  first_ways (x ∷ xs) (suc i) = f x ++ first_ways xs i
-
-  ways_of_none : (xs : List A) → first_ways xs zero ≡ []
+  ways_of_none : (xs : List A) → first_ways f xs zero ≡ []
   ways_of_none [] = refl
   ways_of_none (x ∷ xs) = refl
 
-  one_more : (xs : List A) (i : ℕ) (x : A) → slice_get xs i ≡ Some x → first_ways xs (suc i) ≡ first_ways xs i ++ f x
+  one_more : (xs : List A) (i : ℕ) (x : A) → slice_get xs i ≡ Some x → first_ways f xs (suc i) ≡ first_ways f xs i ++ f x
   one_more [] i x at = absurd (none-some x at)
   one_more (y ∷ ys) zero x at = ap (λ ws. f y ++ ws) (ways_of_none ys) ∙ append-nil (f y) ∙ ap f (same_Some y x at)
-  one_more (y ∷ ys) (suc i) x at = ap (λ ws. f y ++ ws) (one_more ys i x at) ∙ sym (append_assoc (f y) (first_ways ys i) (f x))
+  one_more (y ∷ ys) (suc i) x at = ap (λ ws. f y ++ ws) (one_more ys i x at) ∙ sym (append_assoc (f y) (first_ways f ys i) (f x))
 
-  all_ways : (xs : List A) (i : ℕ) → length xs ≤ i → first_ways xs i ≡ flat_map f xs
+  all_ways : (xs : List A) (i : ℕ) → length xs ≤ i → first_ways f xs i ≡ flat_map f xs
   all_ways [] i all = refl
   all_ways (x ∷ xs) zero all = absurd (omega (arith, all))
   all_ways (x ∷ xs) (suc i) all = ap (λ ws. f x ++ ws) (all_ways xs i (omega (arith, all)))
 
-  others : (xs : List A) (i : ℕ) → (ws : List Way) × (flat_map f xs ≡ first_ways xs i ++ ws)
+  others : (xs : List A) (i : ℕ) → (ws : List Way) × (flat_map f xs ≡ first_ways f xs i ++ ws)
   others [] i = ([], refl)
   others (x ∷ xs) zero = (flat_map f (x ∷ xs), refl)
-  others (x ∷ xs) (suc i) = let r = others xs i in (r.0, ap (λ ws. f x ++ ws) r.1 ∙ sym (append_assoc (f x) (first_ways xs i) r.0))
+  others (x ∷ xs) (suc i) = let r = others xs i in (r.0, ap (λ ws. f x ++ ws) r.1 ∙ sym (append_assoc (f x) (first_ways f xs i) r.0))
 
 front_apart : (ws vs : List Way) → AreDistinctWays (ws ++ vs) → AreDistinctWays ws
 front_apart [] vs apart = tt
@@ -105,11 +99,6 @@ same_ways t t' Server n to same =
 
 -- ---- the ways of a port by number
 
--- the ways to the port of that number, which is of the other role
-abbrev pub ways_at : Role → HubTables → ℕ → ℕ → List Way
-ways_at Client t n m = request_way n m ∷ []
-ways_at Server t n m = ways_to_client t n m
-
 each_alone : {A B : Type 0} (f : A → B) (xs : List A) → map f xs ≡ flat_map (λ x. f x ∷ []) xs
 each_alone f [] = refl
 each_alone f (x ∷ xs) = ap (λ ys. f x ∷ ys) (each_alone f xs)
@@ -131,7 +120,7 @@ ways_there Server t n p is = step p.role is
     step Client e = refl
     step Server e = absurd (true≢false (sym e))
 
-differs : (role r : Role) → same_role r (other_role role) ≡ true → same_role role r ≡ false
+pub differs : (role r : Role) → same_role r (other_role role) ≡ true → same_role role r ≡ false
 differs Client Client e = absurd (true≢false (sym e))
 differs Client Server e = refl
 differs Server Client e = refl
@@ -155,17 +144,13 @@ said_at c at info p order said here =
     (ap (option_map info_of) there ∙ ap (λ i. Some i) (sym same), there)
 
 module _ (c : ControlState) (port : ℕ) (from : PortInfo) (order : IsControl c) (said : info_in c.tables.ports port ≡ Some from) where
-  -- the ways to the first so many ports of the other role
-  abbrev pub ways_before : ℕ → List Way
-  ways_before i = first_ways (ways_at from.role c.tables from.number) (numbers_of_role (other_role from.role) c.tables.ports) i
-
-  before_apart : (i : ℕ) → AreDistinctWays (ways_before i)
+  before_apart : (i : ℕ) → AreDistinctWays (ways_before c from i)
   before_apart i =
       let r = others (ways_at from.role c.tables from.number) (numbers_of_role (other_role from.role) c.tables.ports) i in
-      front_apart (ways_before i) r.0
+      front_apart (ways_before c from i) r.0
       (subst AreDistinctWays (ways_by_number from.role c.tables from.number ∙ r.1) (ways_apart c.tables order.order from.role from.number))
 
-  pub begins : GetsBack c (ways_before 0) c
+  pub begins : GetsBack c (ways_before c from 0) c
   begins =
       subst (λ ws. GetsBack c ws c)
       (sym (ways_of_none (ways_at from.role c.tables from.number) (numbers_of_role (other_role from.role) c.tables.ports))) (gets_nothing c order)
@@ -175,9 +160,9 @@ module _ (c : ControlState) (port : ℕ) (from : PortInfo) (order : IsControl c)
       let r = some_map info_of (port_in c.tables.ports port) from said in
       sym (ap (λ (i : PortInfo). i.number) r.2) ∙ first_key (λ (p : PortState). p.number) c.tables.ports port r.0 r.1
 
-  module _ (now : ControlState) (i : ℕ) (got : GetsBack c (ways_before i) now) where
+  module _ (now : ControlState) (i : ℕ) (got : GetsBack c (ways_before c from i) now) where
     infos : infos_of now.tables.ports ≡ infos_of c.tables.ports
-    infos = infos_stay c now (ways_before i) got
+    infos = infos_stay c now (ways_before c from i) got
 
     pub sender_said : info_in now.tables.ports from.number ≡ Some from
     sender_said = same_info now.tables.ports c.tables.ports from.number infos ∙ ap (info_in c.tables.ports) number_is ∙ said
@@ -195,19 +180,19 @@ module _ (c : ControlState) (port : ℕ) (from : PortInfo) (order : IsControl c)
 
       pub turns : (new : ControlState)
           → ((p : PortState) → slice_get now.tables.ports at ≡ Some p → GetsBack now (ways_to from.role now.tables from.number (info_of p)) new)
-          → GetsBack c (ways_before (i + 1)) new
+          → GetsBack c (ways_before c from (i + 1)) new
       turns new more =
-          let next : ways_before (i + 1) ≡ ways_before i ++ ways_to from.role c.tables from.number (info_of found.0)
-          = ap ways_before (let e : i + 1 ≡ suc i = omega arith in e)
+          let next : ways_before c from (i + 1) ≡ ways_before c from i ++ ways_to from.role c.tables from.number (info_of found.0)
+          = ap (ways_before c from) (let e : i + 1 ≡ suc i = omega arith in e)
           ∙ one_more (ways_at from.role c.tables from.number) (numbers_of_role (other_role from.role) c.tables.ports) i found.0.number
           (ap (λ ns. slice_get ns i) (sym (same_numbers (other_role from.role) now.tables.ports c.tables.ports infos)) ∙ found.2)
-          ∙ ap (λ vs. ways_before i ++ vs) (ways_there from.role c.tables from.number found.0 found.3) in
+          ∙ ap (λ vs. ways_before c from i ++ vs) (ways_there from.role c.tables from.number found.0 found.3) in
           subst (λ vs. GetsBack c vs new) (sym next)
-          (gets_both c now new (ways_before i) (ways_to from.role c.tables from.number (info_of found.0)) (subst AreDistinctWays next (before_apart (i + 1))) got
+          (gets_both c now new (ways_before c from i) (ways_to from.role c.tables from.number (info_of found.0)) (subst AreDistinctWays next (before_apart (i + 1))) got
           (subst (λ vs. GetsBack now vs new) (same_ways now.tables c.tables from.role from.number (info_of found.0) infos) (more found.0 found.1)))
 
   -- at the end all ways of the port were visited
-  pub finishes : (now : ControlState) (i : ℕ) → GetsBack c (ways_before i) now → length (places_of (other_role from.role) c.tables.ports) ≤ i
+  pub finishes : (now : ControlState) (i : ℕ) → GetsBack c (ways_before c from i) now → length (places_of (other_role from.role) c.tables.ports) ≤ i
       → (p : PortState) → port_in c.tables.ports port ≡ Some p → GetsBack c (ways_by p.role c.tables p.number) now
   finishes now i got last p there =
       let many = as_many (other_role from.role) 0 c.tables.ports in

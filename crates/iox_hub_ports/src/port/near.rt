@@ -10,7 +10,7 @@ ghost use Rattle.iox_hub_ports.specs.Ports.{lane_to_get_on, on_lane_from, state_
 
 use crate::port::Port;
 use iox_model::way::RequestState;
-use iox_tables::pipe::Next;
+use iox_tables::pipe::{Left, Next};
 use iox_tables::steps::PipeStep;
 
 impl Port {
@@ -84,6 +84,16 @@ impl Port {
         ensures { result ≡ state_from self.now sender lane }
     {
         self.state(sender, lane)
+    }
+
+    /// What is left to get back by this sender, whose pipe is looked for at the hint alone. Any
+    /// answer is right: it tells which way is short.
+    #[inline(always)]
+    pub fn left_at(&self, sender: u64, hint: usize) -> Left {
+        if self.keeps_none() {
+            return self.incoming.left_at(sender, hint);
+        }
+        Left::Other
     }
 
     /// Gets back the oldest message of those that were given back on the lowest lane from this

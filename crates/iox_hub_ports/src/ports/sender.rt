@@ -13,7 +13,7 @@ use crate::ports::Ports;
 use crate::steps::{Deliver, Evict, GetBack, Push};
 use crate::walks::on_lane_at;
 use iox_model::way::Way;
-use iox_tables::pipe::Next;
+use iox_tables::pipe::{Left, Next};
 
 impl Ports {
     /// The lowest lane from the sender to the receiver on which something is left to get back, if
@@ -78,6 +78,15 @@ impl Ports {
     }
 
     // ---- for each port in its place
+
+    /// What is left to get back of what the port in that place gave back to this sender, whose pipe
+    /// is looked for at the hint alone. Any answer is right: it tells which way is short.
+    #[inline(always)]
+    pub fn left_in(&self, at: usize, sender: u64, hint: usize) -> Left
+        requires { at < length self.now.ports }
+    {
+        self.ports[at].left_at(sender, hint)
+    }
 
     /// Gets back the oldest message of those that the port in that place gave back on the lowest
     /// lane from the sender on which something is left to get back, if there is one. The pipe is

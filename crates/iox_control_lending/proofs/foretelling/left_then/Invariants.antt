@@ -2,7 +2,7 @@ use Rattle.std.proofs.Common.{◌≡◌, ◌-◌, length}
 use Rattle.iox_model.specs.Maps.{AreDistinct}
 use Rattle.iox_tables.specs.HubStates.Tables.{numbers_of}
 use Rattle.iox_tables.specs.HubBooks.Counts.{total}
-use Rattle.iox_control_retrieving.proofs.Places.{first_ways}
+use Rattle.iox_control_retrieving.specs.Retrieving.{first_ways}
 use Rattle.iox_control_lending.proofs.Foretold.{given_on, ways_to_port}
 use Rattle.iox_control_lending.proofs.foretelling.left_then.Given as goal
 

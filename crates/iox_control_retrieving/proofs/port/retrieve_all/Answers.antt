@@ -1,4 +1,4 @@
-use Rattle.std.proofs.Common.{◌≡◌, ◌<◌, Some, ap, is_some, length, subst, sym, true, ◌∙◌}
+use Rattle.std.proofs.Common.{◌<◌, ap, is_some, length, subst, sym, ◌∙◌}
 use Rattle.iox_tables.specs.HubStates.Tables.{port_in}
 use Rattle.iox_tables.proofs.HubStates.Placing.{places_are_of_numbers}
 use Rattle.iox_hub_ports.specs.Ports.{place_in}

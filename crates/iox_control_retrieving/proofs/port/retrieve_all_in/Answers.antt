@@ -1,8 +1,10 @@
-use Rattle.std.proofs.Common.{◌<◌, Some, ap, arith, length, slice_get, subst, sym, ◌∙◌, ℕ}
+use Rattle.std.proofs.Common.{◌<◌, ap, arith, length, slice_get, subst, sym, ◌∙◌}
+use Rattle.iox_model.specs.declared.kind.Role.TheVariants.{Client, Server}
 use Rattle.iox_model.specs.Settings.{other_role}
 use Rattle.iox_tables.proofs.HubStates.Placing.{places_are_of_numbers}
 use Rattle.iox_hub_ports.specs.InPlace.{places_of}
 use Rattle.iox_control.proofs.InPlaceLemmas.{place_within}
+use Rattle.iox_control_retrieving.proofs.Later.{role_there}
 use Rattle.iox_control_retrieving.proofs.Places.{only_gets, only_order, only_there}
 use Rattle.iox_control_retrieving.proofs.port.retrieve_all_in.Goals as goal
 
@@ -41,15 +43,30 @@ returns-then-others_len-eq1-clause-order c =
     (ap (λ ps. slice_get (places_of (other_role c.args.sender.now.role) ps) 0) (sym c.ports-then-others_len-eq1-2.ensures.ports) ∙ c.other-only.ensures.place)
     c.retrieve_from.new.control c.retrieve_from.ensures
 
-pub retrieve_several-requires-clause-there : goal.retrieve_several-requires-clause-there
-retrieve_several-requires-clause-there c = place_within c.args.control.now.tables.ports c.args.sender.now.number c.args.at c.requires.there
+pub retrieve_of_client-requires-clause-there : goal.retrieve_of_client-requires-clause-there
+retrieve_of_client-requires-clause-there c =
+    role_there c.args.control.now.tables.ports c.args.sender.now.number c.args.at c.args.sender.now Client c.requires.said c.requires.there c.in-Client.is
 
-pub returns-clause-left : goal.returns-clause-left
-returns-clause-left c p there =
-    c.retrieve_several.ensures.left p
+pub returns-in-Client-clause-left : goal.returns-in-Client-clause-left
+returns-in-Client-clause-left c p there =
+    c.retrieve_of_client.ensures.left p
     ((places_are_of_numbers c.args.control.now.tables.ports c.args.sender.now.number c.args.at c.requires.there).port ∙ there)
 
-pub returns-clause-back : goal.returns-clause-back
-returns-clause-back c p there =
-    c.retrieve_several.ensures.back p
+pub returns-in-Client-clause-back : goal.returns-in-Client-clause-back
+returns-in-Client-clause-back c p there =
+    c.retrieve_of_client.ensures.back p
+    ((places_are_of_numbers c.args.control.now.tables.ports c.args.sender.now.number c.args.at c.requires.there).port ∙ there)
+
+pub retrieve_of_server-requires-clause-there : goal.retrieve_of_server-requires-clause-there
+retrieve_of_server-requires-clause-there c =
+    role_there c.args.control.now.tables.ports c.args.sender.now.number c.args.at c.args.sender.now Server c.requires.said c.requires.there c.in-Server.is
+
+pub returns-in-Server-clause-left : goal.returns-in-Server-clause-left
+returns-in-Server-clause-left c p there =
+    c.retrieve_of_server.ensures.left p
+    ((places_are_of_numbers c.args.control.now.tables.ports c.args.sender.now.number c.args.at c.requires.there).port ∙ there)
+
+pub returns-in-Server-clause-back : goal.returns-in-Server-clause-back
+returns-in-Server-clause-back c p there =
+    c.retrieve_of_server.ensures.back p
     ((places_are_of_numbers c.args.control.now.tables.ports c.args.sender.now.number c.args.at c.requires.there).port ∙ there)

@@ -1,6 +1,4 @@
-use Rattle.std.proofs.Common.{◌<◌, Some, ap, length, subst, sym, ◌∙◌}
-use Rattle.std.proofs.lemmas.Option.{slice_get_within}
-use Rattle.std.specs.Prelude.{slice_get}
+use Rattle.std.proofs.Common.{ap, ◌∙◌}
 use Rattle.iox_hub_ports.specs.Ports.{info_at}
 use Rattle.iox_control_retrieving.proofs.Places.{at_within, said_at}
 use Rattle.iox_control_retrieving.proofs.port.retrieve_several.Goals as goal
