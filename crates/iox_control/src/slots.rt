@@ -1,14 +1,15 @@
 //! Single changes of slots and of handles.
 ghost use Rattle.std.specs.List.{list_any};
-ghost use Rattle.std.specs.Prelude.{◌≡◌, ◌==◌, ◌<◌, IfSome, IsSome, None, ◌↔◌, filter, is_some, map, true};
+ghost use Rattle.std.specs.Prelude.{◌≡◌, ◌==◌, ◌<◌, IfSome, IsSome, None, ◌↔◌, false, filter, is_some, map, true};
 ghost use Rattle.std.specs.Bool.{OnFalse};
 ghost use Rattle.std.specs.Option.{option_map};
 ghost use Rattle.iox_handles.specs.Least.{least};
 ghost use Rattle.iox_hub_ports.specs.HubStates.Ends.{with_changed};
-ghost use Rattle.iox_hub_ports.specs.HubStates.Tables.{pool_at, slot_at};
+ghost use Rattle.iox_hub_ports.specs.HubStates.Tables.{pool_at, slot_at, slots_of};
 ghost use Rattle.iox_hub_ports.specs.HubStates.Wirings.{handle_in};
-ghost use Rattle.iox_slots.specs.Pools.{Takes, free_count, has_slot, is_idle, is_taken_at, with_slot};
-ghost use Rattle.iox_slots.specs.Slots.{let_go, taken, written};
+ghost use Rattle.iox_slots.specs.Pools.{Takes, free_count, has_slot, is_taken_at, with_slot};
+ghost use Rattle.iox_slots.specs.Lanes.{is_lane_held, own_lane};
+ghost use Rattle.iox_slots.specs.Slots.{let_go, rewritten, taken, written};
 ghost use Rattle.iox_control.specs.Controls.{with_handle_dropped, with_pools, with_tables};
 ghost use Rattle.iox_control.specs.Entries.{handle_state};
 
@@ -39,25 +40,32 @@ impl Control {
         self.pools.take_of(pool, serial, lane, request, elements)
     }
 
-    /// The same, where nobody has any slot of the pool.
+    /// The same, on the slot's own lane, on which nobody had a message of the pool. It is also
+    /// `None` where it is not known that all messages are on their slots' own lanes.
     #[inline(always)]
-    pub fn take_first(
-        &mut self,
-        pool: usize,
-        serial: u64,
-        lane: u64,
-        request: u64,
-        elements: u64,
-    ) -> Option<u64>
+    pub fn take_own(&mut self, pool: usize, serial: u64, request: u64, elements: u64) -> Option<u64>
         requires { is_some (pool_at self.old.tables.pools pool) ≡ true }
-        ensures idle { IsSome result → is_idle self.old.tables.pools pool ≡ true }
+        ensures unheld { IfSome result (λ k.
+            is_lane_held (slots_of self.old.tables.pools pool)
+            (own_lane (slots_of self.old.tables.pools pool) k) ≡ false) }
         ensures taken { IfSome result (λ k. Takes self.old.tables.pools pool k
-            (taken serial lane request elements) self.new.tables.pools) }
+            (taken serial (own_lane (slots_of self.old.tables.pools pool) k) request elements)
+            self.new.tables.pools) }
         ensures left { self.new ≡ with_pools self.old self.new.tables.pools }
         ensures unchanged { result ≡ None → self.new ≡ self.old }
     {
-        self.pools
-            .take_first_of(pool, serial, lane, request, elements)
+        self.pools.take_own(pool, serial, request, elements)
+    }
+
+    /// Writes another message into a slot that is there, on the lane of the one before. Who has the
+    /// slot still has it.
+    #[inline(always)]
+    pub fn rewrite_slot(&mut self, pool: usize, slot: u64, serial: u64, request: u64, elements: u64)
+        requires { has_slot self.old.tables.pools pool slot ≡ true }
+        ensures { self.new ≡ with_pools self.old
+            (with_slot (rewritten serial request elements) self.old.tables.pools pool slot) }
+    {
+        self.pools.rewrite(pool, slot, serial, request, elements);
     }
 
     /// Writes another message into a slot, and says whether there is such a slot. Who has the slot

@@ -1,5 +1,5 @@
 -- A slot that was taken, and the loan that is made in it.
-use Rattle.std.specs.Prelude.{◌≡◌, ℕ, zero, suc, ◌<◌, length, List, Option, Some, None, find, not, refl}
+use Rattle.std.specs.Prelude.{◌≡◌, ℕ, zero, suc, ◌<◌, length, List, Option, Some, None, IfSome, find, not, refl}
 use Rattle.std.specs.List.{range_with_len}
 use Rattle.std.proofs.Common.{sym, ap, subst, ◌∙◌, arith}
 use Rattle.std.proofs.lemmas.Bool.{lt-ltb}
@@ -12,15 +12,16 @@ use Rattle.iox_tables.specs.HubLoans.Counts.{is_lane_taken}
 use Rattle.iox_tables.specs.HubLoans.Lenders.{Lender}
 use Rattle.iox_tables.specs.HubLending.Choosing.{IsFreeSlot}
 use Rattle.iox_tables.proofs.HubLending.Owning.{number_is}
-use Rattle.iox_slots.specs.Pools.{free_count}
+use Rattle.iox_slots.specs.Pools.{Takes, free_count}
+use Rattle.iox_slots.specs.Slots.{taken}
 use Rattle.iox_slots.proofs.FreeSlots.{free_slot}
 use Rattle.iox_control.specs.Controls.{ControlState, with_pools}
 use Rattle.iox_control_lending.specs.declared.asked.Asked.{Asked}
 use Rattle.iox_control_lending.specs.declared.asked.Lending.{Lending}
 use Rattle.iox_control_lending.specs.declared.asked.Loaned.{Loaned}
-use Rattle.iox_control_lending.specs.Lends.{IsPortOf, IsTaken, LoanIsMade, lender_of, with_handed}
+use Rattle.iox_control_lending.specs.Lends.{IsOnFree, IsPortOf, IsTaken, LoanIsMade, lender_of, with_handed}
 use Rattle.iox_control_lending.specs.Retakes.{IsTakenFor}
-use Rattle.iox_control_lending.proofs.LaneLemmas.{has_lane}
+use Rattle.iox_control_lending.proofs.LaneLemmas.{found_free, has_lane}
 use Rattle.iox_control_lending.proofs.MadeLemmas.{slot_within}
 
 -- where no lane of a client is free, no slot is
@@ -41,6 +42,16 @@ none_free t n p order there none = step (free_count t.pools p.pool) refl
           free = k.2;
         } in
         absurd (has_lane t n k.0 p order is (ap (λ m. find (λ k. not (is_lane_taken t m k)) (range_with_len 0 p.size)) (number_is t order n p there) ∙ none))
+
+-- a slot that is taken on a lane that was found has a request on a lane that is not taken
+pub on_found : (t : HubTables) (client size pool lane serial request elements : ℕ) (pools : List (Option PoolState)) (o : Option ℕ)
+    → find (λ k. not (is_lane_taken t client k)) (range_with_len 0 size) ≡ Some lane
+    → IfSome o (λ k. Takes t.pools pool k (taken serial lane request elements) pools)
+    → IfSome o (λ k. IsOnFree t client size pool k serial request elements pools)
+on_found t client size pool lane serial request elements pools None found takes = takes
+on_found t client size pool lane serial request elements pools (Some k) found takes =
+    let free = found_free t client size lane found in
+    record { lane = lane; within = free.0; free = free.1; takes = takes }
 
 -- a slot that the loan has was free
 pub is_free_slot : (t : HubTables) (l : Lending) (of : IsPortOf t l) (elements slot : ℕ) (pools : List (Option PoolState))

@@ -1,7 +1,7 @@
 -- The lane of a loan.
-use Rattle.std.specs.Prelude.{◌≡◌, ℕ, zero, suc, ◌+◌, ◌<◌, ◌&&◌, Bool, true, false, not, if◌then◌else◌, List, [], ◌∷◌, find, Some, None, refl}
+use Rattle.std.specs.Prelude.{◌≡◌, ℕ, zero, suc, ◌+◌, ◌<◌, ◌&&◌, Bool, true, false, not, if◌then◌else◌, List, [], ◌∷◌, find, Option, Some, None, refl}
 use Rattle.std.specs.List.{list_all, range_with_len}
-use Rattle.std.proofs.Common.{sym, ap, ◌∙◌, arith, true≢false}
+use Rattle.std.proofs.Common.{sym, ap, subst, ◌∙◌, arith, true≢false}
 use Rattle.std.proofs.lemmas.Option.{none-some, same_Some}
 use Rattle.iox_model.specs.declared.kind.Role.TheVariants.{Client}
 use Rattle.iox_tables.specs.HubStates.Tables.{HubTables, PortState}
@@ -10,7 +10,7 @@ use Rattle.iox_tables.specs.HubLoans.Counts.{is_lane_taken}
 use Rattle.iox_tables.specs.HubLoans.Lenders.{Lender}
 use Rattle.iox_tables.specs.HubLending.Choosing.{IsFreeSlot}
 use Rattle.iox_tables.proofs.HubLending.Chosen.{free_slots_have_lanes}
-use Rattle.iox_control_lending.specs.Lends.{lane_by}
+use Rattle.iox_control_lending.specs.Lends.{MayBeOn}
 
 -- what is found passes, and is in the range
 pub found_passes : (test : ℕ → Bool) (a n k : ℕ) → find test (range_with_len a n) ≡ Some k → (test k ≡ true) × (k < a + n)
@@ -43,10 +43,30 @@ pub has_lane : (t : HubTables) (n slot : ℕ) (p : PortState) → AreInOrder t �
     → find (λ k. not (is_lane_taken t p.number k)) (range_with_len 0 p.size) ≡ None → ⊥
 has_lane t n slot p order is e = true≢false (sym (none_found (is_lane_taken t p.number) (range_with_len 0 p.size) e) ∙ free_slots_have_lanes t n slot p order is)
 
--- a client's lane is below its size
-pub lane_within : (t : HubTables) (y : Lender) (lane : ℕ) → lane_by y.port.role t y ≡ Some lane → y.port.role ≡ Client → lane < y.port.size
-lane_within t y lane e role =
-    within (found_passes (λ k. not (is_lane_taken t y.port.number k)) 0 y.port.size lane (sym (ap (λ r. lane_by r t y) role) ∙ e)).1
+not_taken : (b : Bool) → not b ≡ true → b ≡ false
+not_taken true e = absurd (true≢false (sym e))
+not_taken false e = refl
+
+-- a lane that is found is free
+pub found_free : (t : HubTables) (n size lane : ℕ) → find (λ k. not (is_lane_taken t n k)) (range_with_len 0 size) ≡ Some lane
+    → (lane < size) × (is_lane_taken t n lane ≡ false)
+found_free t n size lane e =
+    let found = found_passes (λ k. not (is_lane_taken t n k)) 0 size lane e in
+    (within found.1, not_taken (is_lane_taken t n lane) found.0)
   where
-    within : lane < 0 + y.port.size → lane < y.port.size
+    within : lane < 0 + size → lane < size
     within is = omega (arith, is)
+
+-- so there is one
+pub some_lane : (t : HubTables) (n slot : ℕ) (p : PortState) → AreInOrder t → IsFreeSlot t n p t.pools slot
+    → (lane : ℕ) × (lane < p.size) × (is_lane_taken t p.number lane ≡ false)
+some_lane t n slot p order is = by_lane (find (λ k. not (is_lane_taken t p.number k)) (range_with_len 0 p.size)) refl
+  where
+    by_lane : (o : Option ℕ) → find (λ k. not (is_lane_taken t p.number k)) (range_with_len 0 p.size) ≡ o
+        → (lane : ℕ) × (lane < p.size) × (is_lane_taken t p.number lane ≡ false)
+    by_lane None none = absurd (has_lane t n slot p order is none)
+    by_lane (Some lane) found = let free = found_free t p.number p.size lane found in (lane, free.0, free.1)
+
+-- a client's lane is below its size
+pub lane_within : (t : HubTables) (y : Lender) (lane : ℕ) → MayBeOn y.port.role t y lane → y.port.role ≡ Client → lane < y.port.size
+lane_within t y lane on role = (subst (λ r. MayBeOn r t y lane) role on).0

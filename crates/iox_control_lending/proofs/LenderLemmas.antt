@@ -1,9 +1,8 @@
 -- The loans of clients and of active requests are whole calls.
-use Rattle.std.specs.Prelude.{◌≡◌, ℕ, ◌+◌, ◌<◌, ◌&&◌, ◌||◌, ◌==◌, nat_lt, not, Bool, true, false, List, [], ◌∷◌, Option, Some, refl}
+use Rattle.std.specs.Prelude.{◌≡◌, ℕ, ◌&&◌, ◌||◌, ◌==◌, nat_lt, not, Bool, true, false, List, [], ◌∷◌, Option, refl}
 use Rattle.std.specs.List.{list_all, list_any, range_with_len}
-use Rattle.std.proofs.Common.{sym, ap, ap₂, subst, ◌∙◌, inl, inr, arith, true≢false}
+use Rattle.std.proofs.Common.{sym, ap, ap₂, subst, ◌∙◌, inl, inr, true≢false}
 use Rattle.std.proofs.lemmas.Bool.{lt-ltb}
-use Rattle.std.proofs.lemmas.Option.{same_Some}
 use Rattle.iox_lanes.specs.declared.wanted.Label.{Label}
 use Rattle.iox_model.specs.declared.kind.Kind.TheVariants.{PendingResponse}
 use Rattle.iox_model.specs.Begins.{MayChoose}
@@ -26,8 +25,7 @@ use Rattle.iox_tables.proofs.HubLending.Owning.{handles_are_on_nodes}
 use Rattle.iox_control.specs.Controls.{ControlState}
 use Rattle.iox_control_lending.specs.declared.asked.Asked.{Asked}
 use Rattle.iox_control_lending.specs.declared.asked.Lent.{Lent}
-use Rattle.iox_control_lending.specs.Lends.{IsAskedOf, Lends, given_after, lane_by, reply_of_loan}
-use Rattle.iox_control_lending.proofs.LaneLemmas.{found_passes}
+use Rattle.iox_control_lending.specs.Lends.{IsAskedOf, Lends, MayBeOn, given_after, reply_of_loan}
 use Rattle.iox_control_lending.proofs.WholeLemmas.{MayTake, choice_of, lends_whole}
 
 pub names_it : (uninit : Bool) (n k : ℕ) → number_of (loan_call uninit n k) ≡ n
@@ -80,16 +78,13 @@ module _ (x : Given) (c : ControlState) (node n : ℕ) (a : Asked) (order : AreI
       with_memory : (ch : Choice) → ch.memory ≡ true → ch ≡ choice_of ch.lane
       with_memory ch e = ap (λ (b : Bool). record { lane = ch.lane; memory = b }) e
 
-  lane_free : (pools : List (Option PoolState)) (lane : ℕ) → AreGotBack t p pools → lane_by p.role (with_back t p pools) y ≡ Some lane → is_lane_free t p lane ≡ true
+  lane_free : (pools : List (Option PoolState)) (lane : ℕ) → AreGotBack t p pools → MayBeOn p.role (with_back t p pools) y lane → is_lane_free t p lane ≡ true
   lane_free pools lane back chosen =
-      let found = found_passes (λ k. not (is_lane_taken (with_back t p pools) p.number k)) 0 p.size lane (sym (ap (λ r. lane_by r (with_back t p pools) y) client.client) ∙ chosen) in
+      let on = subst (λ r. MayBeOn r (with_back t p pools) y lane) client.client chosen in
       opens (not (is_lane_taken t p.number lane)) (nat_lt lane p.size) (list_all (is_lane_taken t p.number) (range_with_len 0 p.size))
-      (ap not (sym (taken_same t p pools p.number lane back)) ∙ found.0)
-      (lt-ltb lane p.size (within found.1))
+      (ap not (sym (taken_same t p pools p.number lane back) ∙ on.1))
+      (lt-ltb lane p.size on.0)
     where
-      within : lane < 0 + p.size → lane < p.size
-      within e = omega (arith, e)
-
       opens : (f g h : Bool) → f ≡ true → g ≡ true → (f && (g || h)) ≡ true
       opens true true h e e' = refl
       opens true false h e e' = absurd (true≢false (sym e'))
@@ -126,8 +121,8 @@ module _ (x : Given) (c : ControlState) (node n : ℕ) (a : Asked) (order : AreI
     may = (each_choice_may_be x its node n (choice_of of.lane) (handles_are_on_nodes its order)).responses active its_call (names_it a.uninit n a.elements);
   }
 
-  lane_own : (u : HubTables) (lane : ℕ) → lane_by active.port.role u of ≡ Some lane → of.lane ≡ lane
-  lane_own u lane e = same_Some of.lane lane (sym (ap (λ r. lane_by r u of) active.server) ∙ e)
+  lane_own : (u : HubTables) (lane : ℕ) → MayBeOn active.port.role u of lane → of.lane ≡ lane
+  lane_own u lane on = subst (λ r. MayBeOn r u of lane) active.server on
 
   pub active_whole : (new : ControlState) (result : Lent) → Lends c of a result new → IsAskedOf x.response a
       → IsWholeCall (state_shown x its) node its_call (reply_of_loan result) (state_shown (given_after x x.response a result) new.tables)

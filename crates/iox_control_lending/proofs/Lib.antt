@@ -1,7 +1,6 @@
 pub mod CountLemmas
 pub mod Owns
-pub mod HeldLemmas
-pub mod LowestLemmas
+pub mod HeldLanes
 pub mod SlotLemmas
 pub mod LaneLemmas
 pub mod MadeLemmas

@@ -120,11 +120,16 @@ messages_of t (h ∷ hs) each = (each.0.either, messages_of t hs each.1)
 pub have_messages : (t : HubTables) → AreInOrder t → HaveMessages t
 have_messages t order = messages_of t t.handles order.ports
 
+-- a port's pool has as many slots as its size
+pub slots_are : (t : HubTables) (n : ℕ) (p : PortState) → AreInOrder t → port_in t.ports n ≡ Some p → length (slots_of t.pools p.pool) ≡ p.size
+slots_are t n p order there =
+    let pool : HasPool t p = order.pools.each n p there in
+    ap (λ o. length (option_map_or (λ q. q.slots) o [])) pool.there ∙ pool.size
+
 -- a slot that is there is below the size of its port
 pub slot_within : (t : HubTables) (n k : ℕ) (p : PortState) → AreInOrder t → port_in t.ports n ≡ Some p → has_slot t.pools p.pool k ≡ true → k < p.size
 slot_within t n k p order there has =
-    let pool : HasPool t p = order.pools.each n p there in
-    let many : length (slots_of t.pools p.pool) ≡ p.size = ap (λ o. length (option_map_or (λ q. q.slots) o [])) pool.there ∙ pool.size in
+    let many = slots_are t n p order there in
     let low : k < length (slots_of t.pools p.pool) = below k (length (slots_of t.pools p.pool)) has in
     omega (arith, many, low)
   where

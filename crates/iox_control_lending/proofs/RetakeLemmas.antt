@@ -1,42 +1,32 @@
 -- A loan in the slot of the message that was got back last, which nobody else had.
-use Rattle.std.specs.Prelude.{◌≡◌, ℕ, ◌-◌, ◌<◌, ◌%◌, ◌^◌, ◌&&◌, ◌||◌, ◌==◌, Bool, true, false, if◌then◌else◌, not, nat_lt, List, Option, Some, find, length, refl}
-use Rattle.std.specs.List.{range_with_len}
-use Rattle.std.proofs.Common.{sym, ap, subst, ◌∙◌, arith, eqb-true}
+use Rattle.std.specs.Prelude.{◌≡◌, ℕ, ◌<◌, ◌%◌, ◌^◌, true, false, if◌then◌else◌, nat_lt, List, Option, Some, length, refl}
+use Rattle.std.proofs.Common.{sym, ap, subst, ◌∙◌, arith}
 use Rattle.iox_model.specs.declared.kind.Role.{Role}
 use Rattle.iox_model.specs.declared.kind.Role.TheVariants.{Client, Server}
 use Rattle.iox_model.specs.Settings.{is_client}
 use Rattle.iox_tables.specs.HubStates.Tables.{HubTables, PoolState, PortState, port_in, slot_at, slots_of}
 use Rattle.iox_tables.specs.HubLoans.Counts.{is_lane_taken}
-use Rattle.iox_tables.proofs.HubLending.Owning.{two}
 use Rattle.iox_hub_ports.specs.declared.info.PortInfo.{PortInfo}
 use Rattle.iox_hub_ports.specs.Ports.{place_in}
-use Rattle.iox_slots.specs.Pools.{Takes, free_count, freed_by_one, has_slot, with_slot}
-use Rattle.iox_slots.specs.Slots.{let_go, taken, written}
-use Rattle.iox_slots.proofs.CallerLemmas.{one_less_here, taken_is_there}
-use Rattle.iox_slots.proofs.CountLemmas.{counted_let_go}
+use Rattle.iox_slots.specs.Lanes.{is_lane_held}
+use Rattle.iox_slots.specs.Pools.{Takes, has_slot, with_slot}
+use Rattle.iox_slots.specs.Slots.{let_go, rewritten, taken, written}
+use Rattle.iox_slots.proofs.CallerLemmas.{one_less_here, rewritten_is, taken_is_there}
+use Rattle.iox_slots.proofs.OwnLanes.{lane_is_left}
 use Rattle.iox_slots.proofs.SlotLemmas.{sizes_stay}
 use Rattle.iox_control.specs.Controls.{ControlState, IsControl, with_pools}
-use Rattle.iox_control_retrieving.specs.Alone.{has_one_out}
 use Rattle.iox_control_lending.specs.declared.asked.Lending.{Lending}
-use Rattle.iox_control_lending.specs.Tests.{held_count}
-use Rattle.iox_control_lending.specs.Lends.{IsGotBack, IsPortOf, lane_by, lender_of}
-use Rattle.iox_control_lending.specs.Retakes.{IsTakenAnew, lane_anew, may_be_retaken}
-use Rattle.iox_control_lending.proofs.HeldLemmas.{free_fewer, held_are}
+use Rattle.iox_control_lending.specs.Lends.{IsGotBack, IsPortOf, MayBeOn, lender_of}
+use Rattle.iox_control_lending.specs.Retakes.{IsTakenAnew, MayBeRetaken, lane_anew}
+use Rattle.iox_control_lending.proofs.HeldLanes.{unheld_is_free}
 use Rattle.iox_control_lending.proofs.LendLemmas.{place_back, port_back}
-use Rattle.iox_control_lending.proofs.LowestLemmas.{first_is}
-use Rattle.iox_control_lending.proofs.MadeLemmas.{slot_within}
+use Rattle.iox_control_lending.proofs.MadeLemmas.{slots_are}
 use Rattle.iox_control_lending.proofs.WrittenAnew.{written_anew}
 
--- ---- the slot of a message that several have
+-- ---- whether just one has a message
 
-several : (n : ℕ) → nat_lt 1 n ≡ true → (n == 1) ≡ false
-several n e = grind (arith, e)
-
--- it may not be retaken
-pub shared_stays : (role : Role) (pools : List (Option PoolState)) (pool slot : ℕ) → nat_lt 1 (slot_at pools pool slot).holders ≡ true
-    → false ≡ may_be_retaken role pools pool slot
-shared_stays role pools pool slot shared =
-    sym (ap (λ (b : Bool). b && (not (is_client role) || has_one_out pools pool)) (several (slot_at pools pool slot).holders shared))
+pub just_one : (n : ℕ) → 0 < n → false ≡ nat_lt 1 n → n ≡ 1
+just_one n some e = grind (arith, some, e)
 
 -- ---- what is written, where the port is read anew
 
@@ -45,19 +35,25 @@ module _ (c : ControlState) (l : Lending) (info : PortInfo) (same : info ≡ l.p
   abbrev anew : ℕ → ℕ → ℕ → ControlState
   anew serial lane request = with_pools c (with_slot (written serial lane request elements) c.tables.pools l.port.pool slot)
 
-  pub client_anew : l.port.role ≡ Client → l.request ≡ l.port.loans % 2 ^ 62 → new ≡ anew info.loans 0 (info.loans % 2 ^ 62)
-      → new ≡ anew l.port.loans (lane_anew l) l.request
+  -- where it is written anew for the lender
+  abbrev its_lane : ℕ
+  its_lane = lane_anew l c.tables.pools slot
+
+  pub client_anew : l.port.role ≡ Client → l.request ≡ l.port.loans % 2 ^ 62
+      → new ≡ with_pools c (with_slot (rewritten info.loans (info.loans % 2 ^ 62) elements) c.tables.pools l.port.pool slot)
+      → new ≡ anew l.port.loans its_lane l.request
   client_anew client next left =
       left
-      ∙ ap (λ (i : PortInfo). anew i.loans 0 (i.loans % 2 ^ 62)) same
-      ∙ ap (anew l.port.loans 0) (sym next)
-      ∙ ap (λ (r : Role). anew l.port.loans (if is_client r then 0 else l.lane) l.request) (sym client)
+      ∙ ap (with_pools c) (rewritten_is info.loans (info.loans % 2 ^ 62) elements c.tables.pools l.port.pool slot)
+      ∙ ap (λ (i : PortInfo). anew i.loans (slot_at c.tables.pools l.port.pool slot).lane (i.loans % 2 ^ 62)) same
+      ∙ ap (anew l.port.loans (slot_at c.tables.pools l.port.pool slot).lane) (sym next)
+      ∙ ap (λ (r : Role). anew l.port.loans (if is_client r then (slot_at c.tables.pools l.port.pool slot).lane else l.lane) l.request) (sym client)
 
-  pub server_anew : l.port.role ≡ Server → new ≡ anew info.loans l.lane l.request → new ≡ anew l.port.loans (lane_anew l) l.request
+  pub server_anew : l.port.role ≡ Server → new ≡ anew info.loans l.lane l.request → new ≡ anew l.port.loans its_lane l.request
   server_anew server left =
       left
       ∙ ap (λ (i : PortInfo). anew i.loans l.lane l.request) same
-      ∙ ap (λ (r : Role). anew l.port.loans (if is_client r then 0 else l.lane) l.request) (sym server)
+      ∙ ap (λ (r : Role). anew l.port.loans (if is_client r then (slot_at c.tables.pools l.port.pool slot).lane else l.lane) l.request) (sym server)
 
 -- ---- a slot that just one has, once that one lets it go
 
@@ -77,17 +73,6 @@ module _ (pools : List (Option PoolState)) (place slot : ℕ) (one : (slot_at po
     changed = written_anew serial lane request elements slot pools place one;
   }
 
-  -- where it was the only one, nobody has any
-  none_held : has_one_out pools place ≡ true → held_count (slots_of let_go_there place) ≡ 0
-  none_held out =
-      let only : length (slots_of pools place) - free_count pools place ≡ 1 = eqb-true (length (slots_of pools place) - free_count pools place) 1 out in
-      let freed = counted_let_go pools place slot in
-      let more : freed_by_one pools place slot ≡ 1 = ap (λ (n : ℕ). if n == 1 then 1 else 0) one in
-      let many = sizes_stay let_go pools place slot place in
-      let held = held_are (slots_of let_go_there place) in
-      let fewer = free_fewer (slots_of pools place) in
-      omega (arith, only, freed, more, many, held, fewer)
-
 -- ---- the loan
 
 module _ (c mid : ControlState) (l : Lending) (of : IsPortOf c.tables l) (order : IsControl c) (slot : ℕ)
@@ -106,8 +91,12 @@ module _ (c mid : ControlState) (l : Lending) (of : IsPortOf c.tables l) (order 
   pub place_there : (at : ℕ) → place_in c.tables.ports l.port.number ≡ Some at → place_in mid.tables.ports l.port.number ≡ Some at
   place_there = place_back c between l of order (λ p at. (back p at).left) (λ p at. (back p at).back)
 
-  module _ (ordered : IsControl between) (elements : ℕ) (new : ControlState) (last : may_be_retaken l.port.role mid.tables.pools l.port.pool slot ≡ true)
-      (left : new ≡ with_pools mid (with_slot (written l.port.loans (lane_anew l) l.request elements) mid.tables.pools l.port.pool slot)) where
+  -- the slot is there, before it is let go
+  pub slot_there : (slot_at mid.tables.pools l.port.pool slot).holders ≡ 1 → has_slot mid.tables.pools l.port.pool slot ≡ true
+  slot_there one = taken_is_there mid.tables.pools l.port.pool slot (omega (arith, one))
+
+  module _ (ordered : IsControl between) (elements : ℕ) (new : ControlState) (last : MayBeRetaken l.port.role mid.tables.pools l.port.pool slot)
+      (left : new ≡ with_pools mid (with_slot (written l.port.loans (lane_anew l mid.tables.pools slot) l.request elements) mid.tables.pools l.port.pool slot)) where
     -- the port of the lender
     abbrev p : PortState
     p = port_then.port
@@ -116,43 +105,47 @@ module _ (c mid : ControlState) (l : Lending) (of : IsPortOf c.tables l) (order 
     abbrev t : HubTables
     t = between.tables
 
-    tests : ((slot_at mid.tables.pools l.port.pool slot).holders == 1 ≡ true)
-        × ((not (is_client l.port.role) || has_one_out mid.tables.pools l.port.pool) ≡ true)
-    tests = two ((slot_at mid.tables.pools l.port.pool slot).holders == 1) (not (is_client l.port.role) || has_one_out mid.tables.pools l.port.pool) last
+    -- the lane of the message before
+    abbrev lane_before : ℕ
+    lane_before = (slot_at mid.tables.pools l.port.pool slot).lane
 
-    one : (slot_at mid.tables.pools l.port.pool slot).holders ≡ 1
-    one = eqb-true (slot_at mid.tables.pools l.port.pool slot).holders 1 tests.0
+    -- the lane of the loan
+    abbrev lane : ℕ
+    lane = lane_anew l mid.tables.pools slot
 
     its_pool : l.port.pool ≡ p.pool
     its_pool = ap (λ (i : PortInfo). i.pool) port_then.info
 
-    low : slot < p.size
-    low =
-        slot_within t l.port.number slot p ordered.order port_then.there
-        (subst (λ q. has_slot t.pools q slot ≡ true) its_pool (is_there mid.tables.pools l.port.pool slot one))
+    many : length (slots_of mid.tables.pools l.port.pool) ≡ p.size
+    many =
+        sym (sizes_stay let_go mid.tables.pools l.port.pool slot l.port.pool)
+        ∙ ap (λ q. length (slots_of t.pools q)) its_pool
+        ∙ slots_are t l.port.number p ordered.order port_then.there
 
-    first : has_one_out mid.tables.pools l.port.pool ≡ true → find (λ k. not (is_lane_taken t p.number k)) (range_with_len 0 p.size) ≡ Some 0
-    first out =
-        ap (λ n. find (λ k. not (is_lane_taken t n k)) (range_with_len 0 p.size)) (sym (ap (λ (i : PortInfo). i.number) port_then.info))
-        ∙ sym (first_is t l.port.number p ordered.order port_then.there p.size
-        (subst (λ q. held_count (slots_of t.pools q) ≡ 0) its_pool (none_held mid.tables.pools l.port.pool slot one out)) (let w = low in omega (arith, w)))
+    is_left : l.port.role ≡ Client
+        → (lane_before < length (slots_of mid.tables.pools l.port.pool)) × (is_lane_held (slots_of t.pools l.port.pool) lane_before ≡ false)
+    is_left client = lane_is_left mid.tables.pools l.port.pool slot (last.lanes client) last.one
 
-    lane : (r : Role) → (not (is_client r) || has_one_out mid.tables.pools l.port.pool) ≡ true
-        → lane_by r t (lender_of p l) ≡ Some (if is_client r then 0 else l.lane)
-    lane Client out = first out
-    lane Server out = refl
+    on : (r : Role) → l.port.role ≡ r → MayBeOn r t (lender_of p l) (if is_client r then lane_before else l.lane)
+    on Client client = (
+      (let low = (is_left client).0 in let all = many in omega (arith, low, all)),
+      subst (λ n. is_lane_taken t n lane_before ≡ false) (ap (λ (i : PortInfo). i.number) port_then.info)
+          (unheld_is_free t l.port.number p ordered.order port_then.there lane_before
+          (subst (λ q. is_lane_held (slots_of t.pools q) lane_before ≡ false) its_pool (is_left client).1)),
+    )
+    on Server server = refl
 
-    chosen : lane_by p.role t (lender_of p l) ≡ Some (lane_anew l)
-    chosen = subst (λ r. lane_by r t (lender_of p l) ≡ Some (lane_anew l)) (ap (λ (i : PortInfo). i.role) port_then.info) (lane l.port.role tests.1)
+    chosen : MayBeOn p.role t (lender_of p l) lane
+    chosen = subst (λ r. MayBeOn r t (lender_of p l) lane) (ap (λ (i : PortInfo). i.role) port_then.info) (on l.port.role refl)
 
-    pools_are : new.tables.pools ≡ with_slot (written l.port.loans (lane_anew l) l.request elements) mid.tables.pools l.port.pool slot
+    pools_are : new.tables.pools ≡ with_slot (written l.port.loans lane l.request elements) mid.tables.pools l.port.pool slot
     pools_are = ap (λ (d : ControlState). d.tables.pools) left
 
-    takes : Takes t.pools p.pool slot (taken p.loans (lane_anew l) l.request elements) new.tables.pools
+    takes : Takes t.pools p.pool slot (taken p.loans lane l.request elements) new.tables.pools
     takes =
-        subst (λ (i : PortInfo). Takes t.pools i.pool slot (taken i.loans (lane_anew l) l.request elements) new.tables.pools) port_then.info
-        (subst (λ ps. Takes t.pools l.port.pool slot (taken l.port.loans (lane_anew l) l.request elements) ps) (sym pools_are)
-        (takes_anew mid.tables.pools l.port.pool slot one l.port.loans (lane_anew l) l.request elements))
+        subst (λ (i : PortInfo). Takes t.pools i.pool slot (taken i.loans lane l.request elements) new.tables.pools) port_then.info
+        (subst (λ ps. Takes t.pools l.port.pool slot (taken l.port.loans lane l.request elements) ps) (sym pools_are)
+        (takes_anew mid.tables.pools l.port.pool slot last.one l.port.loans lane l.request elements))
 
     pub is_taken_anew : IsTakenAnew c l elements slot new
     is_taken_anew = record {
@@ -161,7 +154,7 @@ module _ (c mid : ControlState) (l : Lending) (of : IsPortOf c.tables l) (order 
       taken = record {
         order = ordered;
         port = port_then;
-        taken = record { lane = lane_anew l; chosen = chosen; takes = takes };
+        taken = record { lane = lane; chosen = chosen; takes = takes };
         left = left ∙ ap (with_pools mid) (sym pools_are);
       };
     }

@@ -32,7 +32,7 @@ use Rattle.iox_control_lending.specs.declared.asked.Asked.{Asked}
 use Rattle.iox_control_lending.specs.declared.asked.Loaned.{Loaned}
 use Rattle.iox_control_lending.specs.declared.asked.Lent.{Lent}
 use Rattle.iox_control_lending.specs.declared.asked.Lent.TheVariants as lents
-use Rattle.iox_control_lending.specs.Lends.{FindsDry, IsAskedOf, IsLoaned, IsRefused, Lends, first_contents, given_after, lane_by, on_lane, reply_of_loan}
+use Rattle.iox_control_lending.specs.Lends.{FindsDry, IsAskedOf, IsLoaned, IsRefused, Lends, MayBeOn, first_contents, given_after, on_lane, reply_of_loan}
 use Rattle.iox_control_lending.proofs.LaneLemmas.{lane_within}
 use Rattle.iox_control_lending.proofs.MadeLemmas.{have_messages}
 
@@ -106,7 +106,7 @@ pub record MayTake (x : Given) (t : HubTables) (node n : ℕ) (a : Asked) (y : L
 
 module _ (x : Given) (c new : ControlState) (node n : ℕ) (a : Asked) (y : Lender) (shape : Shape) (order : AreInOrder c.tables) (of : shape_in x c.tables y.port ≡ shape)
     (some : (lane : ℕ) × MayTake x c.tables node n a y lane)
-    (on : (pools : List (Option PoolState)) (lane : ℕ) → AreGotBack c.tables y.port pools → lane_by y.port.role (with_back c.tables y.port pools) y ≡ Some lane → MayTake x c.tables node n a y lane)
+    (on : (pools : List (Option PoolState)) (lane : ℕ) → AreGotBack c.tables y.port pools → MayBeOn y.port.role (with_back c.tables y.port pools) y lane → MayTake x c.tables node n a y lane)
     (asked : IsAskedOf shape a) where
   -- the tables before the call
   abbrev was : HubTables
@@ -142,7 +142,7 @@ module _ (x : Given) (c new : ControlState) (node n : ℕ) (a : Asked) (y : Lend
   loaned_is l is =
       let pools : List (Option PoolState) = is.between.tables.pools in
       let back : with_back was y.port pools ≡ is.between.tables = ap (λ (d : ControlState). d.tables) (sym is.back.left) in
-      let chosen : lane_by y.port.role (with_back was y.port pools) y ≡ Some is.made.lane = ap (λ u. lane_by y.port.role u y) back ∙ is.made.chosen in
+      let chosen : MayBeOn y.port.role (with_back was y.port pools) y is.made.lane = subst (λ u. MayBeOn y.port.role u y is.made.lane) (sym back) is.made.chosen in
       let take : MayTake x was node n a y is.made.lane = on pools is.made.lane is.back.back chosen in
       let number : was.next_number ≡ l.number = ap (λ (u : HubTables). u.next_number) back ∙ sym is.made.number in
       let tables : with_loaned (with_back was y.port pools) (on_lane y is.made.lane) a.uninit a.elements l.slot ≡ new.tables

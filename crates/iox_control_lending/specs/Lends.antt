@@ -1,6 +1,6 @@
 -- What is asked of a loan, and what a loan leaves.
-use Rattle.std.specs.Prelude.{◌≡◌, ℕ, ◌-◌, ◌<◌, ◌%◌, ◌^◌, Bool, true, not, if◌then◌else◌, List, [], Option, Some, None, find}
-use Rattle.std.specs.List.{list_all, range_with_len}
+use Rattle.std.specs.Prelude.{◌≡◌, ℕ, ◌-◌, ◌<◌, ◌%◌, ◌^◌, Bool, true, false, if◌then◌else◌, List, [], Option, Some, None}
+use Rattle.std.specs.List.{list_all}
 use Rattle.iox_model.specs.declared.kind.Role.{Role}
 use Rattle.iox_model.specs.declared.kind.Role.TheVariants.{Client, Server}
 use Rattle.iox_model.specs.declared.reply.Refusal.TheVariants as refusals
@@ -80,15 +80,11 @@ abbrev pub IsLoanRefusal : HubTables → Lender → Asked → Option Refusal →
 IsLoanRefusal t y a r =
     (x : Given) → IsAskedOf (shape_in x t y.port) a → loan_refusal x t y a.elements ≡ r
 
--- the lowest lane of the client that is not taken
-abbrev pub lowest_lane : HubTables → PortState → Option ℕ
-lowest_lane t p =
-    find (λ lane. not (is_lane_taken t p.number lane)) (range_with_len 0 p.size)
-
--- the lane of a loan: a client's lowest that is not taken; a server's that of its request
-abbrev pub lane_by : Role → HubTables → Lender → Option ℕ
-lane_by Client t y = lowest_lane t y.port
-lane_by Server t y = Some y.lane
+-- a loan may be on that lane: a client's on one of its own that is not taken; a server's on that of
+-- its request
+abbrev pub MayBeOn : Role → HubTables → Lender → ℕ → Type 0
+MayBeOn Client t y lane = (lane < y.port.size) × (is_lane_taken t y.port.number lane ≡ false)
+MayBeOn Server t y lane = y.lane ≡ lane
 
 -- what is known of the port of a lender
 pub record IsPortOf (t : HubTables) (l : Lending) : Type 0 where
@@ -110,13 +106,13 @@ with_handed c y uninit slot =
       room = c.room - 1;
     }
 
--- A slot that nobody had has a request, on the lowest lane of the client that is free.
-pub record IsOnLowest
+-- A slot that nobody had has a request, on a lane of the client that is not taken.
+pub record IsOnFree
     (t : HubTables) (client size pool slot serial request elements : ℕ)
     (pools : List (Option PoolState)) : Type 0 where
   pub lane : ℕ
-  pub chosen :
-      find (λ k. not (is_lane_taken t client k)) (range_with_len 0 size) ≡ Some lane
+  pub within : lane < size
+  pub free : is_lane_taken t client lane ≡ false
   pub takes : Takes t.pools pool slot (taken serial lane request elements) pools
 
 -- A slot that nobody had has the message of the loan.
@@ -124,7 +120,7 @@ pub record IsTaken
     (t : HubTables) (y : Lender) (elements slot : ℕ) (pools : List (Option PoolState)) : Type 0
   where
     pub lane : ℕ
-    pub chosen : lane_by y.port.role t y ≡ Some lane
+    pub chosen : MayBeOn y.port.role t y lane
     pub takes : Takes t.pools y.port.pool slot (loaned_slot (on_lane y lane) elements) pools
 
 -- The loan is made in a slot that nobody had.
@@ -135,7 +131,7 @@ pub record LoanIsMade (c : ControlState) (y : Lender) (a : Asked) (l : Loaned) (
   pub within : l.slot < y.port.size
   pub free : (slot_at c.tables.pools y.port.pool l.slot).holders ≡ 0
   pub lane : ℕ
-  pub chosen : lane_by y.port.role c.tables y ≡ Some lane
+  pub chosen : MayBeOn y.port.role c.tables y lane
   pub left :
       new
       ≡ record c {

@@ -1,12 +1,13 @@
 -- A loan in the slot of the message that was got back last.
-use Rattle.std.specs.Prelude.{◌≡◌, ℕ, ◌&&◌, ◌||◌, ◌==◌, Bool, not, if◌then◌else◌, List, Option, Some, None}
+use Rattle.std.specs.Prelude.{◌≡◌, ℕ, if◌then◌else◌, List, Option, Some, None}
 use Rattle.iox_model.specs.declared.kind.Role.{Role}
+use Rattle.iox_model.specs.declared.kind.Role.TheVariants.{Client}
 use Rattle.iox_model.specs.Settings.{is_client}
-use Rattle.iox_tables.specs.HubStates.Tables.{PoolState, PortState, port_in, slot_at}
+use Rattle.iox_tables.specs.HubStates.Tables.{PoolState, PortState, port_in, slot_at, slots_of}
+use Rattle.iox_slots.specs.Lanes.{AreOnOwnLanes}
 use Rattle.iox_slots.specs.Pools.{with_slot}
 use Rattle.iox_slots.specs.Slots.{let_go}
 use Rattle.iox_control.specs.Controls.{ControlState, IsControl, with_pools}
-use Rattle.iox_control_retrieving.specs.Alone.{has_one_out}
 use Rattle.iox_control_lending.specs.declared.asked.Lending.{Lending}
 use Rattle.iox_control_lending.specs.Lends.{IsGotBack, IsPortOf, IsTaken, lender_of}
 
@@ -16,15 +17,18 @@ with_last_let_go c pool None = c
 with_last_let_go c pool (Some slot) =
     with_pools c (with_slot let_go c.tables.pools pool slot)
 
--- Just one has the message in that slot, and nobody has another of a client's pool. So once that
--- one lets it go, a loan may take the slot, a client's on its first lane.
-abbrev pub may_be_retaken : Role → List (Option PoolState) → ℕ → ℕ → Bool
-may_be_retaken role pools pool slot =
-    ((slot_at pools pool slot).holders == 1) && (not (is_client role) || has_one_out pools pool)
+-- Just one has the message in that slot, and each message of a client's pool is on its slot's own
+-- lane. So once that one lets it go, a loan may take the slot, a client's on the slot's own lane.
+pub record MayBeRetaken (role : Role) (pools : List (Option PoolState)) (pool slot : ℕ) : Type 0
+  where
+    pub one : (slot_at pools pool slot).holders ≡ 1
+    pub lanes : role ≡ Client → AreOnOwnLanes (slots_of pools pool)
 
--- the lane of a loan in such a slot: a client's first; a server's that of its request
-abbrev pub lane_anew : Lending → ℕ
-lane_anew l = if is_client l.port.role then 0 else l.lane
+-- the lane of a loan in such a slot: a client's is that of the message before; a server's that of
+-- its request
+abbrev pub lane_anew : Lending → List (Option PoolState) → ℕ → ℕ
+lane_anew l pools slot =
+    if is_client l.port.role then (slot_at pools l.port.pool slot).lane else l.lane
 
 -- A slot that nobody had has the message of the lender's loan. Nothing else changed, and the tables
 -- were in order.

@@ -1,14 +1,12 @@
 -- Which handles and slots are counted.
-use Rattle.std.specs.Prelude.{ℕ, ◌*◌, Bool, ◌&&◌, ◌||◌, ◌==◌, nat_le, List, filter, length}
-use Rattle.std.specs.List.{list_any}
+use Rattle.std.specs.Prelude.{ℕ, ◌*◌, Bool, ◌&&◌, ◌||◌, ◌==◌, nat_le}
 use Rattle.iox_model.specs.declared.kind.Kind.{Kind}
 use Rattle.iox_model.specs.declared.kind.Kind.TheVariants.{PendingResponse}
 use Rattle.iox_model.specs.Handles.{is_request_loan, is_response_loan, same_kind}
 use Rattle.iox_handles.specs.declared.entry.Entry.{Entry}
 use Rattle.iox_lanes.specs.Searches.{LabelsByPlace}
-use Rattle.iox_tables.specs.HubStates.Tables.{HubTables, SlotState}
-use Rattle.iox_tables.specs.HubLoans.Counts.{count_in, responses_on_loan, responses_to}
-use Rattle.iox_tables.specs.HubLending.Keeping.{has_holder}
+use Rattle.iox_tables.specs.HubStates.Tables.{HubTables}
+use Rattle.iox_tables.specs.HubLoans.Counts.{responses_on_loan, responses_to}
 
 -- the handle is a response that the port has on loan, to that request of that client
 abbrev pub is_responding : LabelsByPlace → ℕ → ℕ → ℕ → Entry → Bool
@@ -27,18 +25,6 @@ is_on_lane_of labels port lane e =
 -- it is a loaned request or a pending response
 abbrev pub is_of_request : Kind → Bool
 is_of_request kind = is_request_loan kind || same_kind kind PendingResponse
-
--- how many loaned requests and pending responses the client has
-abbrev pub requests_of : HubTables → ℕ → ℕ
-requests_of t n = count_in t n (λ h. is_of_request h.kind)
-
--- how many slots somebody has
-abbrev pub held_count : List SlotState → ℕ
-held_count slots = length (filter has_holder slots)
-
--- somebody has a message of that lane
-abbrev pub is_lane_held : List SlotState → ℕ → Bool
-is_lane_held slots lane = list_any (λ s. has_holder s && (s.lane == lane)) slots
 
 -- the server, which may have so many loans to one request, has as many as it may: to that one, or in
 -- all

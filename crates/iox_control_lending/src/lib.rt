@@ -7,7 +7,6 @@ mod counts;
 mod foretelling;
 mod lanes;
 mod lend;
-mod lowest;
 mod refusals;
 mod retaking;
 mod taking;

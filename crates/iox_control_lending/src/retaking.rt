@@ -1,14 +1,15 @@
 //! What was given back to a lender. Where nobody else has the message that is got back last, the
 //! message of a loan takes its place.
 ghost use Rattle.std.specs.Prelude.{◌≡◌, ◌<◌, IfSome, None, Some, slice_get, true};
+ghost use Rattle.std.specs.Bool.{OnTrue};
 ghost use Rattle.iox_tables.specs.HubStates.Tables.{PortState, port_in, slot_at};
 ghost use Rattle.iox_hub_ports.specs.Ports.{info_in, info_of, place_in};
-ghost use Rattle.iox_slots.specs.Pools.{with_slot};
+ghost use Rattle.iox_slots.specs.Pools.{has_slot, with_slot};
 ghost use Rattle.iox_slots.specs.Slots.{written};
 ghost use Rattle.iox_control.specs.Controls.{IsControl, with_pools};
 ghost use Rattle.iox_control_retrieving.specs.Retrieving.{GetsBack, IsOther, ways_to};
 ghost use Rattle.iox_control_lending.specs.Lends.{HasNextId, IsGotBack, IsPortOf};
-ghost use Rattle.iox_control_lending.specs.Retakes.{IsTakenAnew, lane_anew, may_be_retaken, with_last_let_go};
+ghost use Rattle.iox_control_lending.specs.Retakes.{IsTakenAnew, MayBeRetaken, lane_anew, with_last_let_go};
 
 use crate::asked::Lending;
 use iox_control::Control;
@@ -16,19 +17,19 @@ use iox_control_retrieving::retrieve_all_in;
 use iox_hub_ports::info::PortInfo;
 use iox_model::kind::Role;
 
-/// Whether nobody else has the message in that slot, which somebody has, and nobody has another
-/// of a client's pool.
+/// Whether it is known that nobody else has the message in that slot, which somebody has, and that
+/// each message of a client's pool is on its slot's own lane.
 #[inline(always)]
 fn may_be_retaken(control: &Control, role: Role, pool: usize, slot: u64) -> bool
     requires { 0 < (slot_at control.now.tables.pools pool slot).holders }
-    ensures { result ≡ may_be_retaken role control.now.tables.pools pool slot }
+    ensures { OnTrue result (MayBeRetaken role control.now.tables.pools pool slot) }
 {
     let pools = control.pools();
     if pools.is_shared(pool, slot) {
         return false;
     }
     match role {
-        Role::Client => pools.has_one_out(pool),
+        Role::Client => pools.has_own_lanes(pool),
         Role::Server => true,
     }
 }
@@ -51,7 +52,7 @@ fn retrieve_but_last_from(
         (ways_to sender.now.role control.old.tables sender.now.number (info_of p))
         (with_last_let_go control.new sender.now.pool result) }
     ensures last { IfSome result (λ k.
-        may_be_retaken sender.now.role control.new.tables.pools sender.now.pool k ≡ true) }
+        MayBeRetaken sender.now.role control.new.tables.pools sender.now.pool k) }
 {
     while let Some(next) = control.get_next_in(at, sender.number, hint) {
         if !next.more && may_be_retaken(control, sender.role, sender.pool, next.place) {
@@ -78,7 +79,7 @@ fn retrieve_but_last(control: &mut Control, sender: &PortInfo, at: usize) -> Opt
         → IsGotBack control.old p (with_last_let_go control.new sender.now.pool result) }
     ensures order { IsControl (with_last_let_go control.new sender.now.pool result) }
     ensures last { IfSome result (λ k.
-        may_be_retaken sender.now.role control.new.tables.pools sender.now.pool k ≡ true) }
+        MayBeRetaken sender.now.role control.new.tables.pools sender.now.pool k) }
 {
     if control.ports().others_len(sender.role) == 1 {
         let hint = control.ports().rank(at);
@@ -89,23 +90,24 @@ fn retrieve_but_last(control: &mut Control, sender: &PortInfo, at: usize) -> Opt
     None
 }
 
-/// The message of the loan is in that slot, for the one who has it. It is on a client's first lane,
-/// or on that of a server's request. The lender's port is in that place, and is read anew, so that
+/// The message of the loan is in that slot, for the one who has it. A client's is on the lane of the
+/// message before, a server's on that of its request. The lender's port is in that place, and is read anew, so that
 /// it need not be kept while messages are got back.
 #[inline(always)]
 fn write_anew(control: &mut Control, lender: &Lending, at: usize, slot: u64, elements: u64)
     requires port { IsPortOf control.old.tables lender.now }
     requires there { place_in control.old.tables.ports lender.now.port.number ≡ Some at }
     requires request { HasNextId lender.now }
+    requires slot { has_slot control.old.tables.pools lender.now.port.pool slot ≡ true }
     ensures { control.new ≡ with_pools control.old (with_slot
-        (written lender.now.port.loans (lane_anew lender.now) lender.now.request elements)
-        control.old.tables.pools lender.now.port.pool slot) }
+        (written lender.now.port.loans (lane_anew lender.now control.old.tables.pools slot)
+        lender.now.request elements) control.old.tables.pools lender.now.port.pool slot) }
 {
     let pool = lender.port.pool;
     let loans = control.ports().known_at(at).loans;
     match lender.port.role {
         Role::Client => {
-            control.write_slot(pool, slot, loans, 0, loans % (1 << 62), elements);
+            control.rewrite_slot(pool, slot, loans, loans % (1 << 62), elements);
         }
         Role::Server => {
             control.write_slot(pool, slot, loans, lender.lane, lender.request, elements);

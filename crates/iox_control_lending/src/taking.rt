@@ -4,15 +4,15 @@ ghost use Rattle.iox_tables.specs.HubStates.Tables.{PortState, port_in};
 ghost use Rattle.iox_hub_ports.specs.Ports.{info_of};
 ghost use Rattle.iox_slots.specs.Pools.{free_count};
 ghost use Rattle.iox_control.specs.Controls.{IsControl, with_pools};
-ghost use Rattle.iox_control_lending.specs.Lends.{IsOnLowest, IsPortOf, IsTaken, lender_of};
+ghost use Rattle.iox_control_lending.specs.Lends.{IsOnFree, IsPortOf, IsTaken, lender_of};
 
 use crate::asked::Lending;
-use crate::lowest::lowest_lane;
+use crate::lanes::free_lane;
 use iox_control::Control;
 use iox_model::kind::Role;
 
-/// One has a slot of the client's pool that nobody had, with a request on the lowest lane that is
-/// free. It is `None` where somebody has each slot, and then nothing changes.
+/// One has a slot of the client's pool that nobody had, with a request on a lane that is free. It is
+/// `None` where somebody has each slot, and then nothing changes. It looks at all lanes.
 #[cold]
 #[inline(never)]
 fn take_beside(
@@ -27,21 +27,25 @@ fn take_beside(
     requires order { IsControl control.old }
     requires port { (p : PortState) × (port_in control.old.tables.ports client ≡ Some p)
         × (p.pool ≡ pool) × (p.size ≡ size) }
-    ensures taken { IfSome result (λ k. IsOnLowest control.old.tables client size pool k serial
+    ensures taken { IfSome result (λ k. IsOnFree control.old.tables client size pool k serial
         request elements control.new.tables.pools) }
     ensures left { control.new ≡ with_pools control.old control.new.tables.pools }
     ensures full { result ≡ None → free_count control.old.tables.pools pool ≡ 0 }
     ensures unchanged { result ≡ None → control.new ≡ control.old }
 {
-    let Some(lane) = lowest_lane(control, client, pool, size) else {
+    if control.pools().free_len(pool) == 0 {
+        return None;
+    }
+    let Some(lane) = free_lane(control, client, size) else {
         return None;
     };
     control.take(pool, serial, lane, request, elements)
 }
 
-/// The same. Where nobody has a slot of the pool, that is the first lane.
+/// The same. Where each message of the client is on its slot's own lane, so is this one, and no lane
+/// is looked for.
 #[inline(always)]
-fn take_on_lowest(
+fn take_on_free(
     control: &mut Control,
     client: u64,
     pool: usize,
@@ -53,20 +57,20 @@ fn take_on_lowest(
     requires order { IsControl control.old }
     requires port { (p : PortState) × (port_in control.old.tables.ports client ≡ Some p)
         × (p.pool ≡ pool) × (p.size ≡ size) }
-    ensures taken { IfSome result (λ k. IsOnLowest control.old.tables client size pool k serial
+    ensures taken { IfSome result (λ k. IsOnFree control.old.tables client size pool k serial
         request elements control.new.tables.pools) }
     ensures left { control.new ≡ with_pools control.old control.new.tables.pools }
     ensures full { result ≡ None → free_count control.old.tables.pools pool ≡ 0 }
     ensures unchanged { result ≡ None → control.new ≡ control.old }
 {
-    if let Some(slot) = control.take_first(pool, serial, 0, request, elements) {
+    if let Some(slot) = control.take_own(pool, serial, request, elements) {
         return Some(slot);
     }
     take_beside(control, client, pool, size, serial, request, elements)
 }
 
 /// One has a slot of the lender's pool that nobody had, with the message of the loan: of a client
-/// on its lowest lane that is free. It is `None` where somebody has each slot, and then nothing
+/// on a lane that is free. It is `None` where somebody has each slot, and then nothing
 /// changes.
 #[inline(always)]
 pub(crate) fn take(control: &mut Control, lender: &Lending, elements: u64) -> Option<u64>
@@ -83,7 +87,7 @@ pub(crate) fn take(control: &mut Control, lender: &Lending, elements: u64) -> Op
     let port = &lender.port;
     let request = lender.request;
     match port.role {
-        Role::Client => take_on_lowest(
+        Role::Client => take_on_free(
             control,
             port.number,
             port.pool,

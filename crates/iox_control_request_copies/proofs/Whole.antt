@@ -58,8 +58,8 @@ use Rattle.iox_control.proofs.WholeLemmas.{is_whole_of}
 use Rattle.iox_control_copies.specs.Asked.{Asked}
 use Rattle.iox_control_copies.specs.Loaned.{Loaned}
 use Rattle.iox_control_copies.specs.Place.{Place}
-use Rattle.iox_control_copies.specs.Lends.{IsAskedOf, IsGotBack, lane_by, refusal_of}
-use Rattle.iox_control_copies.proofs.LaneLemmas.{found_passes, has_lane, lane_within}
+use Rattle.iox_control_copies.specs.Lends.{IsAskedOf, IsGotBack, MayBeOn, refusal_of}
+use Rattle.iox_control_copies.proofs.LaneLemmas.{lane_within, some_lane}
 use Rattle.iox_control_requests.specs.Requests.{ways_of, with_request_sent}
 use Rattle.iox_control_requests.specs.Servers.{request_ways}
 use Rattle.iox_control_request_copies.specs.declared.copied.Copied.{Copied}
@@ -169,26 +169,23 @@ module _ (x : Given) (c : ControlState) (node n : ℕ) (q : Payload) (a : Asked)
         (sym ((differ t.pools pools back.same).labels h.pool h.slot)))
         t.handles
 
-    lane_free : (pools : List (Option PoolState)) (lane : ℕ) → AreGotBack t p pools → lane_by p.role (with_back t p pools) (y 0) ≡ Some lane → is_lane_free t p lane ≡ true
+    lane_free : (pools : List (Option PoolState)) (lane : ℕ) → AreGotBack t p pools → MayBeOn p.role (with_back t p pools) (y 0) lane → is_lane_free t p lane ≡ true
     lane_free pools lane back chosen =
-        let found = found_passes (λ k. not (is_lane_taken (with_back t p pools) p.number k)) 0 p.size lane (sym (ap (λ r. lane_by r (with_back t p pools) (y 0)) client.client) ∙ chosen) in
+        let on = subst (λ r. MayBeOn r (with_back t p pools) (y 0) lane) client.client chosen in
         opens (not (is_lane_taken t p.number lane)) (nat_lt lane p.size) (list_all (is_lane_taken t p.number) (range_with_len 0 p.size))
-        (ap not (sym (taken_same pools lane back)) ∙ found.0)
-        (lt-ltb lane p.size (within found.1))
+        (ap not (sym (taken_same pools lane back) ∙ on.1))
+        (lt-ltb lane p.size on.0)
       where
-        within : lane < 0 + p.size → lane < p.size
-        within e = omega (arith, e)
-
         opens : (f g h : Bool) → f ≡ true → g ≡ true → (f && (g || h)) ≡ true
         opens true true h e e' = refl
         opens true false h e e' = absurd (true≢false (sym e'))
         opens false g h e e' = absurd (true≢false (sym e))
 
-    may_choose : (lane : ℕ) (d : ControlState) → IsGotBack c p d → lane_by p.role d.tables (y 0) ≡ Some lane
+    may_choose : (lane : ℕ) (d : ControlState) → IsGotBack c p d → MayBeOn p.role d.tables (y 0) lane
         → MayChoose (fixed_of x t) node (machine.ch x c node n q a order client of_role elements asked lane) (SendCopy n q)
     may_choose lane d got chosen =
         (each_choice_may_be x t node n (machine.ch x c node n q a order client of_role elements asked lane) (machine.nodes x c node n q a order client of_role elements asked)).requests client
-        (lane_free d.tables.pools lane got.back (subst (λ (e : ControlState). lane_by p.role e.tables (y 0) ≡ Some lane) got.left chosen)) (SendCopy n q) refl
+        (lane_free d.tables.pools lane got.back (subst (λ (e : ControlState). MayBeOn p.role e.tables (y 0) lane) got.left chosen)) (SendCopy n q) refl
 
     kept : (d : ControlState) → IsGotBack c p d → AreInOrder d.tables × (port_in d.tables.ports p.number ≡ Some p)
     kept d got =
@@ -289,7 +286,9 @@ module _ (x : Given) (c : ControlState) (node n : ℕ) (q : Payload) (a : Asked)
 
     undelivered_whole : (new : ControlState) → has_all_active t p.number ≡ false → fails_for fails t p.number ≡ true → IsLost c p a new
         → Whole (replies.Refused refusals.UnableToDeliver) (state_shown x new.tables)
-    undelivered_whole new free bad is = by_lane (lane_by p.role is.between.tables (y 0)) refl
+    undelivered_whole new free bad is =
+        let found = some_lane is.between.tables p.number is.slot p (kept is.between is.back).0 free_now in
+        on_lane found.0 (subst (λ (r : Role). MayBeOn r is.between.tables (y 0) found.0) (sym client.client) (found.1, found.2))
       where
         off : t.settings.request_overflow ≡ false
         off = step t.settings.request_overflow bad
@@ -301,11 +300,8 @@ module _ (x : Given) (c : ControlState) (node n : ℕ) (q : Payload) (a : Asked)
         free_now : IsFreeSlot is.between.tables p.number p is.between.tables.pools is.slot
         free_now = record { there = (kept is.between is.back).1; within = is.free.within; free = is.free.free }
 
-        by_lane : (o : Option ℕ) → lane_by p.role is.between.tables (y 0) ≡ o → Whole (replies.Refused refusals.UnableToDeliver) (state_shown x new.tables)
-        by_lane None none =
-            absurd (has_lane is.between.tables p.number is.slot p (kept is.between is.back).0 free_now
-            (sym (ap (λ (r : Role). lane_by r is.between.tables (y 0)) client.client) ∙ none))
-        by_lane (Some lane) chosen =
+        on_lane : (lane : ℕ) → MayBeOn p.role is.between.tables (y 0) lane → Whole (replies.Refused refusals.UnableToDeliver) (state_shown x new.tables)
+        on_lane lane chosen =
             whole_by lane (may_choose lane is.between is.back chosen) (λ on. absurd (true≢false (sym on ∙ off))) (replies.Refused refusals.UnableToDeliver) (state_shown x new.tables)
             (made.undelivered x c node n q a order client of_role elements asked lane is.slot is.between is.back
             (record { there = free_now.there; within = free_now.within; free = free_now.free; lane = λ role. lane_within is.between.tables (y 0) lane chosen role })

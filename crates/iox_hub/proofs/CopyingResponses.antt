@@ -23,7 +23,7 @@ use Rattle.iox_control_request_copies.specs.Asked.{Asked}
 use Rattle.iox_control_request_copies.specs.Loaned.{Loaned}
 use Rattle.iox_control_request_copies.specs.Place.{Place}
 use Rattle.iox_control_request_copies.specs.LoanRefusal.TheVariants.{WantOfMemory}
-use Rattle.iox_control_request_copies.specs.Lends.{IsAskedOf, IsLoaned, lane_by, on_lane}
+use Rattle.iox_control_request_copies.specs.Lends.{IsAskedOf, IsLoaned, MayBeOn, on_lane}
 use Rattle.iox_control_request_copies.specs.Responses.{IsFailure}
 use Rattle.iox_hub.specs.Copying.{LeavesAnswered, asked_of_copy, copied_stored, hub_with_copies, copy_place}
 use Rattle.iox_hub.specs.Fits.{WordsFit, are_requests_in, count_in, longest_in}
@@ -113,7 +113,7 @@ module _ {h : HubState} (hub : IsHub h) (k : ℕ) (ws : List ℕ) (node n : ℕ)
         within = line.may.may.within;
         free = line.may.may.free;
         lane = y.lane;
-        chosen = ap (λ r. lane_by r mid.tables y) c.active.server;
+        chosen = subst (λ r. MayBeOn r mid.tables y y.lane) (sym c.active.server) refl;
         left = refl;
       };
     }

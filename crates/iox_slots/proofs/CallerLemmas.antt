@@ -11,7 +11,7 @@ use Rattle.iox_tables.specs.HubStates.Tables.{PoolState, SlotState, labels_of, n
 use Rattle.iox_slots.specs.FreeLists.{has_free_slot}
 use Rattle.iox_tables.specs.HubLoans.Slots.{put_slot, put_slot_of}
 use Rattle.iox_slots.specs.Pools.{Acquires, Takes, has_slot, with_pool, with_slot}
-use Rattle.iox_slots.specs.Slots.{held, let_go, slot_in, written}
+use Rattle.iox_slots.specs.Slots.{held, let_go, rewritten, slot_in, with_slot_of, written}
 use Rattle.iox_slots.proofs.FreeListLemmas.{taken_below}
 use Rattle.iox_slots.proofs.SlotLemmas.{node_ids_stay, owners_stay, port_ids_stay, slot_after}
 
@@ -195,3 +195,33 @@ hold_differs_in_holders = differ_in_holders held (record { serial = λ s. refl; 
 -- and one that one less has
 pub let_go_differs_in_holders : (pools : List (Option PoolState)) (P k : ℕ) → DifferInHolders pools (with_slot let_go pools P k)
 let_go_differs_in_holders = differ_in_holders let_go (record { serial = λ s. refl; lane = λ s. refl; request = λ s. refl; elements = λ s. refl })
+
+-- ---- a message that is written on the lane of the one before
+
+rewritten_of : (serial lane request elements : ℕ) (ss : List SlotState) (k : ℕ) (p : PoolState) → ss ≡ p.slots → lane ≡ (slot_in ss k).lane
+    → with_slot_of (rewritten serial request elements) p k ≡ with_slot_of (written serial lane request elements) p k
+rewritten_of serial lane request elements ss k p its of = by_slot (slice_get p.slots k) refl
+  where
+    by_slot : (o : Option SlotState) → slice_get p.slots k ≡ o
+        → option_map_or (λ s. record p { slots = slice_set p.slots k (rewritten serial request elements s) }) o p
+        ≡ option_map_or (λ s. record p { slots = slice_set p.slots k (written serial lane request elements s) }) o p
+    by_slot None at = refl
+    by_slot (Some s) at =
+        let is : lane ≡ s.lane
+        = of ∙ ap (λ (xs : List SlotState). (slot_in xs k).lane) its ∙ ap (λ (o : Option SlotState). (option_map_or (λ x. x) o no_slot).lane) at in
+        ap (λ (l : ℕ). record p { slots = slice_set p.slots k (written serial l request elements s) }) (sym is)
+
+-- it is that lane which is written
+pub rewritten_is : (serial request elements : ℕ) (pools : List (Option PoolState)) (P k : ℕ)
+    → with_slot (rewritten serial request elements) pools P k ≡ with_slot (written serial (slot_at pools P k).lane request elements) pools P k
+rewritten_is serial request elements pools P k = by_pool (slot_at pools P k).lane refl (slice_get pools P) refl
+  where
+    by_pool : (lane : ℕ) → lane ≡ (slot_at pools P k).lane → (o : Option (Option PoolState)) → slice_get pools P ≡ o
+        → option_map_or (λ q. slice_set pools P (option_map (λ p. with_slot_of (rewritten serial request elements) p k) q)) o pools
+        ≡ option_map_or (λ q. slice_set pools P (option_map (λ p. with_slot_of (written serial lane request elements) p k) q)) o pools
+    by_pool lane of None at = refl
+    by_pool lane of (Some None) at = refl
+    by_pool lane of (Some (Some p)) at =
+        ap (λ (q : PoolState). slice_set pools P (Some q))
+        (rewritten_of serial lane request elements (slots_of pools P) k p
+        (ap (λ (o : Option (Option PoolState)). option_map_or (λ (q : PoolState). q.slots) (option_map_or (λ r. r) o None) []) at) of)

@@ -2,6 +2,7 @@ pub mod ListLemmas
 pub mod FreeListLemmas
 pub mod SlotLemmas
 pub mod CountLemmas
+pub mod OwnLanes
 -- for crates above
 pub mod PlaceLemmas
 pub mod CallerLemmas

@@ -25,6 +25,10 @@ written serial lane request elements s =
       holders = s.holders;
     }
 
+-- another message is in the slot, on the lane of the one before
+abbrev pub rewritten : ℕ → ℕ → ℕ → SlotState → SlotState
+rewritten serial request elements s = written serial s.lane request elements s
+
 -- that message, which one has
 abbrev pub taken : ℕ → ℕ → ℕ → ℕ → SlotState
 taken serial lane request elements =

@@ -8,6 +8,7 @@ ghost use Rattle.iox_slots.specs.Slots.{held, is_taken, let_go, slot_in, taken, 
 ghost use Rattle.iox_tables.specs.HubLoans.Slots.{put_slot_of};
 ghost use Rattle.iox_tables.specs.HubStates.Tables.{is_free};
 
+mod own;
 mod shared;
 
 use crate::left::Left;

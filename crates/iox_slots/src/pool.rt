@@ -9,6 +9,7 @@ ghost use Rattle.iox_slots.specs.Slots.{held, is_taken, let_go, new_pool, slot_i
 ghost use Rattle.iox_tables.specs.HubLoans.Slots.{put_slot_of};
 ghost use Rattle.iox_tables.specs.HubStates.Tables.{is_free};
 
+mod own;
 mod shared;
 
 use crate::slot::Slot;
@@ -28,6 +29,9 @@ pub struct Pool {
     slots: Vec<Slot>,
     // The slots that nobody has.
     free: Vec<u64>,
+    // Whether each message that somebody has is on its slot's own lane. Where it is not set, nothing
+    // is known of their lanes.
+    own: bool,
 }
 
 /// The id of no port.
@@ -42,6 +46,7 @@ impl Model for Pool {
     ghost use Rattle.std.specs.Vec.{vec_capacity};
     ghost use Rattle.iox_tables.specs.HubStates.Tables.{PoolState};
     ghost use Rattle.iox_slots.specs.FreeLists.{IsFreeList};
+    ghost use Rattle.iox_slots.specs.Lanes.{AreOnOwnLanesIf};
 
     ghost Value = { PoolState };
 
@@ -52,7 +57,8 @@ impl Model for Pool {
       slots = p.slots.items;
     } };
 
-    ghost invariant = { λ p. IsFreeList p.slots.items p.free.items (vec_capacity p.free) };
+    ghost invariant = { λ p. IsFreeList p.slots.items p.free.items (vec_capacity p.free)
+        × AreOnOwnLanesIf p.own p.slots.items };
 }
 
 /// So many numbers, from 0.
@@ -84,6 +90,7 @@ impl Pool {
             port_id,
             slots: vec![in alloc; Slot::new(); size]?,
             free: numbers(alloc, size)?,
+            own: true,
         })
     }
 
@@ -98,6 +105,7 @@ impl Pool {
             port_id: NO_ID,
             slots: Vec::new(alloc),
             free: Vec::new(alloc),
+            own: true,
         }
     }
 
@@ -194,6 +202,7 @@ impl Pool {
         let k = k as usize;
         if k < self.slots.len() {
             self.slots[k] = self.slots[k].written(serial, lane, request, elements);
+            self.own = false;
             return true;
         }
         false
@@ -254,6 +263,7 @@ impl Pool {
             Some(k) => {
                 let place = k as usize;
                 self.slots[place] = self.slots[place].held();
+                self.own = false;
                 Some(k)
             }
             None => None,
@@ -273,6 +283,7 @@ impl Pool {
             Some(k) => {
                 let place = k as usize;
                 self.slots[place] = Slot::taken(serial, lane, request, elements);
+                self.own = false;
                 Some(k)
             }
             None => None,

@@ -10,6 +10,7 @@ ghost use Rattle.iox_slots.specs.Pools.{is_taken_at, place_for_one, with_one_mor
 ghost use Rattle.iox_slots.specs.Slots.{held, let_go, new_pool, taken, written};
 
 mod leaving;
+mod own;
 mod shared;
 
 use crate::place::Place;
@@ -129,69 +130,6 @@ impl Pools {
         ensures unchanged { result ≡ None → self.new ≡ self.old }
     {
         self.places[place].take(serial, lane, request, elements)
-    }
-
-    #[inline(always)]
-    fn take_at(
-        &mut self,
-        place: usize,
-        serial: u64,
-        lane: u64,
-        request: u64,
-        elements: u64,
-    ) -> Option<u64>
-        ensures free { IfSome result (λ k. has_free_slot self.old place k ≡ true) }
-        ensures taken { IfSome result (λ k. self.new
-            ≡ with_pool (put_slot_of k (taken serial lane request elements)) self.old place) }
-        ensures full { result ≡ None ↔ free_count self.old place ≡ 0 }
-        ensures unchanged { result ≡ None → self.new ≡ self.old }
-    {
-        if place < self.places.len() {
-            return self.take_there(place, serial, lane, request, elements);
-        }
-        None
-    }
-
-    /// The same, with that message.
-    #[inline(always)]
-    pub fn take(
-        &mut self,
-        place: usize,
-        serial: u64,
-        lane: u64,
-        request: u64,
-        elements: u64,
-    ) -> Option<u64>
-        ensures taken { IfSome result (λ k.
-            Takes self.old place k (taken serial lane request elements) self.new) }
-        ensures full { result ≡ None ↔ free_count self.old place ≡ 0 }
-        ensures unchanged { result ≡ None → self.new ≡ self.old }
-    {
-        match self.take_at(place, serial, lane, request, elements) {
-            Some(slot) => Some(slot),
-            None => None,
-        }
-    }
-
-    /// The same, where nobody has any slot of the pool.
-    #[inline(always)]
-    pub fn take_first(
-        &mut self,
-        place: usize,
-        serial: u64,
-        lane: u64,
-        request: u64,
-        elements: u64,
-    ) -> Option<u64>
-        ensures idle { IsSome result → is_idle self.old place ≡ true }
-        ensures taken { IfSome result (λ k.
-            Takes self.old place k (taken serial lane request elements) self.new) }
-        ensures unchanged { result ≡ None → self.new ≡ self.old }
-    {
-        if self.is_idle(place) {
-            return self.take(place, serial, lane, request, elements);
-        }
-        None
     }
 
     #[inline]

@@ -1,7 +1,7 @@
 //! A message in its place of a pool, but for its words.
 ghost use Rattle.std.specs.Prelude.{◌≡◌, ◌<◌, ◌^◌, ◌-◌};
 ghost use Rattle.iox_tables.specs.HubStates.Tables.{no_slot, is_free};
-ghost use Rattle.iox_slots.specs.Slots.{held, let_go, taken, written};
+ghost use Rattle.iox_slots.specs.Slots.{held, let_go, rewritten, taken, written};
 
 use std::marker::Model;
 
@@ -144,6 +144,19 @@ impl Slot {
             elements,
             holders: 1,
         }
+    }
+
+    /// Another message is in the slot, on the same lane. Who has the slot still has it.
+    #[inline(always)]
+    pub(crate) fn rewrite(&mut self, serial: u64, request: u64, elements: u64)
+        ensures { self.new ≡ rewritten serial request elements self.old }
+    {
+        *self = Slot {
+            serial,
+            request,
+            elements,
+            ..*self
+        };
     }
 
     /// The slot with another message. Who has the slot still has it.

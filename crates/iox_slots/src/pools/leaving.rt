@@ -84,28 +84,6 @@ impl Pools {
         }
     }
 
-    /// The same, where nobody has any slot of the pool.
-    #[inline(always)]
-    pub fn take_first_of(
-        &mut self,
-        place: usize,
-        serial: u64,
-        lane: u64,
-        request: u64,
-        elements: u64,
-    ) -> Option<u64>
-        requires there { is_some (pool_at self.old place) ≡ true }
-        ensures idle { IsSome result → is_idle self.old place ≡ true }
-        ensures taken { IfSome result (λ k.
-            Takes self.old place k (taken serial lane request elements) self.new) }
-        ensures unchanged { result ≡ None → self.new ≡ self.old }
-    {
-        if self.is_idle_of(place) {
-            return self.take_of(place, serial, lane, request, elements);
-        }
-        None
-    }
-
     // ---- a pool that is there
 
     /// Whether nobody has any of its slots.

@@ -15,11 +15,11 @@ returns-in-Client c =
     client_anew c.args.control.now c.args.lender.now c.known_at-loans.result
     (read_anew c.args.control.now.tables c.args.lender.now c.requires.port c.args.at c.known_at-loans.result c.requires.there
     (c.known_at-loans.ensures ∙ ap (λ ps. info_at ps c.args.at) c.ports.ensures.ports))
-    c.args.elements c.args.slot c.write_slot.new.self c.in-Client.is (c.requires.request c.in-Client.is) c.write_slot.ensures.written
+    c.args.elements c.args.slot c.rewrite_slot.new.self c.in-Client.is (c.requires.request c.in-Client.is) c.rewrite_slot.ensures
 
 pub returns-in-Server : goal.returns-in-Server
 returns-in-Server c =
     server_anew c.args.control.now c.args.lender.now c.known_at-loans.result
     (read_anew c.args.control.now.tables c.args.lender.now c.requires.port c.args.at c.known_at-loans.result c.requires.there
     (c.known_at-loans.ensures ∙ ap (λ ps. info_at ps c.args.at) c.ports.ensures.ports))
-    c.args.elements c.args.slot c.write_slot-in-Server.new.self c.in-Server.is c.write_slot-in-Server.ensures.written
+    c.args.elements c.args.slot c.write_slot.new.self c.in-Server.is c.write_slot.ensures.written
