@@ -12,11 +12,12 @@ ghost use Rattle.iox_control_copies.specs.Lends.{IsAskedOf};
 ghost use Rattle.iox_control_request_copies.specs.Copies.{AreFailuresOf, Copies, fails_for, given_after_copy, reply_of_copy, to_fill};
 
 use crate::copied::Copied;
+use crate::counts::has_all_active;
 use crate::losing::lose;
 use crate::sending::lend_and_send;
 use iox_control::Control;
 use iox_control_copies::{Asked, LoanRefusal};
-use iox_control_requests::{WhenFull, is_refused, is_spent};
+use iox_control_requests::{WhenFull, is_refused};
 
 /// Whether a server is full at which the client's send fails.
 fn is_failing<B: WhenFull>(control: &Control, client: u64, backpressure: &B) -> bool
@@ -60,7 +61,7 @@ pub fn copy_request<B: WhenFull>(
         has_layout: asked.has_layout,
     };
     // Whether it can be sent is told before the loan: a copy that is lost takes no number.
-    if is_spent(control, client) {
+    if has_all_active(control, client) {
         return match lose(control, client, filled) {
             Some(refused) => refused,
             None => Copied::ExceedsMaxActiveRequests,

@@ -4,6 +4,7 @@
 
 mod copied;
 mod copying;
+mod counts;
 mod losing;
 mod sending;
 pub mod uses;

@@ -11,7 +11,7 @@ ghost use Rattle.iox_control_request_copies.specs.SentLoans.{IsSent, MayBeSent, 
 use crate::copied::Copied;
 use iox_control::Control;
 use iox_control_copies::{Asked, Lent, Loaned, Place, lend_request_of};
-use iox_control_requests::{send_to_all, send_to_only};
+use iox_control_requests::{send_over_oldest, send_to_all};
 use iox_handles::{Entry, kept_place};
 use iox_model::kind::Kind;
 
@@ -34,8 +34,7 @@ fn lent_entry(node: u64, client: u64, at: usize, loaned: Loaned) -> Entry
 }
 
 /// Sends that loaned request to the only server on the usual way, and says whether it did: else
-/// nothing has changed. It is usual that requests overflow, the loan is the only message of its
-/// pool that somebody has, so that nothing is pushed out, and the pipe of that rank is from the
+/// nothing has changed. It is usual that requests overflow, and the pipe of that rank is from the
 /// client. The handle is looked for at the hint first.
 #[inline(always)]
 fn send_usual(control: &mut Control, entry: Entry, rank: usize, overflow: bool, hint: usize) -> bool
@@ -46,16 +45,13 @@ fn send_usual(control: &mut Control, entry: Entry, rank: usize, overflow: bool, 
     if !overflow {
         return false;
     }
-    if !control.pools().has_one_out(entry.pool) {
-        return false;
-    }
     let Some(place) = control.ports().only_server() else {
         return false;
     };
     if !control.ports().is_from(place, rank, entry.port) {
         return false;
     }
-    send_to_only(control, place, entry, rank, hint);
+    send_over_oldest(control, place, entry, rank, hint);
     true
 }
 

@@ -132,7 +132,7 @@ pub fn send_to_all(
 
 /// The same of a filled loan, which is there.
 #[inline(always)]
-fn become_pending_of_one(control: &mut Control, entry: Entry, hint: usize)
+pub(crate) fn become_pending_of_one(control: &mut Control, entry: Entry, hint: usize)
     requires calls { control.old.tables.calls ≤ 2 ^ 56 }
     requires there { handle_in control.old.tables.handles entry.node entry.number
         ≡ Some (handle_state entry) }

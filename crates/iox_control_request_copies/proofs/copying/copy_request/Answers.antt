@@ -32,7 +32,7 @@ returns-in-Some-clause-whole g c x q asked failure role elements =
 
 pub returns-in-None-clause-left : goal.returns-in-None-clause-left
 returns-in-None-clause-left g c p at =
-    (active_is c.args.control.now c.args.client (to_fill c.args.asked) (g.B.WhenFull.fails c.args.backpressure.now) c.requires.order true (sym c.is_spent.ensures ∙ c.if-is_spent.true) p at, c.in-None.ensures.left p at)
+    (active_is c.args.control.now c.args.client (to_fill c.args.asked) (g.B.WhenFull.fails c.args.backpressure.now) c.requires.order true (sym c.has_all_active.ensures ∙ c.if-has_all_active.true) p at, c.in-None.ensures.left p at)
 
 pub returns-in-None-clause-whole : goal.returns-in-None-clause-whole
 returns-in-None-clause-whole g c x q asked failure role elements =
@@ -56,7 +56,7 @@ returns-in-Some-lose-clause-whole g c x q asked failure role elements =
 
 pub returns-in-None-lose-clause-left : goal.returns-in-None-lose-clause-left
 returns-in-None-lose-clause-left g c p at = (
-  active_is c.args.control.now c.args.client (to_fill c.args.asked) (g.B.WhenFull.fails c.args.backpressure.now) c.requires.order false (sym c.is_spent.ensures ∙ c.if-is_spent.false) p at,
+  active_is c.args.control.now c.args.client (to_fill c.args.asked) (g.B.WhenFull.fails c.args.backpressure.now) c.requires.order false (sym c.has_all_active.ensures ∙ c.if-has_all_active.false) p at,
   fails_is c.args.control.now c.args.client (to_fill c.args.asked) (g.B.WhenFull.fails c.args.backpressure.now) c.requires.order true (sym c.is_failing.ensures ∙ c.if-is_failing.true) p at,
   c.in-None-lose.ensures.left p at,
 )
@@ -73,7 +73,7 @@ returns-in-None-lose-clause-whole g c x q asked failure role elements =
 pub returns-clause-left : goal.returns-clause-left
 returns-clause-left g c p at =
     sent_so c.args.control.now c.args.client (to_fill c.args.asked) (g.B.WhenFull.fails c.args.backpressure.now) c.requires.order c.lend_and_send.result c.lend_and_send.new.control p c.settings-overflow.result.request_overflow (ap (λ (s : HubSettings). s.request_overflow) c.settings-overflow.ensures)
-    (active_is c.args.control.now c.args.client (to_fill c.args.asked) (g.B.WhenFull.fails c.args.backpressure.now) c.requires.order false (sym c.is_spent.ensures ∙ c.if-is_spent.false) p at)
+    (active_is c.args.control.now c.args.client (to_fill c.args.asked) (g.B.WhenFull.fails c.args.backpressure.now) c.requires.order false (sym c.has_all_active.ensures ∙ c.if-has_all_active.false) p at)
     (fails_is c.args.control.now c.args.client (to_fill c.args.asked) (g.B.WhenFull.fails c.args.backpressure.now) c.requires.order false (sym c.is_failing.ensures ∙ c.if-is_failing.false) p at)
     (c.lend_and_send.ensures.left p at)
 
