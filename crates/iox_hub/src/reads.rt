@@ -115,7 +115,24 @@ impl<Q: Payload, QH: Words, P: Payload, PH: Words, H: Backpressure> Hub<Q, QH, P
             (Words (QH.words result.now ++ (message_in self.now node number).payload))
             (state_of_hub x self.now) }
     {
-        let entry = self.handle(node, number, hint);
+        match self.near_handle(node, number, hint) {
+            Some(entry) => requests_in(&self.words, entry.pool).user_header(entry.slot as usize),
+            None => self.request_header_far(node, number),
+        }
+    }
+
+    /// The same, where the handle is not at the hint. A call of its own, so that the others are
+    /// short.
+    #[inline(never)]
+    #[cold]
+    fn request_header_far(&self, node: u64, number: u64) -> &QH
+        requires has { HasOf has_request self.now node number }
+        ensures words { QH.words result.now ≡ (message_in self.now node number).user }
+        ensures whole { (x : Given) → IsWholeCall (state_of_hub x self.now) node (Read number)
+            (Words (QH.words result.now ++ (message_in self.now node number).payload))
+            (state_of_hub x self.now) }
+    {
+        let entry = self.handle(node, number, 0);
         requests_in(&self.words, entry.pool).user_header(entry.slot as usize)
     }
 
@@ -161,7 +178,24 @@ impl<Q: Payload, QH: Words, P: Payload, PH: Words, H: Backpressure> Hub<Q, QH, P
             (Words (PH.words result.now ++ (message_in self.now node number).payload))
             (state_of_hub x self.now) }
     {
-        let entry = self.handle(node, number, hint);
+        match self.near_handle(node, number, hint) {
+            Some(entry) => responses_in(&self.words, entry.pool).user_header(entry.slot as usize),
+            None => self.response_header_far(node, number),
+        }
+    }
+
+    /// The same, where the handle is not at the hint. A call of its own, so that the others are
+    /// short.
+    #[inline(never)]
+    #[cold]
+    fn response_header_far(&self, node: u64, number: u64) -> &PH
+        requires has { HasOf has_response self.now node number }
+        ensures words { PH.words result.now ≡ (message_in self.now node number).user }
+        ensures whole { (x : Given) → IsWholeCall (state_of_hub x self.now) node (Read number)
+            (Words (PH.words result.now ++ (message_in self.now node number).payload))
+            (state_of_hub x self.now) }
+    {
+        let entry = self.handle(node, number, 0);
         responses_in(&self.words, entry.pool).user_header(entry.slot as usize)
     }
 }

@@ -26,8 +26,10 @@ pub(crate) fn release<Q: Payload, QH: Words, P: Payload, PH: Words, H: Backpress
             hub.release_port(node, number);
             PortReply::Done
         }
-        Ok((_, place)) => {
-            hub.release(node, number, place);
+        Ok((kind, place)) => {
+            if !hub.release_if(node, number, kind, place) {
+                unreachable!();
+            }
             PortReply::Done
         }
         Err(reason) => not_begun(reason),

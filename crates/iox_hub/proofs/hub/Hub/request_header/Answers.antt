@@ -8,20 +8,20 @@ pub requests_in-requires : goal.requests_in-requires
 requests_in-requires g c = record {
   requests =
       (suits_kind has_request requests_pass c.self.invariant c.args.self.now c.self.view_is c.args.node c.args.number c.requires.has
-      c.handle-entry.result c.handle-entry.ensures
-      ∙ of_request c.handle-entry.result.kind (passing has_request requests_pass c.self.invariant c.args.self.now c.self.view_is c.args.node c.args.number c.requires.has
-      c.handle-entry.result c.handle-entry.ensures));
+      c.in-Some.entry c.in-Some.ensures
+      ∙ of_request c.in-Some.entry.kind (passing has_request requests_pass c.self.invariant c.args.self.now c.self.view_is c.args.node c.args.number c.requires.has
+      c.in-Some.entry c.in-Some.ensures));
 }
 
 pub user_header-requires : goal.user_header-requires
 user_header-requires g c =
-    has_slot _ c.handle-entry.result.pool c.handle-entry.result.slot true _ c.requests_in.ensures
+    has_slot _ c.in-Some.entry.pool c.in-Some.entry.slot true _ c.requests_in.ensures
     (has_words has_request requests_pass c.self.invariant c.args.self.now c.self.view_is c.args.node c.args.number c.requires.has
-    c.handle-entry.result c.handle-entry.ensures)
+    c.in-Some.entry c.in-Some.ensures)
 
-pub returns-clause-whole : goal.returns-clause-whole
-returns-clause-whole g c =
+pub returns-in-Some-clause-whole : goal.returns-in-Some-clause-whole
+returns-in-Some-clause-whole g c =
     rw (← c.self.view_is)
     (λ x. is_read_as_user has_request requests_pass c.self.invariant c.args.self.now c.self.view_is c.args.node c.args.number c.requires.has
-    c.handle-entry.result c.handle-entry.ensures true _
+    c.in-Some.entry c.in-Some.ensures true _
     c.requests_in.ensures _ c.user_header.ensures.words x)

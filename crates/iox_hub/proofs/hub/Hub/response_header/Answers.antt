@@ -6,26 +6,26 @@ use Rattle.iox_hub.proofs.hub.Hub.response_header.Goals as goal
 
 pub responses_in-requires-clause-there : goal.responses_in-requires-clause-there
 responses_in-requires-clause-there g c =
-    some_there _ c.handle-entry.result.pool c.handle-entry.result.slot
+    some_there _ c.in-Some.entry.pool c.in-Some.entry.slot
     (has_words has_response responses_pass c.self.invariant c.args.self.now c.self.view_is c.args.node c.args.number c.requires.has
-    c.handle-entry.result c.handle-entry.ensures)
+    c.in-Some.entry c.in-Some.ensures)
 
 pub responses_in-requires-clause-responses : goal.responses_in-requires-clause-responses
 responses_in-requires-clause-responses g c =
     (suits_kind has_response responses_pass c.self.invariant c.args.self.now c.self.view_is c.args.node c.args.number c.requires.has
-    c.handle-entry.result c.handle-entry.ensures
-    ∙ of_response c.handle-entry.result.kind (passing has_response responses_pass c.self.invariant c.args.self.now c.self.view_is c.args.node c.args.number c.requires.has
-    c.handle-entry.result c.handle-entry.ensures))
+    c.in-Some.entry c.in-Some.ensures
+    ∙ of_response c.in-Some.entry.kind (passing has_response responses_pass c.self.invariant c.args.self.now c.self.view_is c.args.node c.args.number c.requires.has
+    c.in-Some.entry c.in-Some.ensures))
 
 pub user_header-requires : goal.user_header-requires
 user_header-requires g c =
-    has_slot _ c.handle-entry.result.pool c.handle-entry.result.slot false _ c.responses_in.ensures
+    has_slot _ c.in-Some.entry.pool c.in-Some.entry.slot false _ c.responses_in.ensures
     (has_words has_response responses_pass c.self.invariant c.args.self.now c.self.view_is c.args.node c.args.number c.requires.has
-    c.handle-entry.result c.handle-entry.ensures)
+    c.in-Some.entry c.in-Some.ensures)
 
-pub returns-clause-whole : goal.returns-clause-whole
-returns-clause-whole g c =
+pub returns-in-Some-clause-whole : goal.returns-in-Some-clause-whole
+returns-in-Some-clause-whole g c =
     rw (← c.self.view_is)
     (λ x. is_read_as_user has_response responses_pass c.self.invariant c.args.self.now c.self.view_is c.args.node c.args.number c.requires.has
-    c.handle-entry.result c.handle-entry.ensures false _
+    c.in-Some.entry c.in-Some.ensures false _
     c.responses_in.ensures _ c.user_header.ensures.words x)
